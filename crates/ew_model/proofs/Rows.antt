@@ -1,0 +1,10 @@
+-- Worked rows: what the definitions compute to.
+pub mod Cuts
+pub mod Events
+pub mod File
+pub mod Operations
+pub mod Parts
+pub mod Positions
+pub mod Premises
+pub mod Receiving
+pub mod Texts

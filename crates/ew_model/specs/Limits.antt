@@ -1,0 +1,26 @@
+-- The limits of a replica and of a program.
+use Rattle.std.specs.Prelude.{ℕ, ◌≤◌, ◌+◌, ◌*◌}
+
+-- the most events of a history, events of a waiting list, bytes of an input, and bytes of a frame's body
+pub record LimitNumbers : Type 0 where
+  pub events : ℕ
+  pub waiting : ℕ
+  pub input : ℕ
+  pub body : ℕ
+
+-- the numbers that limits may have
+pub record AreLimits (n : LimitNumbers) : Type 0 where
+  pub some_events : 1 ≤ n.events
+  pub few_events : n.events ≤ 16777216
+  pub few_waiting : n.waiting ≤ 16777216
+  pub short_input : n.input ≤ 1073741824
+  pub room_for_an_event : 643 ≤ n.body
+  pub short_body : n.body ≤ 1073741824
+
+-- the limits of the program
+abbrev pub program_limits : LimitNumbers
+program_limits = record { events = 1000000; waiting = 65536; input = 16777216; body = 1048576 }
+
+-- no file of so many events has more bytes
+abbrev pub most_file_bytes : ℕ → ℕ
+most_file_bytes events = 48 + 115 * events
