@@ -14,6 +14,11 @@ pub mod CutNumbers
 pub mod CutSteps
 pub mod EntryLaws
 pub mod EqualSets
+pub mod FileEvents
+pub mod FileFields
+pub mod FileLists
+pub mod FileReading
+pub mod FileRecords
 pub mod FirstLaws
 pub mod FitLaw
 pub mod GapLaws

@@ -2,6 +2,7 @@
 pub mod Cuts
 pub mod Events
 pub mod File
+pub mod FileFaults
 pub mod Operations
 pub mod Parts
 pub mod Positions

@@ -1,5 +1,5 @@
 -- The event file: the one string of bytes of a list of events.
-use Rattle.std.specs.Prelude.{◌≡◌, ℕ, ◌<◌, ◌^◌, Bool, true, not, ◌&&◌, List, [], ◌∷◌, ◌++◌, length, flat_map, if◌then◌else◌, nat_le}
+use Rattle.std.specs.Prelude.{◌≡◌, ℕ, ◌<◌, ◌^◌, Bool, true, not, ◌&&◌, List, [], ◌∷◌, ◌++◌, length, flat_map, fold, if◌then◌else◌, nat_le, codes}
 use Rattle.std.specs.Int.{w32, to_le_bytes}
 use Rattle.std.specs.List.{list_any, list_all, position_or_len}
 use Rattle.sha2.specs.Sha256.{sha256}
@@ -17,17 +17,13 @@ four_bytes n = to_le_bytes w32 n
 abbrev pub name_bytes : List ℕ → List ℕ
 name_bytes name = length name ∷ name
 
--- the agents that aren't seen yet, in the order of their first events
-abbrev pub new_agents : List (List ℕ) → List Event → List (List ℕ)
-new_agents seen [] = []
-new_agents seen (e ∷ events) =
-    if list_any (name_eq e.id.agent) seen
-    then new_agents seen events
-    else e.id.agent ∷ new_agents (e.id.agent ∷ seen) events
+-- one agent more, where the event's agent isn't there yet
+abbrev pub with_agent : List (List ℕ) → Event → List (List ℕ)
+with_agent agents e = if list_any (name_eq e.id.agent) agents then agents else agents ++ e.id.agent ∷ []
 
 -- the agents of a history, in the order of their first events
 abbrev pub agents_of : List Event → List (List ℕ)
-agents_of history = new_agents [] history
+agents_of history = fold with_agent [] history
 
 -- the kind of an operation, its index, and the character of an insertion
 abbrev pub op_bytes : Op → List ℕ
@@ -42,20 +38,22 @@ record_bytes history e =
     ++ length e.parents ∷ flat_map (λ p. four_bytes (position_or_len (id_eq p) (ids_of history))) e.parents
     ++ op_bytes e.op
 
--- `EGWFILE` and the version
-abbrev pub file_mark : List ℕ
-file_mark = 69 ∷ 71 ∷ 87 ∷ 70 ∷ 73 ∷ 76 ∷ 69 ∷ 1 ∷ []
+-- what stands before the records: the mark, the version, the agents and the number of events
+abbrev pub file_start : ℕ → List Event → List ℕ
+file_start version history =
+    codes "EGWFILE" ++ version ∷ four_bytes (length (agents_of history)) ++ flat_map name_bytes (agents_of history) ++ four_bytes (length history)
+
+-- the bytes, and their SHA-256 behind them
+abbrev pub with_digest : List ℕ → List ℕ
+with_digest bytes = bytes ++ sha256 bytes
 
 -- all of the file before its digest
 unfoldable pub file_content : List Event → List ℕ
-file_content history =
-    file_mark
-    ++ four_bytes (length (agents_of history)) ++ flat_map name_bytes (agents_of history)
-    ++ four_bytes (length history) ++ flat_map (record_bytes history) history
+file_content history = file_start 1 history ++ flat_map (record_bytes history) history
 
 -- the file of a list of events
 unfoldable pub file_of : List Event → List ℕ
-file_of history = file_content history ++ sha256 (file_content history)
+file_of history = with_digest (file_content history)
 
 -- each event has its own id, parents that stand before it, ascending, and at most 16 of them
 abbrev pub are_writable_after : List Event → List Event → Bool

@@ -10,6 +10,8 @@ pub mod Edits
 pub mod Entries
 pub mod Events
 pub mod File
+pub mod FileFaults
+pub mod FileLaws
 pub mod Graph
 pub mod Ids
 pub mod Kept
