@@ -1,5 +1,5 @@
 -- The law of clearing, for good histories and critical cuts.
-use Rattle.std.proofs.Common.{◌≡◌, ℕ, zero, suc, ◌≤◌, true, List, [], ◌∷◌, ◌++◌, length, take, drop, fold, nat_le, refl, sym, ap, ◌∙◌, subst, append_assoc, append-nil, arith, length-take, take-append-drop}
+use Rattle.std.proofs.Common.{◌≡◌, ℕ, zero, suc, ◌≤◌, true, List, [], ◌∷◌, ◌++◌, length, take, drop, fold, nat_le, refl, sym, ap, ◌∙◌, subst, append_assoc, arith, length-take, take-append-drop}
 use Rattle.std.specs.List.{list_all, AllByRecursion}
 use Rattle.std.proofs.lemmas.Bool.{and_parts, leb-true}
 use Rattle.std.proofs.lemmas.List.{length-map}
@@ -19,6 +19,7 @@ use Rattle.ew_model.specs.ClearingLaws.{CutsClear, CutsKeepLengths}
 use Rattle.ew_model.proofs.AncestorLaws.{ancestors_before}
 use Rattle.ew_model.proofs.TreeLaws.{applied_after-append}
 use Rattle.ew_model.proofs.EntryLaws.{LaidOut}
+use Rattle.ew_model.proofs.GraphOrder.{laid_behind}
 use Rattle.ew_model.proofs.OperationLaws.{laid_part}
 use Rattle.ew_model.proofs.LocalEdit.{KnowsAll}
 use Rattle.ew_model.proofs.GoodLaws.{good_laid_out}
@@ -64,8 +65,7 @@ know_before below before (e ∷ later) whole eq laid h =
     )
 
 pub laid_rest : (before xs ys : List Event) → LaidOut before (xs ++ ys) → LaidOut (before ++ xs) ys
-laid_rest before [] ys h = subst (λ b. LaidOut b ys) (sym (append-nil before)) h
-laid_rest before (x ∷ xs) ys h = subst (λ b. LaidOut b ys) (append_assoc before (x ∷ []) xs) (laid_rest (before ++ x ∷ []) xs ys h.2)
+laid_rest before xs ys h = laid_behind (λ (e : Event). e.id) (λ (e : Event). e.parents) id_eq before xs ys h
 
 -- a name isn't empty
 some_agent : (bytes : List ℕ) → is_name bytes ≡ true → (c : ℕ) × (cs : List ℕ) × (bytes ≡ c ∷ cs)

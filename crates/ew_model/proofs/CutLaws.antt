@@ -7,6 +7,8 @@ use Rattle.ew_model.specs.declared.event.Event.{Event}
 use Rattle.ew_model.specs.Ancestors.{ids_of, ancestors}
 use Rattle.ew_model.specs.Cuts.{are_among, is_critical, latest_cut}
 use Rattle.std.proofs.Math.Seq.{take-append_seam, drop-append_seam}
+use Rattle.ew_model.specs.Ids.{id_eq}
+use Rattle.ew_model.proofs.GraphCuts.{cut_at_start}
 use Rattle.ew_model.proofs.AncestorLaws.{ancestors_before}
 use Rattle.ew_model.proofs.EntryLaws.{LaidOut}
 use Rattle.ew_model.proofs.OperationLaws.{laid_part}
@@ -14,14 +16,10 @@ use Rattle.ew_model.proofs.LocalEdit.{KnowsAll}
 use Rattle.ew_model.proofs.Clearing.{AllKnow}
 use Rattle.ew_model.proofs.ClearingLaw.{know_before, laid_rest}
 
-all_pass_nothing : (events : List Event) (history : List Event) → list_all (λ e. are_among (ancestors history e.parents) []) events ≡ true
-all_pass_nothing [] history = refl
-all_pass_nothing (e ∷ events) history = all_pass_nothing events history
-
 -- no event is below the cut 0
 pub start_critical : (history : List Event) → is_critical history 0 ≡ true
 unfolding is_critical
-start_critical history = (λ i. le-leb 0 (length history) (omega arith) i && all_pass_nothing history history i)
+start_critical history = cut_at_start (λ (e : Event). e.id) (λ (e : Event). e.parents) id_eq history
 
 cut_is : (b : Bool) (history : List Event) (m n : ℕ) → is_critical history m ≡ b → is_critical history n ≡ true → is_critical history (cond b m n) ≡ true
 cut_is true history m n e f = e

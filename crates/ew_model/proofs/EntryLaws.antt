@@ -1,53 +1,44 @@
 -- Each event of a history has its entry over the whole history: what comes later doesn't matter.
-use Rattle.std.proofs.Common.{◌≡◌, ℕ, Bool, true, false, cond, List, [], ◌∷◌, ◌++◌, filter, flat_map, Option, Some, None, refl, sym, ap, ◌∙◌, subst, append_assoc, append-nil}
+use Rattle.std.proofs.Common.{◌≡◌, ℕ, Bool, true, false, cond, List, [], ◌∷◌, ◌++◌, filter, flat_map, Option, Some, None, refl, sym, ap, ◌∙◌, append_assoc, append-nil}
 use Rattle.std.specs.List.{list_any, AllByRecursion}
-use Rattle.std.proofs.lemmas.Bool.{or_parts, false≢true, false_from_ne_true}
+use Rattle.std.proofs.lemmas.Bool.{false≢true, false_from_ne_true}
 use Rattle.std.proofs.lemmas.List.Elements.{filter-append}
-use Rattle.std.proofs.lemmas.List.{map-append}
 use Rattle.ew_model.specs.declared.id.Id.{Id}
 use Rattle.ew_model.specs.declared.event.Event.{Event}
 use Rattle.ew_model.specs.Ids.{id_eq, is_among}
-use Rattle.ew_model.specs.Ancestors.{ids_of, is_held, version_events, ancestors}
+use Rattle.ew_model.specs.Ancestors.{is_held, ancestors}
 use Rattle.ew_model.specs.Entries.{Entry}
 use Rattle.ew_model.specs.Tree.{Noted, act_by, all_entries, entries_over, next_entry, noted_as, tree_of, tree_on}
 use Rattle.ew_model.specs.Places.{place}
-use Rattle.ew_model.proofs.AncestorLaws.{NoneNamed, ancestors_before, among-append}
-use Rattle.ew_model.proofs.SetLaws.{among_map, map_among}
-use Rattle.ew_model.proofs.VersionLaws.{any_from, found_by, PointsBack, version_held}
+use Rattle.ew_model.proofs.AncestorLaws.{NoneNamed, ancestors_before}
+use Rattle.ew_model.proofs.VersionLaws.{PointsBack}
+use Rattle.ew_model.proofs.GraphOrder.{AreLaidOut, AreNew, laid_point_back, new_before, new_less, laid_new, known_held}
 use Rattle.ew_model.proofs.TreeLaws.{entry_after, tree_on-push}
 
 -- Behind the events before, each event has its own id, and no parent that is itself or comes later.
 abbrev pub LaidOut : List Event → List Event → Type 0
-LaidOut before [] = Unit {0}
-LaidOut before (e ∷ later) = (is_held before e.id ≡ false) × AllByRecursion (λ f. is_among e.parents f.id ≡ false) (e ∷ later) × LaidOut (before ++ e ∷ []) later
+LaidOut before later = AreLaidOut (λ (e : Event). e.id) (λ (e : Event). e.parents) id_eq before later
 
 -- none of the events is held
 abbrev pub NoneHeld : List Event → List Event → Type 0
-NoneHeld before events = AllByRecursion (λ f. is_held before f.id ≡ false) events
+NoneHeld before events = AreNew (λ (e : Event). e.id) (λ (e : Event). e.parents) id_eq before events
 
 pub points_back : (before later : List Event) → LaidOut before later → PointsBack later
-points_back before [] h = tt
-points_back before (e ∷ later) h = (h.1, points_back (before ++ e ∷ []) later h.2)
+points_back before later h = laid_point_back (λ (e : Event). e.id) (λ (e : Event). e.parents) id_eq before later h
 
 -- what isn't held after more events wasn't held before
 pub not_held_before : (before : List Event) (e : Event) (x : Id) → is_held (before ++ e ∷ []) x ≡ false → is_held before x ≡ false
-not_held_before before e x h =
-    (or_parts (is_held before x) (is_among (e.id ∷ []) x) (sym (among-append (ids_of before) (e.id ∷ []) x) ∙ (ap (λ ids. is_among ids x) (sym (map-append (λ (f : Event). f.id) before (e ∷ []))) ∙ h))).0
+not_held_before before e x h = new_before (λ (e : Event). e.id) (λ (e : Event). e.parents) id_eq before e x h
 
 pub none_held_less : (before : List Event) (e : Event) (events : List Event) → NoneHeld (before ++ e ∷ []) events → NoneHeld before events
-none_held_less before e [] h = tt
-none_held_less before e (f ∷ events) h = (not_held_before before e f.id h.0, none_held_less before e events h.1)
+none_held_less before e events h = new_less (λ (e : Event). e.id) (λ (e : Event). e.parents) id_eq before e events h
 
 pub none_held : (before later : List Event) → LaidOut before later → NoneHeld before later
-none_held before [] h = tt
-none_held before (e ∷ later) h = (h.0, none_held_less before e later (none_held (before ++ e ∷ []) later h.2))
+none_held before later h = laid_new (λ (e : Event). e.id) (λ (e : Event). e.parents) id_eq before later h
 
 -- ancestors are held
 pub ancestors_held : (history : List Event) (named : List Id) (x : Id) → is_among (ancestors history named) x ≡ true → is_held history x ≡ true
-ancestors_held history named x e =
-    let found = found_by (id_eq x) (ancestors history named) e in
-    let event = among_map (λ (f : Event). f.id) (version_events history named) found.0 found.1 in
-    any_from (id_eq x) (ids_of history) event.0.id (map_among (λ (f : Event). f.id) history event.0 (version_held history named event.0 event.1)) (subst (λ y. id_eq x y ≡ true) event.2 found.2)
+ancestors_held history named x e = known_held (λ (e : Event). e.id) (λ (e : Event). e.parents) id_eq history named x e
 
 not_ancestor : (history : List Event) (named : List Id) (x : Id) → is_held history x ≡ false → is_among (ancestors history named) x ≡ false
 not_ancestor history named x h = false_from_ne_true (is_among (ancestors history named) x) (λ e. false≢true (sym h ∙ ancestors_held history named x e))

@@ -1,9 +1,9 @@
 -- What a good history is known to be, and the law of equal sets for good histories.
-use Rattle.std.proofs.Common.{◌≡◌, Bool, true, false, not, List, [], ◌∷◌, ◌++◌, Option, Some, None, option_map, length, refl, sym, ap, ◌∙◌, append-nil}
+use Rattle.std.proofs.Common.{◌≡◌, Bool, true, false, not, List, [], ◌∷◌, ◌++◌, Option, Some, None, option_map, length, refl, sym, ap, ◌∙◌, append-nil, ◌≤◌, length}
 use Rattle.std.specs.List.{AllByRecursion}
 use Rattle.std.specs.Bool.{then_some}
 use Rattle.std.specs.Cmp.{eq_by_cmp_equiv}
-use Rattle.std.proofs.lemmas.Bool.{false≢true, false_from_ne_true, not-false}
+use Rattle.std.proofs.lemmas.Bool.{false≢true, false_from_ne_true, not-false, ltb-false}
 use Rattle.ew_model.specs.declared.id.Id.{Id}
 use Rattle.ew_model.specs.declared.event.Event.{Event}
 use Rattle.ew_model.specs.Ids.{id_eq, is_among, ids_ascend}
@@ -49,6 +49,7 @@ is_nowhere (Some p) e = cc
 pub record IsNext (held : List Event) (e : Event) : Type 0 where
   pub new : is_held held e.id ≡ false
   pub parents : AllByRecursion (λ p. is_held held p ≡ true) e.parents
+  pub few : length e.parents ≤ 16
   pub ascend : ids_ascend e.parents ≡ true
   pub reduced : is_reduced held e.parents ≡ true
   pub follows : follows_its_agent held e ≡ true
@@ -82,6 +83,7 @@ next_from_good held e good =
     record {
       new = ap (λ (l : List Event). is_held l e.id) (sym (append-nil held)) ∙ is_off _ Clash none.1.0;
       parents = held_from held e.parents (find_none (λ p. not (is_held held p)) e.parents (is_nowhere _ none.1.1.1.1.1.0));
+      few = ltb-false 16 (length e.parents) (is_off _ TooManyParents none.1.1.1.0);
       ascend = not-false (ids_ascend e.parents) (is_off _ ParentsUnsorted none.1.1.1.1.0);
       reduced = not-false (is_reduced held e.parents) (is_off _ NotReduced none.1.1.1.1.1.1.0);
       follows = not-false (follows_its_agent held e) (is_off _ Skipped none.1.1.1.1.1.1.1.0);

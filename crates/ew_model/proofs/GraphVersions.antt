@@ -1,28 +1,13 @@
 -- Versions of events of any kind.
 use Rattle.std.proofs.Common.{◌≡◌, Bool, true, false, cond, ◌||◌, ◌⊎◌, inl, inr, ⊎_elim, List, [], ◌∷◌, ◌++◌, map, flat_map, refl, sym, ap, ◌∙◌, subst, append-nil}
-use Rattle.std.specs.List.{list_any, AllByRecursion}
+use Rattle.std.specs.List.{AllByRecursion}
 use Rattle.std.proofs.lemmas.Bool.{false≢true, or_cases, or_left, or_right}
 use Rattle.std.proofs.lemmas.List.Folds.{list_any-append}
 use Rattle.ew_model.specs.Sets.{Among}
 use Rattle.ew_model.specs.Graph.{is_named, has_child, version_of, names_known}
+use Rattle.ew_model.proofs.ListTests.{any_from, found_by, kept_cases}
 use Rattle.ew_model.proofs.SetLaws.{kept_front, kept_more}
 use Rattle.ew_model.proofs.SortingLaws.{all_at}
-
--- a test of a list finds an element that passes
-pub any_from : {X : Type 0} (p : X → Bool) (xs : List X) (x : X) → Among x xs → p x ≡ true → list_any p xs ≡ true
-any_from p [] x m e = absurd m
-any_from p (y ∷ ys) x m e =
-    ⊎_elim (λ same. or_left (p y) (list_any p ys) (ap p (sym same) ∙ e)) (λ k. or_right (p y) (list_any p ys) (any_from p ys x k e)) m
-
-pub found_by : {X : Type 0} (p : X → Bool) (xs : List X) → list_any p xs ≡ true → (x : X) × Among x xs × (p x ≡ true)
-found_by p [] e = absurd (false≢true e)
-found_by p (y ∷ ys) e =
-    ⊎_elim (λ h. (y, inl refl, h)) (λ h. let more = found_by p ys h in (more.0, inr more.1, more.2)) (or_cases (p y) (list_any p ys) e)
-
--- elements of a list that may have one more in front
-pub kept_cases : {X : Type 0} (b : Bool) (x z : X) (xs : List X) → Among z (cond b (x ∷ xs) xs) → ((z ≡ x) × (b ≡ true)) ⊎ Among z xs
-kept_cases true x z xs m = ⊎_elim (λ e. inl (e, refl)) (λ k. inr k) m
-kept_cases false x z xs m = inr m
 
 -- named, or a parent in the first part, or in the second
 three_ways : (named first second : Bool) → (named || (first || second)) ≡ ((named || second) || first)

@@ -13,8 +13,8 @@ use Rattle.ew_model.specs.Ids.{id_eq, is_among}
 use Rattle.ew_model.specs.Events.{op_eq, event_eq}
 use Rattle.ew_model.specs.Ancestors.{ids_of, is_held}
 use Rattle.ew_model.specs.Limits.{LimitNumbers}
-use Rattle.ew_model.specs.Verdicts.{Ruling, first_row, id_rows, parent_rows, size_rows, range_rows, next_verdict, IsGoodAfter, IsGood}
-use Rattle.ew_model.specs.Arrival.{Desk, Judgement, is_ready, without_ready, at_the_pool, desk_after, judgement_of, later_rows, judge_coming, judge_ready, next_judgement, judgements, with_answer}
+use Rattle.ew_model.specs.Verdicts.{Ruling, first_row, id_rows, parent_rows, size_rows, range_rows, next_verdict, IsGoodAfter, IsGood, later_rows}
+use Rattle.ew_model.specs.Arrival.{Desk, Judgement, is_ready, without_ready, at_the_pool, desk_after, judgement_of, judge_coming, judge_ready, next_judgement, judgements, with_answer}
 use Rattle.ew_model.specs.Kept.{AreFresh, AreApart, IsOrderly}
 use Rattle.ew_model.specs.Verdicts.Ruling.{Repeat, Clash, SelfParent, TooManyParents, ParentsUnsorted, Unknown, PoolFull, NotReduced, Skipped, GraphFull, OutOfRange, Good}
 use Rattle.ew_model.proofs.PathOrder.{id_total}

@@ -10,9 +10,9 @@ use Rattle.ew_model.specs.Ids.{is_among, ids_ascend}
 use Rattle.ew_model.specs.Events.{event_eq}
 use Rattle.ew_model.specs.Ancestors.{is_held, is_reduced}
 use Rattle.ew_model.specs.Limits.{LimitNumbers}
-use Rattle.ew_model.specs.Verdicts.{Ruling, first_row, id_rows, parent_rows, size_rows, range_rows, follows_its_agent}
+use Rattle.ew_model.specs.Verdicts.{Ruling, first_row, id_rows, parent_rows, size_rows, range_rows, follows_its_agent, later_rows}
 use Rattle.ew_model.specs.Verdicts.Ruling.{Repeat, Clash, SelfParent, TooManyParents, ParentsUnsorted, Unknown, PoolFull, NotReduced, Skipped, GraphFull, OutOfRange, Good}
-use Rattle.ew_model.specs.Arrival.{Desk, Judgement, is_ready, without_ready, desk_after, judgement_of, later_rows, judge_coming, judge_ready, next_judgement, judgements, with_answer, most_judgements, desk_of, arrive}
+use Rattle.ew_model.specs.Arrival.{Desk, Judgement, is_ready, without_ready, desk_after, judgement_of, judge_coming, judge_ready, next_judgement, judgements, with_answer, most_judgements, desk_of, arrive}
 use Rattle.ew_model.specs.Kept.{IsKept}
 use Rattle.ew_model.specs.ReceivingLaws.{ArrivalsKeep}
 use Rattle.ew_model.proofs.KeptLaws.{judgements_keep}

@@ -13,8 +13,8 @@ use Rattle.ew_model.specs.Ids.{id_eq}
 use Rattle.ew_model.specs.Events.{op_eq, event_eq}
 use Rattle.ew_model.specs.Ancestors.{is_held}
 use Rattle.ew_model.specs.Limits.{LimitNumbers}
-use Rattle.ew_model.specs.Verdicts.{Ruling, IsGood, IsGoodAfter, first_row, id_rows, parent_rows, size_rows, range_rows}
-use Rattle.ew_model.specs.Arrival.{Desk, Answer, Outcome, judgement_of, later_rows, next_judgement, judgements, with_answer, most_judgements, desk_of, arrive}
+use Rattle.ew_model.specs.Verdicts.{Ruling, IsGood, IsGoodAfter, first_row, id_rows, parent_rows, size_rows, range_rows, later_rows}
+use Rattle.ew_model.specs.Arrival.{Desk, Answer, Outcome, judgement_of, next_judgement, judgements, with_answer, most_judgements, desk_of, arrive}
 use Rattle.ew_model.specs.Kept.{IsOrderly}
 use Rattle.ew_model.specs.Verdicts.Ruling.{Repeat, Clash, Good, GraphFull}
 use Rattle.ew_model.specs.ArrivalLaw.{NoneFull}

@@ -1,6 +1,5 @@
 -- The text of a history is what its operations make of the empty text.
 use Rattle.std.proofs.Common.{◌≡◌, ℕ, zero, suc, true, false, inl, inr, ⊎_elim, List, [], ◌∷◌, ◌++◌, map, Option, Some, None, option_map, slice_get, refl, sym, ap, ◌∙◌, subst, append-nil, append_assoc}
-use Rattle.std.specs.List.{AllByRecursion}
 use Rattle.std.specs.Cmp.{eq_by_cmp_equiv, IsEquivalence}
 use Rattle.std.proofs.lemmas.Bool.{false≢true, false_from_ne_true}
 use Rattle.std.proofs.lemmas.List.{map-append}
@@ -9,7 +8,7 @@ use Rattle.ew_model.specs.declared.id.Id.{Id}
 use Rattle.ew_model.specs.declared.event.Op.{Op}
 use Rattle.ew_model.specs.declared.event.Op.TheVariants.{Ins, Del}
 use Rattle.ew_model.specs.declared.event.Event.{Event}
-use Rattle.ew_model.specs.Ids.{id_eq, is_among}
+use Rattle.ew_model.specs.Ids.{id_eq}
 use Rattle.ew_model.specs.Sets.{Among}
 use Rattle.ew_model.specs.Ancestors.{ids_of, is_held}
 use Rattle.ew_model.specs.Paths.{Step}
@@ -27,6 +26,7 @@ use Rattle.ew_model.proofs.VersionLaws.{any_from, found_by}
 use Rattle.ew_model.proofs.PlaceLaws.{ApartByPath, among_insertions}
 use Rattle.ew_model.proofs.PrefixLaws.{over_insertions, ordered_among, visible_among}
 use Rattle.ew_model.proofs.TreeLaws.{entry_after, tree_on-push}
+use Rattle.ew_model.proofs.GraphOrder.{laid_front}
 use Rattle.ew_model.proofs.EntryLaws.{LaidOut}
 use Rattle.ew_model.proofs.ApartLaws.{ApartByName}
 use Rattle.ew_model.proofs.EqualSets.{note_of_tree, notes_apart, tree_apart}
@@ -155,13 +155,8 @@ not_deleted history x h new =
         sym (list_any_congr ids_equal t x (ids_of history) e) ∙ held
 
 -- a front of a history that is laid out is so too
-unnamed_part : (ids : List Id) (xs ys : List Event) → AllByRecursion (λ f. is_among ids f.id ≡ false) (xs ++ ys) → AllByRecursion (λ f. is_among ids f.id ≡ false) xs
-unnamed_part ids [] ys h = tt
-unnamed_part ids (x ∷ xs) ys h = (h.0, unnamed_part ids xs ys h.1)
-
 pub laid_part : (before xs ys : List Event) → LaidOut before (xs ++ ys) → LaidOut before xs
-laid_part before [] ys h = tt
-laid_part before (x ∷ xs) ys h = (h.0, unnamed_part x.parents (x ∷ xs) ys h.1, laid_part (before ++ x ∷ []) xs ys h.2)
+laid_part before xs ys h = laid_front (λ (e : Event). e.id) (λ (e : Event). e.parents) id_eq before xs ys h
 
 pub laid_last : (before xs : List Event) (e : Event) → LaidOut before (xs ++ e ∷ []) → is_held (before ++ xs) e.id ≡ false
 laid_last before [] e h = ap (λ hs. is_held hs e.id) (append-nil before) ∙ h.0

@@ -6,8 +6,8 @@ use Rattle.std.proofs.lemmas.Bool.{false≢true}
 use Rattle.ew_model.specs.declared.event.Event.{Event}
 use Rattle.ew_model.specs.Texts.{text_at}
 use Rattle.ew_model.specs.Limits.{LimitNumbers}
-use Rattle.ew_model.specs.Verdicts.{Ruling, is_outside, first_row, id_rows, parent_rows, size_rows, range_rows}
-use Rattle.ew_model.specs.Arrival.{Desk, Judgement, Outcome, is_ready, without_ready, at_the_pool, judgement_of, later_rows, judge_coming, judge_ready, next_judgement, judgements, with_answer, most_judgements, desk_of, arrive}
+use Rattle.ew_model.specs.Verdicts.{Ruling, is_outside, first_row, id_rows, parent_rows, size_rows, range_rows, later_rows}
+use Rattle.ew_model.specs.Arrival.{Desk, Judgement, Outcome, is_ready, without_ready, at_the_pool, judgement_of, judge_coming, judge_ready, next_judgement, judgements, with_answer, most_judgements, desk_of, arrive}
 use Rattle.ew_model.specs.Verdicts.Ruling.{OutOfRange}
 use Rattle.ew_model.specs.Rounds.{is_out_of_range, after_out_of_range, round_touches, rounds_touches, most_touches}
 use Rattle.ew_model.specs.Touches.{touches}

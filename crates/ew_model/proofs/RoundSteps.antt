@@ -8,8 +8,8 @@ use Rattle.ew_model.specs.declared.id.Id.{Id}
 use Rattle.ew_model.specs.declared.event.Event.{Event}
 use Rattle.ew_model.specs.Texts.{text_at}
 use Rattle.ew_model.specs.Limits.{LimitNumbers}
-use Rattle.ew_model.specs.Verdicts.{Ruling, is_outside, first_row, id_rows, parent_rows, size_rows, range_rows}
-use Rattle.ew_model.specs.Arrival.{Desk, Answer, Judgement, Outcome, is_ready, without_ready, at_the_pool, desk_after, judgement_of, later_rows, judge_coming, judge_ready, next_judgement, judgements, judged, with_answer, most_judgements, desk_of, arrive}
+use Rattle.ew_model.specs.Verdicts.{Ruling, is_outside, first_row, id_rows, parent_rows, size_rows, range_rows, later_rows}
+use Rattle.ew_model.specs.Arrival.{Desk, Answer, Judgement, Outcome, is_ready, without_ready, at_the_pool, desk_after, judgement_of, judge_coming, judge_ready, next_judgement, judgements, judged, with_answer, most_judgements, desk_of, arrive}
 use Rattle.ew_model.specs.Kept.{IsOrderly}
 use Rattle.ew_model.specs.Verdicts.Ruling.{Repeat, Clash, SelfParent, TooManyParents, ParentsUnsorted, Unknown, PoolFull, NotReduced, Skipped, GraphFull, OutOfRange, Good}
 use Rattle.ew_model.specs.Rounds.{is_out_of_range, after_out_of_range}

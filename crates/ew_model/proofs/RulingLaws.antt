@@ -10,8 +10,8 @@ use Rattle.ew_model.specs.Ids.{id_eq, is_among, ids_ascend}
 use Rattle.ew_model.specs.Events.{event_eq}
 use Rattle.ew_model.specs.Ancestors.{is_held, version_events}
 use Rattle.ew_model.specs.Limits.{LimitNumbers}
-use Rattle.ew_model.specs.Verdicts.{Ruling, first_row, id_rows, parent_rows, size_rows, range_rows, next_verdict, IsGoodAfter, IsGood, follows_its_agent}
-use Rattle.ew_model.specs.Arrival.{later_rows, is_ready, at_the_pool}
+use Rattle.ew_model.specs.Verdicts.{Ruling, first_row, id_rows, parent_rows, size_rows, range_rows, next_verdict, IsGoodAfter, IsGood, follows_its_agent, later_rows}
+use Rattle.ew_model.specs.Arrival.{is_ready, at_the_pool}
 use Rattle.ew_model.specs.Ancestors.{is_reduced}
 use Rattle.ew_model.specs.Verdicts.Ruling.{Repeat, Clash, SelfParent, TooManyParents, ParentsUnsorted, Unknown, PoolFull, NotReduced, Skipped, GraphFull, OutOfRange, Good}
 use Rattle.ew_model.specs.ArrivalLaw.{is_full}

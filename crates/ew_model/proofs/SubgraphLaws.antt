@@ -1,8 +1,8 @@
 -- The events of a version, as a history of their own, have the entries and the text that the version has.
-use Rattle.std.proofs.Common.{◌≡◌, Bool, true, false, cond, ◌||◌, inl, inr, ⊎_elim, List, [], ◌∷◌, ◌++◌, map, filter, refl, sym, ap, ◌∙◌, subst, append_assoc, append-nil}
+use Rattle.std.proofs.Common.{◌≡◌, Bool, true, false, cond, ◌||◌, inl, ⊎_elim, List, [], ◌∷◌, ◌++◌, map, filter, refl, sym, ap, ◌∙◌, subst, append_assoc, append-nil}
 use Rattle.std.specs.List.{AllByRecursion}
 use Rattle.std.proofs.lemmas.List.{map-append}
-use Rattle.std.proofs.lemmas.Bool.{false≢true, or_cases}
+use Rattle.std.proofs.lemmas.Bool.{or_cases}
 use Rattle.ew_model.specs.declared.id.Id.{Id}
 use Rattle.ew_model.specs.declared.event.Event.{Event}
 use Rattle.ew_model.specs.Sets.{Among, SameElements}
@@ -11,12 +11,14 @@ use Rattle.ew_model.specs.Ancestors.{ids_of, is_held, is_parent, version_events,
 use Rattle.ew_model.specs.Entries.{Inserted, Entry, visible, insertions}
 use Rattle.ew_model.specs.Tree.{Noted, act_by, entries_over, next_entry, tree_on, tree}
 use Rattle.ew_model.specs.Texts.{visible_at, text_at, text_of}
+use Rattle.ew_model.proofs.GraphVersions as versions
+use Rattle.ew_model.proofs.GraphOrder as graph
 use Rattle.ew_model.proofs.SetLaws.{among_joined, joined_right, among_filter, filter_among, among_map, map_among}
 use Rattle.ew_model.proofs.SortingLaws.{all_at, all_from}
 use Rattle.ew_model.proofs.VersionLaws.{in_kept, kept_cases, any_from, found_by, PointsBack, version_named, version_parent, version_held}
 use Rattle.ew_model.proofs.PlaceLaws.{same_any, same_place, same_visible, among_insertions, insertion_among}
 use Rattle.ew_model.proofs.TreeLaws.{entry_after}
-use Rattle.ew_model.proofs.EntryLaws.{LaidOut, none_held, points_back, not_held_before}
+use Rattle.ew_model.proofs.EntryLaws.{LaidOut, points_back, not_held_before}
 use Rattle.ew_model.proofs.AncestorLaws.{among-append}
 use Rattle.ew_model.proofs.EqualSets.{other_id, same_ids, note_of_tree, tree_of_note, version_apart, ancestor_before}
 use Rattle.ew_model.proofs.TextLaws.{ids_equal}
@@ -41,40 +43,13 @@ taken_within (y ∷ later) other named h f x m =
     (λ k. ih x k)
     (kept_cases test y x taken m)
 
--- an event behind another has another id
-apart : (before : List Event) (x : Event) (history : List Event) (g : Event) → LaidOut before (x ∷ history) → Among g history → id_eq x.id g.id ≡ true → ⊥
-apart before x history g h m e =
-    false≢true (sym (other_id before x g.id (all_at (λ f. is_held (before ++ x ∷ []) f.id ≡ false) history g (none_held (before ++ x ∷ []) history h.2) m)) ∙ e)
-
 -- events with one id are one
 pub one_event : (before history : List Event) (f g : Event) → LaidOut before history → Among f history → Among g history → id_eq f.id g.id ≡ true → f ≡ g
-one_event before [] f g h mf mg e = absurd mf
-one_event before (x ∷ history) f g h mf mg e =
-    ⊎_elim
-    (λ fx. ⊎_elim
-    (λ gx. fx ∙ sym gx)
-    (λ k. absurd (apart before x history g h k (ap (λ (z : Event). id_eq z.id g.id) (sym fx) ∙ e)))
-    mg)
-    (λ j. ⊎_elim
-    (λ gx. absurd (apart before x history f h j (ids_equal.symm x.id f.id ∙ (ap (λ (z : Event). id_eq f.id z.id) (sym gx) ∙ e))))
-    (λ k. one_event (before ++ x ∷ []) history f g h.2 j k e)
-    mg)
-    mf
+one_event before history f g h mf mg e = graph.one_event (λ (e : Event). e.id) (λ (e : Event). e.parents) id_eq ids_equal before history f g h mf mg e
 
 -- what has the named events and the parents of its events has all that is taken
-closed_taken : (T : Event → Type 0) (history : List Event) (named : List Id) → ((x : Event) → Among x history → is_among named x.id ≡ true → T x) → ((f x : Event) → T f → Among x history → is_among f.parents x.id ≡ true → T x) → (x : Event) → Among x (version_events history named) → T x
-closed_taken T [] named start close x m = absurd m
-closed_taken T (y ∷ later) named start close x m =
-    let taken = version_events later named in
-    let ih : (z : Event) → Among z taken → T z = closed_taken T later named (λ z k. start z (inr k)) (λ f z t k. close f z t (inr k)) in
-    ⊎_elim
-    (λ xy. subst T (sym xy.0)
-    (⊎_elim
-    (λ e. start y (inl refl) e)
-    (λ e. let child = found_by (λ g. is_among g.parents y.id) taken e in close child.0 y (ih child.0 child.1) (inl refl) child.2)
-    (or_cases (is_among named y.id) (is_parent taken y.id) xy.1)))
-    (λ k. ih x k)
-    (kept_cases (is_among named y.id || is_parent taken y.id) y x taken m)
+pub closed_taken : (T : Event → Type 0) (history : List Event) (named : List Id) → ((x : Event) → Among x history → is_among named x.id ≡ true → T x) → ((f x : Event) → T f → Among x history → is_among f.parents x.id ≡ true → T x) → (x : Event) → Among x (version_events history named) → T x
+closed_taken T history named start close x m = versions.taken_within (λ (e : Event). e.id) (λ (e : Event). e.parents) id_eq T history named start close x m
 
 -- an event whose id is an ancestor's is taken
 taken_by_id : (history : List Event) (named : List Id) (f : Event) → LaidOut [] history → Among f history → is_among (ancestors history named) f.id ≡ true → Among f (version_events history named)

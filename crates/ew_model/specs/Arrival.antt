@@ -5,7 +5,7 @@ use Rattle.std.specs.Option.{option_map_or}
 use Rattle.ew_model.specs.declared.event.Event.{Event}
 use Rattle.ew_model.specs.Ancestors.{is_held}
 use Rattle.ew_model.specs.Limits.{LimitNumbers}
-use Rattle.ew_model.specs.Verdicts.{Ruling, id_rows, parent_rows, size_rows, range_rows, first_row}
+use Rattle.ew_model.specs.Verdicts.{Ruling, later_rows, first_row, verdict}
 use Rattle.ew_model.specs.Verdicts.Ruling.{Unknown, PoolFull, Good}
 
 -- The desk where events are received: what is held, what waits, what is still to be judged, and whether one was
@@ -46,54 +46,53 @@ desk_after Good e d = record { held = d.held ++ e ∷ []; waiting = d.waiting; c
 desk_after (Unknown p) e d = record { held = d.held; waiting = d.waiting ++ e ∷ []; coming = d.coming; is_settling = true }
 desk_after ruling e d = record { held = d.held; waiting = d.waiting; coming = d.coming; is_settling = true }
 
+-- the judgement of an event by a ruling, which is PoolFull where no more may wait
 abbrev pub judgement_of : LimitNumbers → Desk → Event → Ruling → Judgement
 judgement_of limits d e ruling =
     let final = at_the_pool limits d.waiting ruling in
     record { desk = desk_after final e d; answer = record { event = e; ruling = final } }
 
--- row 10 alone may be left out
-abbrev pub later_rows : LimitNumbers → Bool → List Event → Event → List (Option Ruling)
-later_rows limits in_range held e = parent_rows held e ++ size_rows limits held ++ (if in_range then range_rows held e else [])
-
 -- the first of the events to come is judged by all rows
 abbrev pub judge_coming : LimitNumbers → Bool → Desk → List Event → Option Judgement
-judge_coming limits in_range d [] = None
-judge_coming limits in_range d (e ∷ coming) =
+judge_coming limits with_index d [] = None
+judge_coming limits with_index d (e ∷ coming) =
     Some (judgement_of limits (record { held = d.held; waiting = d.waiting; coming = coming; is_settling = true }) e
-    (first_row (id_rows d.held d.waiting e ++ later_rows limits in_range d.held e)))
+    (verdict limits with_index d.held d.waiting e))
 
 -- a waiting event that is ready is taken out and judged by the rows from the parents on
 abbrev pub judge_ready : LimitNumbers → Bool → Desk → Option Event → Option Judgement
-judge_ready limits in_range d None = judge_coming limits in_range d d.coming
-judge_ready limits in_range d (Some e) =
+judge_ready limits with_index d None = judge_coming limits with_index d d.coming
+judge_ready limits with_index d (Some e) =
     Some (judgement_of limits (record { held = d.held; waiting = without_ready d.held d.waiting; coming = d.coming; is_settling = true }) e
-    (first_row (later_rows limits in_range d.held e)))
+    (first_row (later_rows limits with_index d.held e)))
 
 -- the next judgement, if there is one
 unfoldable pub next_judgement : LimitNumbers → Bool → Desk → Option Judgement
-next_judgement limits in_range d =
-    judge_ready limits in_range d (if d.is_settling then find (is_ready d.held) d.waiting else None)
+next_judgement limits with_index d =
+    judge_ready limits with_index d (if d.is_settling then find (is_ready d.held) d.waiting else None)
 
 -- what a number of judgements leaves, with the answers in order
 pub record Outcome : Type 0 where
   pub desk : Desk
   pub answers : List Answer
 
+-- an outcome with one more answer in front
 abbrev pub with_answer : Answer → Outcome → Outcome
 with_answer answer o = record { desk = o.desk; answers = answer ∷ o.answers }
 
 -- up to n judgements
 abbrev pub judgements : LimitNumbers → Bool → ℕ → Desk → Outcome
-judgements limits in_range zero d = record { desk = d; answers = [] }
-judgements limits in_range (suc n) d =
-    option_map_or (λ j. with_answer j.answer (judgements limits in_range n j.desk)) (next_judgement limits in_range d) (record { desk = d; answers = [] })
+judgements limits with_index zero d = record { desk = d; answers = [] }
+judgements limits with_index (suc n) d =
+    option_map_or (λ j. with_answer j.answer (judgements limits with_index n j.desk)) (next_judgement limits with_index d) (record { desk = d; answers = [] })
 
 -- There are no more judgements than this: each takes a waiting event, or one to come, which may then wait.
 abbrev pub most_judgements : Desk → ℕ
 most_judgements d = length d.waiting + 2 * length d.coming
 
+-- all judgements from the desk on
 abbrev pub judged : LimitNumbers → Bool → Desk → Outcome
-judged limits in_range d = judgements limits in_range (most_judgements d) d
+judged limits with_index d = judgements limits with_index (most_judgements d) d
 
 -- a list of events before the first is judged
 abbrev pub desk_of : List Event → List Event → List Event → Desk

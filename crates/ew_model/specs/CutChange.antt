@@ -1,7 +1,7 @@
 -- Which cuts stop being critical when an event is appended, for events of any kind.
 use Rattle.std.specs.Prelude.{◌≡◌, ℕ, suc, ◌-◌, ◌<◌, ◌≤◌, Bool, true, false, ◌&&◌, ◌||◌, List, [], ◌∷◌, ◌++◌, map, if◌then◌else◌, nat_lt, ◌==◌, length, filter, take}
 use Rattle.std.specs.List.{list_any}
-use Rattle.ew_model.specs.Graph.{is_named, are_named, childless, none_below, is_cut, greatest_to, passing_to}
+use Rattle.ew_model.specs.Graph.{is_named, are_named, childless, greatest_to, passing_to}
 
 -- The rule for a cut: it stays up to the last parent, and right behind that one where the parents are the heads of what is
 -- below; any further cut stops.
@@ -34,10 +34,3 @@ module _ {E N : Type 0} (name : E → N) (parents : E → List N) (same : N → 
   -- the names are those without a child, in whatever order
   abbrev pub are_childless : List E → List N → Bool
   are_childless events names = are_named same names (childless name parents same events) && are_named same (childless name parents same events) names
-
-  -- Where parents stand before their children, and none of the new event's parents is an ancestor of another, the cuts are
-  -- those that stay, and the new whole length.
-  abbrev pub CutsFollow : Type 0
-  CutsFollow =
-      (events : List E) (e : E) → AreInOrder [] (events ++ e ∷ []) → none_below name parents same events (parents e) ≡ true
-      → CutsChange (is_cut name parents same) events e (past_last events (parents e)) (are_childless (take (past_last events (parents e)) events) (parents e))

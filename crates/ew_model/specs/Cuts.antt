@@ -11,7 +11,8 @@ use Rattle.ew_model.specs.Graph.{is_cut, greatest_to, passing_to}
 abbrev pub are_among : List Id → List Id → Bool
 are_among others ids = list_all (is_among others) ids
 
--- the cut k: every event from position k on has all events below k among its ancestors
+-- the cut k is critical: it is at most the number of events, and every event from position k on has all events below k
+-- among its ancestors
 unfoldable pub is_critical : List Event → ℕ → Bool
 is_critical history k = is_cut (λ e. e.id) (λ e. e.parents) id_eq history k
 

@@ -15,7 +15,7 @@ pub data Edit : Type 0 where
   Insert : (at : ℕ) (text : List ℕ) → Edit
   Delete : (at count : ℕ) → Edit
 
--- how many events of the agent are held, which is the number of its next one
+-- how many events of the agent are held; in a good history this is the number of its next one
 abbrev pub count_of : List Event → List ℕ → ℕ
 count_of history agent = count_by (λ e. name_eq e.id.agent agent) history
 
@@ -60,7 +60,7 @@ abbrev pub needed_length : Edit → ℕ
 needed_length (Insert at text) = at
 needed_length (Delete at count) = at + count
 
--- the edit needs heads that one event can have as parents
+-- the edit needs heads that one event can have as parents (both kinds do)
 abbrev pub needs_few_heads : Edit → Bool
 needs_few_heads (Insert at text) = true
 needs_few_heads (Delete at count) = true

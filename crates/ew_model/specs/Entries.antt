@@ -1,4 +1,4 @@
--- What events leave in the tree, and which characters of it are visible.
+-- What events leave in the tree, and which characters of it are visible (The Art of the Fugue, 2023: deleted nodes stay).
 use Rattle.std.specs.Prelude.{ℕ, Bool, false, not, List, Option, Some, None, filter, filter_map}
 use Rattle.std.specs.declared.cmp.Ordering.{Ordering}
 use Rattle.std.specs.List.{list_any}

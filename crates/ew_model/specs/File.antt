@@ -1,4 +1,4 @@
--- The event file: the one string of bytes of a list of events.
+-- The event file: the one string of bytes of a list of events, closed by its SHA-256 (FIPS 180-4).
 use Rattle.std.specs.Prelude.{◌≡◌, ℕ, ◌<◌, ◌^◌, Bool, true, not, ◌&&◌, List, [], ◌∷◌, ◌++◌, length, flat_map, fold, if◌then◌else◌, nat_le, codes}
 use Rattle.std.specs.Int.{w32, to_le_bytes}
 use Rattle.std.specs.List.{list_any, list_all, position_or_len}

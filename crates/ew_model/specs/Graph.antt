@@ -1,4 +1,4 @@
--- Events of any kind, each with a name and the names of its parents. A history names its events by their ids; what knows
+-- The event graph (Eg-walker, EuroSys 2025, section 2). Events of any kind, each with a name and the names of its parents. A history names its events by their ids; what knows
 -- no ids names them by their positions. The events stand in a list, the oldest first.
 use Rattle.std.specs.Prelude.{ℕ, zero, suc, Bool, not, ◌&&◌, ◌||◌, List, [], ◌∷◌, ◌++◌, map, filter, take, drop, length, nat_le, if◌then◌else◌}
 use Rattle.std.specs.List.{list_any, list_all}
@@ -35,13 +35,14 @@ module _ {E N : Type 0} (name : E → N) (parents : E → List N) (same : N → 
   abbrev pub none_below : List E → List N → Bool
   none_below events names = list_all (λ x. list_all (λ y. same x y || not (is_named same (names_known events (x ∷ [])) y)) names) names
 
-  -- the cut k: every event from place k on has all events below k among its ancestors
+  -- the cut k is critical: it is at most the number of events, and every event from place k on has all events below k
+  -- among its ancestors
   abbrev pub is_cut : List E → ℕ → Bool
   is_cut events k =
       nat_le k (length events)
       && list_all (λ e. are_named same (names_known events (parents e)) (map name (take k events))) (drop k events)
 
--- Numbers that pass a test, as a cut does. 0 passes as it is.
+-- Numbers that pass a test. 0 is counted in without being tested, as cut 0 is always critical.
 
 -- the greatest that is at most m
 abbrev pub greatest_to : (ℕ → Bool) → ℕ → ℕ

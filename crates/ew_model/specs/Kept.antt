@@ -28,6 +28,12 @@ pub record IsKept (limits : LimitNumbers) (held waiting : List Event) : Type 0 w
   pub few : length held ≤ limits.events
   pub few_wait : length waiting ≤ limits.waiting
 
+-- what a replica stands for: its limits, the events held, and those that wait
+pub record ReplicaState : Type 0 where
+  pub limits : LimitNumbers
+  pub held : List Event
+  pub waiting : List Event
+
 -- a waiting event is, or has as parent, an event of the agent that isn't held
 abbrev pub is_awaited : List Event → List Event → List ℕ → Bool
 is_awaited held waiting agent =

@@ -24,6 +24,8 @@ pub mod Padding
 pub mod PaddingLaws
 pub mod Paths
 pub mod Places
+pub mod PositionCuts
+pub mod PositionLaws
 pub mod Positions
 pub mod ReceivingLaws
 pub mod Records

@@ -21,6 +21,6 @@ pub record AreLimits (n : LimitNumbers) : Type 0 where
 abbrev pub program_limits : LimitNumbers
 program_limits = record { events = 1000000; waiting = 65536; input = 16777216; body = 1048576 }
 
--- no file of so many events has more bytes
+-- the most bytes of a file of so many events: 48, at most 33 for each agent's name, and at most 82 for each record
 abbrev pub most_file_bytes : ℕ → ℕ
 most_file_bytes events = 48 + 115 * events

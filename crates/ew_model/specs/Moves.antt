@@ -1,4 +1,5 @@
--- The order in which a walk takes events out of what is prepared, and puts events in.
+-- The order in which a walk takes events out of what is prepared, and puts events in (Eg-walker, EuroSys 2025, section 3.2:
+-- retreat and advance).
 use Rattle.std.specs.Prelude.{◌≡◌, ℕ, ◌<◌, true, not, ◌&&◌, List, [], ◌∷◌, drop, nat_eq, ◌++◌}
 use Rattle.std.specs.List.{AllByRecursion}
 use Rattle.ew_model.specs.declared.id.Id.{Id}

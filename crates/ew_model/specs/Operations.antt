@@ -15,7 +15,7 @@ abbrev pub deletion_at : Option ℕ → TextOp
 deletion_at None = Nothing
 deletion_at (Some at) = Del at
 
--- what an entry does to a text, by its visible characters
+-- what an entry does to a text, by its visible characters; an event out of range, which leaves none, does nothing
 abbrev pub operation_of : List Inserted → Option Entry → TextOp
 operation_of chars None = Nothing
 operation_of chars (Some (Insertion x)) = Ins (count_by (λ y. path_lt y.path x.path) chars) x.ch

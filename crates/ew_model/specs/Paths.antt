@@ -46,10 +46,6 @@ path_cmp [] (t ∷ q) = node_cmp t.side
 path_cmp (s ∷ p) [] = below_cmp s.side
 path_cmp (s ∷ p) (t ∷ q) = ordering_then (step_cmp s t) (path_cmp p q)
 
--- the two are one path
-abbrev pub path_eq : List Step → List Step → Bool
-path_eq p q = is_eq (path_cmp p q)
-
 -- the first path stands before the second
 abbrev pub path_lt : List Step → List Step → Bool
 path_lt p q = is_lt (path_cmp p q)

@@ -1,7 +1,10 @@
 -- A history seen through its events' positions alone: the list of each event's parents' positions, the oldest event first.
-use Rattle.std.specs.Prelude.{ℕ, suc, Bool, not, ◌<◌, ◌≤◌, List, [], ◌∷◌, length, filter, nat_eq, slice_index_or}
+use Rattle.std.specs.Prelude.{ℕ, suc, Bool, not, ◌<◌, ◌≤◌, List, [], ◌∷◌, length, filter, nat_eq, slice_index_or, map}
 use Rattle.std.specs.List.{All}
 use Rattle.std.specs.List.Sorted.{IsStrictlyIncreasing}
+use Rattle.ew_model.specs.declared.id.Id.{Id}
+use Rattle.ew_model.specs.declared.event.Event.{Event}
+use Rattle.ew_model.specs.Walks.{positions_among}
 use Rattle.ew_model.specs.Graph.{is_named, names_known, childless, none_below, is_cut, greatest_to, passing_to}
 
 -- ascending positions below that of the event, at most 16
@@ -48,7 +51,8 @@ frontier_of history = childless (λ (e : EventAt). e.position) (λ (e : EventAt)
 unfoldable pub is_reduced_at : List (List ℕ) → List ℕ → Bool
 is_reduced_at history positions = none_below (λ (e : EventAt). e.position) (λ (e : EventAt). e.parents) nat_eq (events_from 0 history) positions
 
--- the cut k: every event from position k on has all events below k among its ancestors
+-- the cut k is critical: it is at most the number of events, and every event from position k on has all events below k
+-- among its ancestors
 unfoldable pub is_cut_at : List (List ℕ) → ℕ → Bool
 is_cut_at history k = is_cut (λ (e : EventAt). e.position) (λ (e : EventAt). e.parents) nat_eq (events_from 0 history) k
 
@@ -59,3 +63,11 @@ latest_cut_at history m = greatest_to (is_cut_at history) m
 -- all critical cuts, rising
 abbrev pub cuts_at : List (List ℕ) → List ℕ
 cuts_at history = passing_to (is_cut_at history) (length history)
+
+-- the positions of the events with these ids, rising
+abbrev pub positions_in : List Event → List Id → List ℕ
+positions_in history ids = positions_among ids 0 history
+
+-- the positions of each event's parents
+abbrev pub parent_positions : List Event → List (List ℕ)
+parent_positions history = map (λ e. positions_in history e.parents) history

@@ -1,4 +1,5 @@
--- The records of a walker: all characters in order, each with its prepared number and its effect, by what was applied.
+-- The records of a walker: all characters in order, each with its prepared number and its effect, by what was applied
+-- (Eg-walker, EuroSys 2025, section 3.3: the prepare and the effect version).
 use Rattle.std.specs.Prelude.{◌≡◌, ℕ, zero, suc, nat_eq, nat_lt, Bool, true, false, not, List, [], ◌∷◌, ◌++◌, map, filter, length, if◌then◌else◌, Some, ◌≤◌, ◌&&◌, Option, None, option_map, find, slice_get}
 use Rattle.std.specs.List.{list_any}
 use Rattle.std.specs.declared.cmp.Ordering.{Ordering}
@@ -31,7 +32,7 @@ pub record IsNewId (events : List (Applied ℕ)) (x : Id) : Type 0 where
   pub unused : list_any (λ (c : Applied ℕ). inserts_as x c.act) events ≡ false
   pub agent : x.agent ≡ [] → ⊥
 
--- so is the id of an insertion
+-- the id of an insertion is new; a deletion has none
 abbrev pub IsNewAct : List (Applied ℕ) → Act → Type 0
 IsNewAct events (InsertAs x at ch) = IsNewId events x
 IsNewAct events (DeleteAt at) = Unit {0}

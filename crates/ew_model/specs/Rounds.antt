@@ -29,7 +29,7 @@ round_touches limits d =
     let reached = (judged limits false d).desk.held in
     touches reached (latest_cut reached (length d.held))
 
--- the touches of up to n further rounds; each but the last ends with an answer OutOfRange
+-- the touches of this round and of up to n further ones; each but the last ends with an answer OutOfRange
 abbrev pub rounds_touches : LimitNumbers → ℕ → Desk → ℕ
 rounds_touches limits zero d = round_touches limits d
 rounds_touches limits (suc n) d =

@@ -1,4 +1,4 @@
--- Where a new child stands among the nodes of a tree: what its siblings tell.
+-- Where a new child stands among the nodes of a tree: what its siblings tell (The Art of the Fugue, 2023: the traversal).
 use Rattle.std.specs.Prelude.{◌≡◌, ℕ, nat_eq, Bool, true, false, ◌&&◌, List, [], ◌∷◌, ◌++◌, if◌then◌else◌, ◌⊎◌}
 use Rattle.std.specs.Ordering.{is_eq, is_lt, is_gt}
 use Rattle.std.specs.List.{AllByRecursion}

@@ -9,7 +9,7 @@ use Rattle.ew_model.specs.Ancestors.{ancestors, ids_of}
 abbrev pub number_outside : List Id → List Id → ℕ
 number_outside others ids = length (filter (λ x. not (is_among others x)) ids)
 
--- how many ids are in one of two sets alone
+-- how many ids are in one of two lists alone (of lists without repeats: of two sets)
 abbrev pub difference : List Id → List Id → ℕ
 difference xs ys = number_outside ys xs + number_outside xs ys
 
@@ -21,6 +21,7 @@ touches_after history prepared (e ∷ events) =
     1 + difference prepared (ancestors history e.parents)
     + touches_after (history ++ e ∷ []) (ancestors (history ++ e ∷ []) (e.id ∷ [])) events
 
--- the touches of a walk from the cut k on, before which all is prepared
+-- the touches of a walk from the cut k on, before which all is prepared (where an id stands twice they may be more than
+-- the sets tell)
 unfoldable pub touches : List Event → ℕ → ℕ
 touches history k = touches_after (take k history) (ids_of (take k history)) (drop k history)

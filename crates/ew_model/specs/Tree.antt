@@ -1,5 +1,5 @@
 -- The tree that events leave, one after another, each placed over the entries of its ancestors alone (Eg-walker, EuroSys
--- 2025, section 3: an index is meant in the text at the event's parents).
+-- 2025, section 2: an index is meant in the text at the event's parents).
 use Rattle.std.specs.Prelude.{ℕ, zero, suc, Bool, List, [], ◌∷◌, ◌++◌, map, Option, Some, None, filter, fold}
 use Rattle.std.specs.List.{list_any}
 use Rattle.ew_model.specs.declared.id.Id.{Id}
@@ -15,7 +15,7 @@ use Rattle.ew_model.specs.Entries.Entry.{Insertion}
 use Rattle.ew_model.specs.Places.{Act, place}
 use Rattle.ew_model.specs.Places.Act.{InsertAs, DeleteAt}
 
--- The name of the base character n. It has no agent, so it is below every id, and is none.
+-- The name of the base character n. It has no agent, so it is below every id that an event can have, and is none.
 abbrev pub base_id : ℕ → Id
 base_id n = record { agent = []; seq = n }
 

@@ -28,12 +28,12 @@ pub data Ruling : Type 0 where
   OutOfRange : (len : ℕ) → Ruling
   Good : Ruling
 
--- the agent's event with the number below is among the ids
+-- the number is 0, or the agent's event with the number below is among the ids
 abbrev pub has_number_below : List Id → List ℕ → ℕ → Bool
 has_number_below ids agent zero = true
 has_number_below ids agent (suc n) = is_among ids (record { agent = agent; seq = n })
 
--- the agent's event before this one is among its ancestors
+-- it is its agent's first, or the agent's event before it is among its ancestors
 unfoldable pub follows_its_agent : List Event → Event → Bool
 follows_its_agent history e = has_number_below (ancestors history e.parents) e.id.agent e.id.seq
 
@@ -76,10 +76,17 @@ first_row [] = Good
 first_row (None ∷ rows) = first_row rows
 first_row (Some ruling ∷ rows) = ruling
 
--- the verdict on a received event
-unfoldable pub verdict : LimitNumbers → List Event → List Event → Event → Ruling
-verdict limits held waiting e =
-    first_row (id_rows held waiting e ++ parent_rows held e ++ size_rows limits held ++ range_rows held e)
+-- the rows from the parents on; the one for the index may be left out
+abbrev pub later_rows : LimitNumbers → Bool → List Event → Event → List (Option Ruling)
+later_rows limits with_index held e = parent_rows held e ++ size_rows limits held ++ (if with_index then range_rows held e else [])
+
+-- the verdict on a received event, before it is asked whether it may wait; the row for the index may be left out
+abbrev pub verdict : LimitNumbers → Bool → List Event → List Event → Event → Ruling
+verdict limits with_index held waiting e = first_row (id_rows held waiting e ++ later_rows limits with_index held e)
+
+-- the verdict by the events held alone, whatever the event's index and their number
+abbrev pub graph_verdict : List Event → Event → Ruling
+graph_verdict held e = first_row (id_rows held [] e ++ parent_rows held e)
 
 -- the verdict on the next event of a history, whatever its length
 unfoldable pub next_verdict : List Event → Event → Ruling
@@ -95,9 +102,9 @@ unfoldable pub IsGood : List Event → Type 0
 IsGood history = IsGoodAfter [] history
 
 -- the ruling lets the event in
-abbrev pub is_good : Ruling → Bool
-is_good Good = true
-is_good ruling = false
+abbrev pub is_verdict_good : Ruling → Bool
+is_verdict_good Good = true
+is_verdict_good ruling = false
 
 -- an event of a list that isn't good behind those before it: its position, and the verdict
 pub record BadEvent : Type 0 where
@@ -108,7 +115,7 @@ pub record BadEvent : Type 0 where
 abbrev pub first_bad_after : List Event → List Event → Option BadEvent
 first_bad_after held [] = None
 first_bad_after held (e ∷ events) =
-    if is_good (next_verdict held e) then first_bad_after (held ++ e ∷ []) events
+    if is_verdict_good (next_verdict held e) then first_bad_after (held ++ e ∷ []) events
     else Some (record { position = length held; verdict = next_verdict held e })
 
 -- the first event of a list that isn't good, if there is one

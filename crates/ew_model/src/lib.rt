@@ -11,6 +11,8 @@ pub mod name;
 pub mod node;
 pub mod parents;
 pub mod steps;
+#[cfg(test)]
+mod tests;
 pub mod text_op;
 pub mod verdict;
 

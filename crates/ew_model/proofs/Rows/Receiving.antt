@@ -1,5 +1,5 @@
 -- Rows on what is answered to received events.
-use Rattle.std.proofs.Common.{◌≡◌, ℕ, List, [], ◌∷◌, refl, map}
+use Rattle.std.proofs.Common.{◌≡◌, ℕ, true, List, [], ◌∷◌, refl, map}
 use Rattle.ew_model.specs.declared.id.Id.{Id}
 use Rattle.ew_model.specs.declared.event.Event.{Event}
 use Rattle.ew_model.specs.Limits.{LimitNumbers}
@@ -15,7 +15,7 @@ use Rattle.ew_model.proofs.Rows.Events.{id, ins, typed, abc}
 
 -- all that a verdict unfolds
 unfoldable pub judging : ℕ
-unfolding opened is_reduced follows_its_agent id_rows parent_rows size_rows range_rows verdict next_judgement arrive next_verdict IsGood
+unfolding opened is_reduced follows_its_agent id_rows parent_rows size_rows range_rows next_judgement arrive next_verdict IsGood
 judging = 0
 
 abbrev pub program : LimitNumbers
@@ -47,15 +47,15 @@ again : rulings (arrive program abc [] abc) ≡ Repeat ∷ Repeat ∷ Repeat ∷
 unfolding judging
 again = refl
 
-clash : verdict program (ins 97 0 0 120 [] ∷ []) [] (ins 97 0 0 121 []) ≡ Clash
+clash : verdict program true (ins 97 0 0 120 [] ∷ []) [] (ins 97 0 0 121 []) ≡ Clash
 unfolding judging
 clash = refl
 
-not_reduced : verdict program (typed 97 0 0 (97 ∷ 98 ∷ []) []) [] (ins 98 0 0 88 (id 97 0 ∷ id 97 1 ∷ [])) ≡ NotReduced
+not_reduced : verdict program true (typed 97 0 0 (97 ∷ 98 ∷ []) []) [] (ins 98 0 0 88 (id 97 0 ∷ id 97 1 ∷ [])) ≡ NotReduced
 unfolding judging
 not_reduced = refl
 
-skipped : verdict program (ins 97 0 0 97 [] ∷ ins 98 0 1 98 (id 97 0 ∷ []) ∷ []) [] (ins 98 1 0 88 (id 97 0 ∷ [])) ≡ Skipped
+skipped : verdict program true (ins 97 0 0 97 [] ∷ ins 98 0 1 98 (id 97 0 ∷ []) ∷ []) [] (ins 98 1 0 88 (id 97 0 ∷ [])) ≡ Skipped
 unfolding judging
 skipped = refl
 
@@ -81,22 +81,22 @@ pool_full : rulings (arrive room_for_one [] [] (child ∷ ins 98 2 2 122 (id 98 
 unfolding judging
 pool_full = refl
 
-graph_full : verdict room_for_one abc [] (ins 98 0 0 88 (id 97 2 ∷ [])) ≡ GraphFull
+graph_full : verdict room_for_one true abc [] (ins 98 0 0 88 (id 97 2 ∷ [])) ≡ GraphFull
 unfolding judging
 graph_full = refl
 
-self_parent : verdict program [] [] (ins 99 0 0 88 (id 99 0 ∷ [])) ≡ SelfParent
+self_parent : verdict program true [] [] (ins 99 0 0 88 (id 99 0 ∷ [])) ≡ SelfParent
 unfolding judging
 self_parent = refl
 
 abbrev seventeen : List Id
 seventeen = id 97 0 ∷ id 98 0 ∷ id 99 0 ∷ id 100 0 ∷ id 101 0 ∷ id 102 0 ∷ id 103 0 ∷ id 104 0 ∷ id 105 0 ∷ id 106 0 ∷ id 107 0 ∷ id 108 0 ∷ id 109 0 ∷ id 110 0 ∷ id 111 0 ∷ id 112 0 ∷ id 113 0 ∷ []
 
-too_many : verdict program [] [] (ins 122 0 0 88 seventeen) ≡ TooManyParents
+too_many : verdict program true [] [] (ins 122 0 0 88 seventeen) ≡ TooManyParents
 unfolding judging
 too_many = refl
 
-unsorted : verdict program [] [] (ins 122 0 0 88 (id 98 0 ∷ id 97 0 ∷ [])) ≡ ParentsUnsorted
+unsorted : verdict program true [] [] (ins 122 0 0 88 (id 98 0 ∷ id 97 0 ∷ [])) ≡ ParentsUnsorted
 unfolding judging
 unsorted = refl
 

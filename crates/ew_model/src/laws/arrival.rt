@@ -2,9 +2,9 @@
 
 ghost use Rattle.ew_model.specs.ArrivalLaw.{ArrivalAgrees};
 ghost use Rattle.ew_model.specs.MergeLaw.{HistoriesMerge};
-ghost use Rattle.ew_model.specs.ReceivingLaws.{AncestorsJudge, ArrivalsKeep};
+ghost use Rattle.ew_model.specs.ReceivingLaws.{AncestorsJudge, ArrivalsEnd, ArrivalsKeep, GoodHasNoBad};
 
-/// Whatever arrives, what is held stays good.
+/// Whatever arrives, what is held stays good, no id comes to stand twice, and no list grows too long.
 pub fn law_arrivals()
     ensures { ArrivalsKeep }
 {}
@@ -14,12 +14,23 @@ pub fn law_ancestors()
     ensures { AncestorsJudge }
 {}
 
-/// The same events, received in any order and with any repeats, leave the same events held and the same waiting.
+/// The same events, received in any order and with any repeats, leave the same events held and the same waiting,
+/// where no list is full.
 pub fn law_arrival()
     ensures { ArrivalAgrees }
 {}
 
-/// A good history that is received where nothing waits is taken whole.
+/// A good history that is received where nothing waits is taken whole, where no list is full.
 pub fn law_merge()
     ensures { HistoriesMerge }
+{}
+
+/// Receiving goes on until nothing is left to judge.
+pub fn law_arrivals_end()
+    ensures { ArrivalsEnd }
+{}
+
+/// A list of events is good exactly where none of them is bad.
+pub fn law_good()
+    ensures { GoodHasNoBad }
 {}
