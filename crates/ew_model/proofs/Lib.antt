@@ -1,6 +1,7 @@
 pub mod AlikeRuns
 pub mod AncestorLaws
 pub mod ApartLaws
+pub mod AppendSteps
 pub mod ArrivalAgreement
 pub mod ArrivalLaws
 pub mod ArrivalRuns
@@ -55,11 +56,13 @@ pub mod PositionCuts
 pub mod PositionEvents
 pub mod PositionFrontier
 pub mod PositionNumbers
+pub mod PositionReduced
 pub mod PositionRows
 pub mod PositionSides
 pub mod PositionVersions
 pub mod PositionWalk
 pub mod PrefixLaws
+pub mod ReachSteps
 pub mod ReadLaws
 pub mod RecordLaws
 pub mod RenameLaws

@@ -21,7 +21,7 @@ use Rattle.std.proofs.lemmas.List.Elements.{recursion_from_All}
 abbrev pub only : List ℕ → List ℕ → List ℕ
 only xs ys = filter (λ p. not (is_named nat_eq ys p)) xs
 
-any_reversed : {X : Type 0} (p : X → Bool) (xs : List X) → list_any p (reverse xs) ≡ list_any p xs
+pub any_reversed : {X : Type 0} (p : X → Bool) (xs : List X) → list_any p (reverse xs) ≡ list_any p xs
 any_reversed p [] = refl
 any_reversed p (x ∷ xs) = ap (list_any p) (reverse-append (x ∷ []) xs) ∙ list_any-append p (reverse xs) (x ∷ []) ∙ ap (λ b. b || (p x || false)) (any_reversed p xs) ∙ turned (list_any p xs) (p x)
   where

@@ -20,6 +20,7 @@ pub mod MergeLaw
 pub mod Moves
 pub mod Names
 pub mod Operations
+pub mod OrderLaws
 pub mod Padding
 pub mod PaddingLaws
 pub mod Paths
@@ -27,6 +28,7 @@ pub mod Places
 pub mod PositionCuts
 pub mod PositionLaws
 pub mod Positions
+pub mod ReachLaws
 pub mod ReceivingLaws
 pub mod Records
 pub mod RoundLaw

@@ -4,6 +4,7 @@ pub mod arrival;
 pub mod clearing;
 pub mod cuts;
 pub mod files;
+pub mod orders;
 pub mod positions;
 pub mod texts;
 pub mod touches;

@@ -2,6 +2,7 @@
 
 ghost use Rattle.ew_model.specs.ArrivalLaw.{ArrivalAgrees};
 ghost use Rattle.ew_model.specs.MergeLaw.{HistoriesMerge};
+ghost use Rattle.ew_model.specs.ReachLaws.{ArrivalsAppend};
 ghost use Rattle.ew_model.specs.ReceivingLaws.{AncestorsJudge, ArrivalsEnd, ArrivalsKeep, GoodHasNoBad};
 
 /// Whatever arrives, what is held stays good, no id comes to stand twice, and no list grows too long.
@@ -33,4 +34,9 @@ pub fn law_arrivals_end()
 /// A list of events is good exactly where none of them is bad.
 pub fn law_good()
     ensures { GoodHasNoBad }
+{}
+
+/// What was held stays, and what came behind it are the events answered Good, in order.
+pub fn law_appends()
+    ensures { ArrivalsAppend }
 {}
