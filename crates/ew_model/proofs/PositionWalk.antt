@@ -4,12 +4,10 @@ use Rattle.std.proofs.Math.ListN.{get_or-append}
 use Rattle.std.proofs.Math.Seq.{get_or-append_seam}
 use Rattle.std.proofs.lemmas.Bool.{false≢true, false_from_ne_true, ltb-true, ltb-false, leb-true, leb-false, eqb-true, eqb-false, or_from, and_right}
 use Rattle.std.proofs.lemmas.List.{length-reverse, reverse-reverse, reverse-append}
-use Rattle.std.proofs.lemmas.List.Elements.{recursion_from_All}
 use Rattle.ew_model.specs.Graph.{is_named, names_known, version_of}
 use Rattle.ew_model.specs.Positions.{parents_at, IsHistoryOfParents, EventAt, events_from, known_positions}
-use Rattle.ew_model.proofs.SortingLaws.{all_at}
 use Rattle.ew_model.proofs.GraphVersions.{named-append, version_before, version_of_last}
-use Rattle.ew_model.proofs.RisingLists.{number_among}
+use Rattle.ew_model.proofs.RisingLists.{named_low}
 use Rattle.ew_model.proofs.PositionEvents.{position_of, parents_of, events_push}
 
 -- Over the events with the last one first: an event is taken where its position passes the test, and then its parents
@@ -89,7 +87,7 @@ apart n m l e = let ne = eqb-false n m e in omega (arith, l, ne)
 -- what lies below n isn't n or above it
 pub low_named : (xs : List ℕ) (n m : ℕ) → All (λ p. p < n) xs → n ≤ m → is_named nat_eq xs m ≡ false
 low_named xs n m h l =
-    false_from_ne_true (is_named nat_eq xs m) (λ e. let low : m < n = all_at (λ p. p < n) xs m (recursion_from_All (λ p. p < n) xs h) (number_among xs m e) in omega (arith, low, l))
+    false_from_ne_true (is_named nat_eq xs m) (λ e. let low = named_low xs n m h e in omega (arith, low, l))
 
 -- where n is the highest that passes it comes first, and then what the walk takes without it but with its parents
 taken_highest : (r : List (List ℕ)) (S T : ℕ → Bool) (n : ℕ) → n < length r → S n ≡ true → ((m : ℕ) → n < m → S m ≡ false)
@@ -168,3 +166,20 @@ module _ (history : List (List ℕ)) (good : IsHistoryOfParents history) (n : �
               none : (m : ℕ) → n ≤ m → (b : Bool) → nat_eq n m ≡ b → S m ≡ false
               none m l true f = ap S (sym (eqb-true n m f)) ∙ e
               none m l false f = top m (apart n m l f)
+
+-- One turn where n is the highest pending, as a set of pending positions makes it: n is taken off it, and n's parents
+-- are put into it.
+module _ (history : List (List ℕ)) (good : IsHistoryOfParents history) (n : ℕ) (within : n < length history) (old mid new : ℕ → Bool) (at : old n ≡ true) (above : (m : ℕ) → old m ≡ true → m ≤ n) (without : (m : ℕ) → mid m ≡ cond (nat_eq n m) false (old m)) (with : (m : ℕ) → new m ≡ (mid m || is_named nat_eq (parents_at history n) m)) where
+  top_free : (m : ℕ) → n < m → old m ≡ false
+  top_free m l = false_from_ne_true (old m) (λ e. let low = above m e in omega (arith, low, l))
+
+  taking : (m : ℕ) → new m ≡ after_taking old (parents_at history n) n m
+  taking m = with m ∙ (λ i. without m i || (sym at i && is_named nat_eq (parents_at history n) m))
+
+  -- it comes first of all that is still taken
+  pub walk_turn : taken (reverse history) old ≡ n ∷ taken (reverse history) new
+  walk_turn = turn history good n within old new top_free taking ∙ ap (λ b. cond b (n ∷ taken (reverse history) new) (taken (reverse history) new)) at
+
+  -- and all that is then pending lies below it
+  pub walk_lower : (m : ℕ) → new m ≡ true → m < n
+  walk_lower m e = taken_below history good n within old new top_free taking m e

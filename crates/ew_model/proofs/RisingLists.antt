@@ -1,8 +1,8 @@
 -- Lists of rising numbers.
-use Rattle.std.proofs.Common.{◌≡◌, ℕ, ◌<◌, ◌≤◌, true, ◌&&◌, inl, inr, ⊎_elim, nat_eq, List, [], ◌∷◌, ◌++◌, refl, sym, subst, arith}
+use Rattle.std.proofs.Common.{◌≡◌, ℕ, ◌<◌, ◌≤◌, true, ◌&&◌, inl, inr, ⊎_elim, nat_eq, List, [], ◌∷◌, ◌++◌, refl, sym, subst, arith, All, false}
 use Rattle.std.specs.List.{AllByRecursion}
 use Rattle.std.specs.List.Sorted.{IsStrictlyIncreasing, IsStrictlySortedBy}
-use Rattle.std.specs.Ordering.{nat_cmp}
+use Rattle.std.specs.Ordering.{nat_cmp, is_eq, is_lt}
 use Rattle.std.specs.declared.cmp.Ordering.TheVariants.{Less}
 use Rattle.std.specs.Cmp.{nat_cmp_is}
 use Rattle.std.specs.Cmp.Lexicographic.{pointwise}
@@ -14,6 +14,8 @@ use Rattle.ew_model.specs.Sets.{Among}
 use Rattle.ew_model.specs.Graph.{is_named, are_named}
 use Rattle.ew_model.proofs.ListTests.{any_from, found_by, passes, pass_all, same_truth}
 use Rattle.ew_model.proofs.SortingLaws.{all_at, all_from, sorted_unique}
+use Rattle.std.proofs.lemmas.Bool.Decides.{nat_tests}
+use Rattle.std.proofs.lemmas.List.Elements.{recursion_from_All}
 
 -- each number is below all behind it
 abbrev pub Rise : List ℕ → Type 0
@@ -80,3 +82,14 @@ named_both xs ys h k =
     (λ e. let one : xs ≡ ys = pointwise_same xs ys e in
     subst (λ zs. (are_named nat_eq xs zs && are_named nat_eq zs xs) ≡ true) one
     (and_from (are_named nat_eq xs xs) (are_named nat_eq xs xs) (pass_all (is_named nat_eq xs) xs (λ z m. among_named xs z m)) (pass_all (is_named nat_eq xs) xs (λ z m. among_named xs z m))))
+
+-- what lies below n and is named is below n
+pub named_low : (xs : List ℕ) (n m : ℕ) → All (λ p. p < n) xs → is_named nat_eq xs m ≡ true → m < n
+named_low xs n m h e = all_at (λ p. p < n) xs m (recursion_from_All (λ p. p < n) xs h) (number_among xs m e)
+
+-- comparisons as sets of numbers make them
+pub cmp_same : (n m : ℕ) → is_eq (nat_cmp n m) ≡ nat_eq n m
+cmp_same n m = grind (arith, nat_tests)
+
+pub cmp_not_above : (n m : ℕ) → is_lt (nat_cmp n m) ≡ false → m ≤ n
+cmp_not_above n m h = grind (arith, nat_tests, ranked n m (nat_cmp n m) refl)
