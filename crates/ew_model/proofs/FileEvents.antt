@@ -18,7 +18,8 @@ use Rattle.ew_model.specs.FileFaults.RecordFault.{UnusedAgent}
 use Rattle.ew_model.specs.FileLaws.{AreBytes}
 use Rattle.ew_model.proofs.EntryLaws.{all_joined}
 use Rattle.ew_model.proofs.TextLaws.{ids_equal}
-use Rattle.ew_model.proofs.FileLists.{AllNew, place_kept, one_more_new, used_or_next, used_is_open, next_is_open}
+use Rattle.ew_model.specs.Distinct.{AllNew}
+use Rattle.ew_model.proofs.FileLists.{place_kept, one_more_new, used_or_next, used_is_open, next_is_open}
 use Rattle.ew_model.proofs.FileFields.{Takes, Takes-then, go_ok, number_takes, number_again, names_take, names_again}
 use Rattle.ew_model.proofs.FileRecords.{names_equal, name_exact, id_eq_exact, parent_bytes, record_at, IsSetting, MayFollow, record_takes, record_again}
 
@@ -69,7 +70,7 @@ agents_good_from agents (e ∷ events) h sound =
     ]) sound.1
 
 -- no more agents than events
-agents_few_from : (agents : List (List ℕ)) (events : List Event) → length (fold with_agent agents events) ≤ length agents + length events
+pub agents_few_from : (agents : List (List ℕ)) (events : List Event) → length (fold with_agent agents events) ≤ length agents + length events
 agents_few_from agents [] = omega arith
 agents_few_from agents (e ∷ events) =
     let rest = agents_few_from (with_agent agents e) events in
@@ -100,7 +101,7 @@ writable_first : (before : List Event) (e : Event) (later : List Event) → MayF
 writable_first before e later f rest =
     and_from _ _ (and_from _ _ (and_from _ _ (and_from _ _ (not_from_false _ f.new) f.held) f.ascend) f.few) rest
 
-writable_parts : (before : List Event) (e : Event) (later : List Event) → are_writable_after before (e ∷ later) ≡ true → MayFollow before e × (are_writable_after (before ++ e ∷ []) later ≡ true)
+pub writable_parts : (before : List Event) (e : Event) (later : List Event) → are_writable_after before (e ∷ later) ≡ true → MayFollow before e × (are_writable_after (before ++ e ∷ []) later ≡ true)
 writable_parts before e later h =
     let a = not (is_held before e.id) in
     let b = list_all (is_held before) e.parents in
@@ -163,7 +164,7 @@ records_take (suc n) agents before unused bytes y s are fits e =
     }
 
 -- the agent of an event stands among those seen before it, or is the next
-agent_open : (before : List Event) (e : Event) (later : List Event) → slice_get (open_agents (agents_of (before ++ e ∷ later)) before) (position_or_len (name_eq e.id.agent) (agents_of (before ++ e ∷ later))) ≡ Some e.id.agent
+pub agent_open : (before : List Event) (e : Event) (later : List Event) → slice_get (open_agents (agents_of (before ++ e ∷ later)) before) (position_or_len (name_eq e.id.agent) (agents_of (before ++ e ∷ later))) ≡ Some e.id.agent
 agent_open before e later =
     let used = agents_of before in
     let after = agents_after before e later in
@@ -200,7 +201,7 @@ parents_whole before later (p ∷ parents) held =
     ap (position_or_len (id_eq p)) (map-append (λ (f : Event). f.id) before later) ∙ place_kept id_eq ids_equal id_eq_exact (ids_of before) (ids_of later) p h.0 in
     λ i. four_bytes (place i) ++ parents_whole before later parents h.1 i
 
-record_whole : (before : List Event) (e : Event) (later : List Event) → MayFollow before e → record_bytes (before ++ e ∷ later) e ≡ record_at (agents_of (before ++ e ∷ later)) before e
+pub record_whole : (before : List Event) (e : Event) (later : List Event) → MayFollow before e → record_bytes (before ++ e ∷ later) e ≡ record_at (agents_of (before ++ e ∷ later)) before e
 unfolding record_bytes
 record_whole before e later f =
     ap (λ ps. four_bytes (position_or_len (name_eq e.id.agent) (agents_of (before ++ e ∷ later))) ++ four_bytes e.id.seq ++ length e.parents ∷ ps ++ op_bytes e.op) (parents_whole before (e ∷ later) e.parents f.held)

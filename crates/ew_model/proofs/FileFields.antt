@@ -15,7 +15,7 @@ use Rattle.ew_model.specs.FileFaults.{RecordFault, Stop, Reader, done, go_on, â—
 use Rattle.ew_model.specs.FileFaults.Stop.{BadField, OverLimit}
 use Rattle.ew_model.specs.FileFaults.RecordFault.{Cut, NameBad, NameTwice, KindBad, Scalar}
 use Rattle.ew_model.specs.FileLaws.{AreBytes}
-use Rattle.ew_model.proofs.FileLists.{AllNew}
+use Rattle.ew_model.specs.Distinct.{AllNew}
 
 -- ---- what readers that don't stop have in common
 

@@ -1,15 +1,11 @@
 -- Where an element stands in a list that has it, and lists without repeats.
-use Rattle.std.proofs.Common.{◌≡◌, ℕ, zero, suc, ◌+◌, Bool, true, false, cond, not, ◌||◌, ◌⊎◌, inl, inr, ⊎_elim, List, [], ◌∷◌, ◌++◌, length, take, Some, None, sym, ap, ◌∙◌, append_assoc, append-nil, arith}
+use Rattle.std.proofs.Common.{◌≡◌, ℕ, zero, suc, ◌+◌, ◌<◌, Bool, true, false, cond, not, ◌||◌, ◌⊎◌, inl, inr, ⊎_elim, List, [], ◌∷◌, ◌++◌, length, take, Some, None, refl, sym, ap, ◌∙◌, append_assoc, append-nil, arith}
 use Rattle.std.specs.Prelude.{slice_get}
 use Rattle.std.specs.Cmp.{IsEquivalence}
 use Rattle.std.specs.List.{list_any, position_or_len}
-use Rattle.std.proofs.lemmas.Bool.{cases_Bool, or_parts, or_left, or_right, false≢true}
+use Rattle.std.proofs.lemmas.Bool.{cases_Bool, or_parts, or_left, or_right, or_from, false≢true}
 use Rattle.std.proofs.lemmas.List.Folds.{list_any-append}
-
--- none of these is among those before it, nor among the seen ones
-abbrev pub AllNew : {X : Type 0} → (X → X → Bool) → List X → List X → Type 0
-AllNew eq seen [] = Unit {0}
-AllNew eq seen (x ∷ xs) = (list_any (eq x) seen ≡ false) × AllNew eq (seen ++ x ∷ []) xs
+use Rattle.ew_model.specs.Distinct.{AllNew}
 
 pub some_is : {X : Type 0} (x y : X) → Some x ≡ Some y → x ≡ y
 some_is x y e = cc
@@ -26,6 +22,12 @@ get-take zero xs i x e = none_is_some x e
 get-take (suc n) [] i x e = e
 get-take (suc n) (y ∷ ys) zero x e = e
 get-take (suc n) (y ∷ ys) (suc i) x e = get-take n ys i x e
+
+pub get-take_within : {X : Type 0} (n : ℕ) (xs : List X) (i : ℕ) → i < n → slice_get (take n xs) i ≡ slice_get xs i
+get-take_within zero xs i lt = absurd (omega arith)
+get-take_within (suc n) [] i lt = refl
+get-take_within (suc n) (y ∷ ys) zero lt = refl
+get-take_within (suc n) (y ∷ ys) (suc i) lt = get-take_within n ys i (omega arith)
 
 module _ {X : Type 0} (eq : X → X → Bool) (laws : IsEquivalence eq) (exact : (x y : X) → eq x y ≡ true → x ≡ y) where
   at_first : (x y : X) (ys : List X) → eq x y ≡ true → position_or_len (eq x) (y ∷ ys) ≡ 0
@@ -70,6 +72,14 @@ module _ {X : Type 0} (eq : X → X → Bool) (laws : IsEquivalence eq) (exact :
   place_of seen (y ∷ ys) (suc i) x h e =
       let others = (or_parts _ _ (sym (list_any-append (eq x) seen (y ∷ [])) ∙ apart_from_seen (seen ++ y ∷ []) ys i x h.1 e)).1 in
       at_later x y ys (or_parts (eq x y) false others).0 ∙ ap suc (place_of (seen ++ y ∷ []) ys i x h.1 e)
+
+  -- without repeats an element isn't among those before its place
+  pub none_in_front : (seen xs : List X) (i : ℕ) (x : X) → AllNew eq seen xs → slice_get xs i ≡ Some x → list_any (eq x) (take i xs) ≡ false
+  none_in_front seen [] i x h e = none_is_some x e
+  none_in_front seen (y ∷ ys) zero x h e = refl
+  none_in_front seen (y ∷ ys) (suc i) x h e =
+      let others = (or_parts _ _ (sym (list_any-append (eq x) seen (y ∷ [])) ∙ apart_from_seen (seen ++ y ∷ []) ys i x h.1 e)).1 in
+      or_from (eq x y) (list_any (eq x) (take i ys)) (or_parts (eq x y) false others).0 (none_in_front (seen ++ y ∷ []) ys i x h.1 e)
 
   -- one more, that is new
   pub one_more_new : (seen xs : List X) (y : X) → AllNew eq seen xs → list_any (eq y) (seen ++ xs) ≡ false → AllNew eq seen (xs ++ y ∷ [])

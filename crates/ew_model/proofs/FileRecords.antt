@@ -20,7 +20,8 @@ use Rattle.ew_model.specs.FileLaws.{AreBytes}
 use Rattle.ew_model.proofs.PathOrder.{id_exact}
 use Rattle.ew_model.proofs.GapLaws.{eq_from}
 use Rattle.ew_model.proofs.TextLaws.{ids_equal}
-use Rattle.ew_model.proofs.FileLists.{AllNew, found_there, there_among, place_of, get-take}
+use Rattle.ew_model.specs.Distinct.{AllNew}
+use Rattle.ew_model.proofs.FileLists.{found_there, there_among, place_of, get-take}
 use Rattle.ew_model.proofs.FileFields.{Takes, Takes-then, go_ok, field_ok, only_ok, tested_ok, field_again, only_again, tested_again, byte_takes, number_takes, number_again, op_takes, op_again}
 
 -- ---- names and ids that are equal

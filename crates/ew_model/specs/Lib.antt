@@ -6,6 +6,7 @@ pub mod ClearingLaws
 pub mod CutChange
 pub mod CutRule
 pub mod Cuts
+pub mod Distinct
 pub mod Edits
 pub mod Entries
 pub mod Events

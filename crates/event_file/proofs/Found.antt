@@ -1,0 +1,39 @@
+-- What is found of bytes is the events whose file they are.
+use Rattle.std.proofs.Common.{◌≡◌, ℕ, List, Result, Ok, Err, sym, ap, ◌∙◌}
+use Rattle.std.specs.Prelude.{IfOk, MatchResult}
+use Rattle.std.specs.Global.{Vec}
+use Rattle.ew_model.specs.declared.event.Event.{Event}
+use Rattle.ew_model.specs.FileFaults as model
+use Rattle.ew_model.specs.FileFaults.{FileFinding, file_finding}
+use Rattle.ew_model.specs.FileLaws.{AreBytes, IsFileOf}
+use Rattle.ew_model.proofs.FileReading.{file_take, file_again}
+use Rattle.event_file.specs.declared.fault.FileFault.{FileFault}
+use Rattle.event_file.specs.declared.fault.FileFault.TheVariants.{Short, BadMagic, BadVersion, BadDigest, BadRecord, TooMany, OutOfMemory}
+use Rattle.event_file.specs.Faults.{IsFault, IsFound}
+
+pub found_file : (most : ℕ) (bytes : List ℕ) (r : Result (Vec Event) FileFault) → AreBytes bytes → IsFound r (file_finding most bytes) → IfOk r (λ events. IsFileOf most events.items bytes)
+found_file most bytes (Ok read) fits found = file_take most bytes read.items fits found
+found_file most bytes (Err fault) fits found = tt
+
+-- a file has no fault
+memory_alone : (fault : FileFault) (found : FileFinding) (events : List Event) → found ≡ model.IsFile events → IsFault fault found → fault ≡ OutOfMemory
+memory_alone OutOfMemory found events is h = cc
+memory_alone (Short len) found events is h = absurd cc
+memory_alone BadMagic found events is h = absurd cc
+memory_alone (BadVersion version) found events is h = absurd cc
+memory_alone (BadDigest stored other) found events is h = absurd cc
+memory_alone (BadRecord offset kind) found events is h = absurd cc
+memory_alone (TooMany count) found events is h = absurd cc
+
+same_events : (xs ys : List Event) → model.IsFile xs ≡ model.IsFile ys → xs ≡ ys
+same_events xs ys e = cc
+
+pub only_found : (most : ℕ) (bytes : List ℕ) (events : List Event) (r : Result (Vec Event) FileFault) → IsFound r (file_finding most bytes) → IsFileOf most events bytes → MatchResult r (λ read. read.items ≡ events) (λ fault. fault ≡ OutOfMemory)
+only_found most bytes events r found f = at r found
+  where
+    is : file_finding most bytes ≡ model.IsFile events
+    is = ap (file_finding most) f.spelled ∙ file_again most events f.sound f.writable f.few
+
+    at : (s : Result (Vec Event) FileFault) → IsFound s (file_finding most bytes) → MatchResult s (λ read. read.items ≡ events) (λ fault. fault ≡ OutOfMemory)
+    at (Ok read) h = same_events read.items events (sym h ∙ is)
+    at (Err fault) h = memory_alone fault (file_finding most bytes) events is h

@@ -1,0 +1,19 @@
+use Rattle.std.proofs.Common.{◌≡◌, ℕ, List, [], ◌∷◌, ◌++◌, cond, Option, Some, None, ap, ◌∙◌, sym, subst}
+use Rattle.std.specs.BTreeMap.{get}
+use Rattle.std.specs.Cmp.Lexicographic.{slice_cmp}
+use Rattle.std.specs.Ordering.{nat_cmp}
+use Rattle.ew_model.specs.Ids.{name_eq}
+use Rattle.ew_model.proofs.FileRecords.{names_equal, name_exact}
+use Rattle.event_file.specs.Places.{HasPlaces}
+use Rattle.event_file.proofs.Tables.{one_more_place, no_place, none_from_is_some}
+use Rattle.event_file.proofs.agents.Agents.add.Goals as goal
+
+pub invariant_of-self-2 : goal.invariant_of-self-2
+invariant_of-self-2 c =
+    let i = c.self.inside in
+    let name = c.args.event.now.id.agent in
+    let table = get (slice_cmp nat_cmp) i.numbers in
+    let items = c.push_reserved.ensures.items ∙ ap (λ (xs : List (List ℕ)). xs ++ name ∷ []) c.in_ok-reserve.ensures.items in
+    let new = no_place name_eq names_equal name_exact i.names.items name table c.self.invariant (none_from_is_some (table name) (sym c.contains_key.ensures ∙ c.if-contains_key.false)) in
+    let up = c.in_ok-insert.ensures.updates.0 in
+    rw items (one_more_place name_eq names_equal name_exact i.names.items name table (get (slice_cmp nat_cmp) c.insert.new.self) c.self.invariant new (λ x. up x ∙ ap (λ n. cond (name_eq name x) (Some n) (table x)) (c.len-number.ensures ∙ i.names.ok.0)))

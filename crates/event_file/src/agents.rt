@@ -1,0 +1,91 @@
+//! The numbers of agents.
+
+ghost use Rattle.std.specs.Prelude.{◌≡◌, ◌+◌, ◌<◌, ◌^◌, [], true, length, OnOk, IfOk};
+ghost use Rattle.std.specs.List.{list_any, position_or_len};
+ghost use Rattle.ew_model.specs.Ids.{name_eq};
+ghost use Rattle.ew_model.specs.File.{with_agent, agents_of};
+
+use ew_model::NoMem;
+use ew_model::event::Event;
+use ew_model::name::Name;
+use std::alloc::Global;
+use std::collections::BTreeMap;
+use std::marker::Model;
+
+/// Agents in the order in which they came, each with its place in it. Contracts see the list of names.
+#[derive(Drop)]
+pub(crate) struct Agents {
+    names: Vec<Name>,
+    numbers: BTreeMap<Name, u32>,
+}
+
+impl Model for Agents {
+    ghost use Rattle.std.specs.Prelude.{List, ℕ};
+    ghost use Rattle.std.specs.BTreeMap.{get};
+    ghost use Rattle.std.specs.Cmp.Lexicographic.{slice_cmp};
+    ghost use Rattle.std.specs.Ordering.{nat_cmp};
+    ghost use Rattle.ew_model.specs.Ids.{name_eq};
+    ghost use Rattle.event_file.specs.Places.{HasPlaces};
+
+    ghost Value = { List (List ℕ) };
+
+    ghost view = { λ a. a.names.items };
+
+    ghost invariant = { λ a. HasPlaces name_eq (get (slice_cmp nat_cmp) a.numbers) a.names.items };
+}
+
+impl Agents {
+    fn new(alloc: Global) -> Agents
+        ensures { result ≡ [] }
+    {
+        Agents {
+            names: Vec::new(alloc),
+            numbers: BTreeMap::new(alloc),
+        }
+    }
+
+    /// The agents of the events.
+    pub(crate) fn of(alloc: Global, events: &[Event]) -> Result<Agents, NoMem>
+        requires { length events.now < 2 ^ 32 }
+        ensures { IfOk result (λ agents. agents ≡ agents_of events.now) }
+    {
+        let mut agents = Agents::new(alloc);
+        for event in events {
+            agents.add(event)?;
+        }
+        Ok(agents)
+    }
+
+    /// The agents with that of one more event.
+    fn add(&mut self, event: &Event) -> Result<(), NoMem>
+        requires { length self.old < 2 ^ 32 }
+        ensures { OnOk result (self.new ≡ with_agent self.old event.now) }
+    {
+        let name = event.id.agent;
+        if self.numbers.contains_key(&name) {
+            return Ok(());
+        }
+        let number = self.names.len() as u32;
+        self.names.reserve(1)?;
+        self.numbers.insert(name, number)?;
+        self.names.push_reserved(name);
+        Ok(())
+    }
+
+    pub(crate) fn as_slice(&self) -> &[Name]
+        ensures { result.now ≡ self.now }
+    {
+        self.names.as_slice()
+    }
+
+    /// The number of an agent that is there.
+    pub(crate) fn number_of(&self, name: &Name) -> u32
+        requires { list_any (name_eq name.now) self.now ≡ true }
+        ensures { result ≡ position_or_len (name_eq name.now) self.now }
+    {
+        match self.numbers.get(name) {
+            Some(number) => *number,
+            None => unreachable!(),
+        }
+    }
+}

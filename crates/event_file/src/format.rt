@@ -1,0 +1,19 @@
+//! The numbers that an event file is made with.
+
+/// What a file begins with.
+pub(crate) const MARK: &[u8] = b"EGWFILE";
+
+/// The version that is written and read.
+pub(crate) const VERSION: u8 = 1;
+
+/// The kind of a record that inserts.
+pub(crate) const INSERTION: u8 = 0;
+
+/// The kind of a record that deletes.
+pub(crate) const DELETION: u8 = 1;
+
+/// The bytes of a SHA-256 digest.
+pub(crate) const DIGEST_LEN: usize = 32;
+
+/// The bytes of the file of no events, the shortest.
+pub(crate) const SHORTEST: usize = 48;

@@ -1,0 +1,93 @@
+//! The content of a file as it is read, and the fields that stand in it.
+
+ghost use Rattle.std.specs.Prelude.{◌≡◌};
+ghost use Rattle.ew_model.specs.FileFaults.{byte, number, field, only, is_scalar, read_name, read_op};
+ghost use Rattle.ew_model.specs.FileFaults.RecordFault.{Scalar};
+ghost use Rattle.event_file.specs.Reading.{Gives};
+
+use crate::fault::{RecordFault, Stop, bad_field};
+use crate::format::{DELETION, INSERTION};
+use ew_model::event::Op;
+use ew_model::name::{LONGEST_NAME, Name};
+
+/// The bytes that aren't read yet. What is read is taken off their front.
+#[derive(Drop)]
+pub(crate) struct Input<'a> {
+    pub(crate) left: &'a [u8],
+}
+
+impl<'a> Input<'a> {
+    pub(crate) fn byte(&mut self) -> Result<u8, Stop>
+        ensures { Gives (λ b. (b, self.new.left.now)) result (byte self.old.left.now) }
+    {
+        match self.left {
+            [] => Err(bad_field(self.left, RecordFault::Cut)),
+            [b, left @ ..] => {
+                self.left = left;
+                Ok(*b)
+            }
+        }
+    }
+
+    /// A number of four bytes, the lowest first.
+    pub(crate) fn number(&mut self) -> Result<u32, Stop>
+        ensures { Gives (λ n. (n, self.new.left.now)) result (number self.old.left.now) }
+    {
+        if self.left.len() < 4 {
+            return Err(bad_field(self.left, RecordFault::Cut));
+        }
+        let (digits, left) = self.left.split_at(4);
+        self.left = left;
+        Ok(u32::from_le_bytes([digits[0], digits[1], digits[2], digits[3]]))
+    }
+
+    /// A name behind its length.
+    #[tactic(auto, unfolding(ew_model::specs::FileFaults::read_name))]
+    pub(crate) fn name(&mut self) -> Result<Name, Stop>
+        ensures { Gives (λ name. (name, self.new.left.now)) result (read_name self.old.left.now) }
+    {
+        let field = self.left;
+        let len = self.byte()? as usize;
+        if len == 0 || len > LONGEST_NAME {
+            return Err(bad_field(field, RecordFault::NameBad));
+        }
+        if self.left.len() < len {
+            return Err(bad_field(field, RecordFault::Cut));
+        }
+        let (text, left) = self.left.split_at(len);
+        self.left = left;
+        match Name::read(text) {
+            Ok(name) => Ok(name),
+            Err(_) => Err(bad_field(field, RecordFault::NameBad)),
+        }
+    }
+
+    /// The kind of an event, its index, and the character of an insertion.
+    #[tactic(auto, unfolding(ew_model::specs::FileFaults::read_op))]
+    pub(crate) fn operation(&mut self) -> Result<Op, Stop>
+        ensures { Gives (λ op. (op, self.new.left.now)) result (read_op self.old.left.now) }
+    {
+        let field = self.left;
+        let kind = self.byte()?;
+        if kind != INSERTION && kind != DELETION {
+            return Err(bad_field(field, RecordFault::KindBad));
+        }
+        let at = self.number()?;
+        if kind == DELETION {
+            return Ok(Op::Del { at });
+        }
+        let ch = self.character()?;
+        Ok(Op::Ins { at, ch })
+    }
+
+    fn character(&mut self) -> Result<char, Stop>
+        ensures { Gives (λ ch. (ch, self.new.left.now)) result (field number (only is_scalar) Scalar self.old.left.now) }
+    {
+        let field = self.left;
+        let code = self.number()?;
+        match char::from_u32(code) {
+            Some(ch) => Ok(ch),
+            None => Err(bad_field(field, RecordFault::Scalar)),
+        }
+    }
+}

@@ -1,0 +1,16 @@
+//! The event file: a whole history in one string of bytes, closed by its digest. `encode` writes it, `decode` reads it
+//! back, or tells the first fault of bytes that are no file.
+#![tactic(auto)]
+
+mod agents;
+mod fault;
+mod format;
+mod input;
+mod names;
+mod progress;
+mod reading;
+mod writing;
+
+pub use fault::{FileFault, RecordFault};
+pub use reading::decode;
+pub use writing::encode;
