@@ -1,5 +1,5 @@
 -- What is visible over two stems with like new entries is alike.
-use Rattle.std.proofs.Common.{◌≡◌, Bool, true, false, not, cond, ◌||◌, inl, inr, ⊎_elim, List, [], ◌∷◌, ◌++◌, filter, refl, sym, ap, ◌∙◌, subst}
+use Rattle.std.proofs.Common.{◌≡◌, Bool, true, not, cond, ◌||◌, inl, inr, ⊎_elim, List, [], ◌∷◌, ◌++◌, filter, refl, sym, ap, ◌∙◌, subst}
 use Rattle.std.specs.List.{AllByRecursion}
 use Rattle.std.specs.List.Sorted.{IsStrictlySortedBy}
 use Rattle.std.specs.declared.cmp.Ordering.{Ordering}
@@ -11,7 +11,7 @@ use Rattle.ew_model.specs.Sorting.{sort_by}
 use Rattle.ew_model.specs.Entries.{Inserted, Entry, inserted_cmp, insertions, deletes, is_deleted, order, visible}
 use Rattle.ew_model.specs.Paths.{path_cmp}
 use Rattle.ew_model.proofs.SetLaws.{among_joined, joined_left, joined_right, among_filter, filter_among}
-use Rattle.ew_model.proofs.SortingLaws.{all_at, all_from, all_filter, sort_among, among_sort, NoTie, NoTies, filter-sort, same_sorted}
+use Rattle.ew_model.proofs.SortingLaws.{all_at, all_from, sort_among, among_sort, NoTie, NoTies, filter-sort, same_sorted, ties_filter}
 use Rattle.ew_model.proofs.GapLaws.{behind, gap}
 use Rattle.ew_model.proofs.PrefixLaws.{insertions-append, ordered_prefixes}
 use Rattle.ew_model.proofs.PlaceLaws.{ApartByPath, placed_total}
@@ -36,14 +36,6 @@ ties_joined (x ∷ xs) ys h k f = (
   all_from (λ y. inserted_cmp x y ≡ Equal → ⊥) (xs ++ ys) (λ y m. ⊎_elim (λ j. all_at (λ y. inserted_cmp x y ≡ Equal → ⊥) xs y h.0 j) (λ j. f x y (inl refl) j) (among_joined xs ys y m)),
   ties_joined xs ys h.1 k (λ u v m n. f u v (inr m) n),
 )
-
-ties_kept : (b : Bool) (x : Inserted) (xs : List Inserted) → NoTie inserted_cmp x xs → NoTies inserted_cmp xs → NoTies inserted_cmp (cond b (x ∷ xs) xs)
-ties_kept true x xs h k = (h, k)
-ties_kept false x xs h k = k
-
-ties_filter : (p : Inserted → Bool) (xs : List Inserted) → NoTies inserted_cmp xs → NoTies inserted_cmp (filter p xs)
-ties_filter p [] h = tt
-ties_filter p (x ∷ xs) h = ties_kept (p x) x (filter p xs) (all_filter (λ y. inserted_cmp x y ≡ Equal → ⊥) p xs h.0) (ties_filter p xs h.1)
 
 less_no_tie : (x : Inserted) (xs : List Inserted) → AllByRecursion (λ y. inserted_cmp x y ≡ Less) xs → NoTie inserted_cmp x xs
 less_no_tie x [] h = tt
@@ -92,7 +84,7 @@ visible_over stem entries s n t =
     let shown = filter seen (sort_by inserted_cmp old) in
     let crossing : (x y : Inserted) → Among x old → Among y new → inserted_cmp x y ≡ Equal → ⊥ = λ x y mx my. cross stem entries x y s n (stem_ordered stem x mx) my in
     let shown_old : (x : Inserted) → Among x shown → Among x old = λ x m. sort_among placed_total old x (among_filter seen (sort_by inserted_cmp old) x m).0 in
-    let first : NoTies inserted_cmp (filter seen old ++ new) = ties_joined (filter seen old) new (ties_filter seen old s.apart) t (λ x y mx my. crossing x y (among_filter seen old x mx).0 my) in
+    let first : NoTies inserted_cmp (filter seen old ++ new) = ties_joined (filter seen old) new (ties_filter inserted_cmp seen old s.apart) t (λ x y mx my. crossing x y (among_filter seen old x mx).0 my) in
     let second : NoTies inserted_cmp (shown ++ new) = ties_joined shown new (sorted_ties shown (sorted_visible stem s.apart)) t (λ x y mx my. crossing x y (shown_old x mx) my) in
     filter_agree (λ y. not (is_deleted (stem ++ entries) y.id)) (λ y. not (is_deleted stem y.id || is_deleted entries y.id)) (λ y. ap not (list_any-append (deletes y.id) stem entries)) (sort_by inserted_cmp (insertions (stem ++ entries)))
     ∙ filter_both (λ y. is_deleted stem y.id) (λ y. is_deleted entries y.id) (sort_by inserted_cmp (insertions (stem ++ entries)))

@@ -56,7 +56,8 @@ tree_on-append b before (e ∷ later) =
     ∙ ap (λ ns. ns ++ notes_from b (before ++ e ∷ []) later) (tree_on-push b before e)
     ∙ append_assoc (tree_on b before) (noted_as e.id (entry_after b before e)) (notes_from b (before ++ e ∷ []) later)
 
-filter_none : {X : Type 0} (p : X → Bool) (xs : List X) → AllByRecursion (λ x. p x ≡ false) xs → filter p xs ≡ []
+-- none are left where none passes
+pub filter_none : {X : Type 0} (p : X → Bool) (xs : List X) → AllByRecursion (λ x. p x ≡ false) xs → filter p xs ≡ []
 filter_none p [] h = refl
 filter_none p (x ∷ xs) h = ap (λ b. cond b (x ∷ filter p xs) (filter p xs)) h.0 ∙ filter_none p xs h.1
 

@@ -1,11 +1,8 @@
 -- Records: what is read of one is what was written, and the other way round.
 use Rattle.std.proofs.Common.{◌≡◌, ℕ, zero, suc, ◌^◌, ◌<◌, Bool, true, false, not, leb, List, [], ◌∷◌, ◌++◌, length, flat_map, Option, Some, Ok, refl, sym, ap, subst, ◌∙◌, append_assoc, append-nil, arith}
 use Rattle.std.specs.Prelude.{slice_get}
-use Rattle.std.specs.Cmp.{IsEquivalence}
 use Rattle.std.specs.List.{list_all, position_or_len, AllByRecursion}
 use Rattle.std.proofs.lemmas.Bool.{and_parts, and_from, not-true, not_from_false}
-use Rattle.std.proofs.lemmas.Cmp.{nat_list_cmp_total, eq_by_cmp_equiv}
-use Rattle.std.proofs.lemmas.Map.Lookups.{exact_bytes}
 use Rattle.std.proofs.lemmas.Option.{slice_get_within}
 use Rattle.ew_model.specs.declared.id.Id.{Id}
 use Rattle.ew_model.specs.declared.event.Event.{Event}
@@ -17,6 +14,7 @@ use Rattle.ew_model.specs.File.{four_bytes, op_bytes, agents_of}
 use Rattle.ew_model.specs.FileFaults.{Reader, done, go_on, ◌>>=◌, byte, number, field, only, read_parents, read_op, read_record, open_agents}
 use Rattle.ew_model.specs.FileFaults.RecordFault.{AgentNumber, IdTwice, ParentCount, ParentPosition, ParentOrder}
 use Rattle.ew_model.specs.FileLaws.{AreBytes}
+pub use Rattle.ew_model.proofs.IdLaws.{names_equal, name_exact}
 use Rattle.ew_model.proofs.PathOrder.{id_exact}
 use Rattle.ew_model.proofs.GapLaws.{eq_from}
 use Rattle.ew_model.proofs.TextLaws.{ids_equal}
@@ -24,13 +22,7 @@ use Rattle.ew_model.specs.Distinct.{AllNew}
 use Rattle.ew_model.proofs.FileLists.{found_there, there_among, place_of, get-take}
 use Rattle.ew_model.proofs.FileFields.{Takes, Takes-then, go_ok, field_ok, only_ok, tested_ok, field_again, only_again, tested_again, byte_takes, number_takes, number_again, op_takes, op_again}
 
--- ---- names and ids that are equal
-
-pub names_equal : IsEquivalence name_eq
-names_equal = eq_by_cmp_equiv nat_list_cmp_total
-
-pub name_exact : (a b : List ℕ) → name_eq a b ≡ true → a ≡ b
-name_exact a b h = exact_bytes a b (eq_from _ h)
+-- ---- ids that are equal
 
 pub id_eq_exact : (x y : Id) → id_eq x y ≡ true → x ≡ y
 id_eq_exact x y h = id_exact x y (eq_from _ h)

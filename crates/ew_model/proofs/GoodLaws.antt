@@ -95,7 +95,7 @@ held_alike : (held : List Event) (x y : Id) → id_eq x y ≡ true → is_held h
 held_alike held x y e = list_any_congr (eq_by_cmp_equiv id_total) x y (ids_of held) e
 
 -- an id that isn't held is no parent, where all parents are held
-no_parent : (held : List Event) (parents : List Id) (x : Id) → AllByRecursion (λ p. is_held held p ≡ true) parents → is_held held x ≡ false → is_among parents x ≡ false
+pub no_parent : (held : List Event) (parents : List Id) (x : Id) → AllByRecursion (λ p. is_held held p ≡ true) parents → is_held held x ≡ false → is_among parents x ≡ false
 no_parent held parents x h n =
     false_from_ne_true (is_among parents x) (λ e.
     let found = found_by (id_eq x) parents e in

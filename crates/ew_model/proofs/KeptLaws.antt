@@ -40,7 +40,7 @@ without_row (None ∷ rows) b r more n e = without_row rows b r more n e
 without_row (Some q ∷ rows) b r more n e = e
 
 -- what isn't held by its id isn't there
-no_repeat : (held : List Event) (e : Event) → is_held held e.id ≡ false → list_any (event_eq e) held ≡ false
+pub no_repeat : (held : List Event) (e : Event) → is_held held e.id ≡ false → list_any (event_eq e) held ≡ false
 no_repeat [] e h = refl
 no_repeat (f ∷ held) e h =
     let parts = or_parts (id_eq e.id f.id) (is_held held e.id) h in

@@ -18,12 +18,8 @@ use Rattle.ew_model.proofs.SubgraphLaws.{one_event}
 use Rattle.ew_model.proofs.GoodLaws.{good_laid_out}
 use Rattle.ew_model.proofs.CutSteps.{cuts_step}
 use Rattle.ew_model.proofs.ArrivalAgreement.{arrival_agrees}
-use Rattle.ew_model.proofs.Rows.Events.{id, ins, typed, diamond}
+use Rattle.ew_model.proofs.Rows.Events.{id, ins, typed, fork, diamond}
 use Rattle.ew_model.proofs.Rows.Receiving.{judging, program}
-
--- a, then b and c beside each other
-abbrev fork : List Event
-fork = ins 97 0 0 97 [] ∷ ins 98 0 1 98 (id 97 0 ∷ []) ∷ ins 99 0 1 99 (id 97 0 ∷ []) ∷ []
 
 abbrev join : Event
 join = ins 100 0 3 100 (id 98 0 ∷ id 99 0 ∷ [])

@@ -14,6 +14,11 @@ pub mod CoverLaws
 pub mod CutLaws
 pub mod CutNumbers
 pub mod CutSteps
+pub mod EditEvents
+pub mod EditHeads
+pub mod EditLaws
+pub mod EditNumbers
+pub mod EditTexts
 pub mod EntryLaws
 pub mod EqualSets
 pub mod FileEvents

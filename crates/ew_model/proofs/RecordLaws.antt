@@ -1,6 +1,5 @@
 -- What the records of a walker tell, and what an apply, an advance and a retreat change in them.
 use Rattle.std.proofs.Common.{◌≡◌, ℕ, suc, nat_eq, nat_lt, Bool, true, false, not, cond, ◌||◌, ◌&&◌, inl, inr, ⊎_elim, List, [], ◌∷◌, ◌++◌, map, filter, length, refl, sym, ap, ◌∙◌, subst, arith}
-use Rattle.std.specs.declared.cmp.Ordering.{Ordering}
 use Rattle.std.specs.declared.cmp.Ordering.TheVariants.{Equal}
 use Rattle.std.specs.List.{list_any}
 use Rattle.std.proofs.lemmas.Bool.{false≢true, lt-ltb, ne_eqb}
@@ -13,7 +12,7 @@ use Rattle.ew_model.specs.Tree.{based, Applied, Noted, all_entries, entries_over
 use Rattle.ew_model.specs.Entries.Entry.{Insertion, Deletion}
 use Rattle.ew_model.specs.Records.{inserts, is_inserted, deletions_of, prepared_in, Record, record_in, records, RecordsTell}
 use Rattle.ew_model.proofs.SetLaws.{among_joined, joined_left, joined_right, among_filter, filter_among}
-use Rattle.ew_model.proofs.SortingLaws.{NoTie, NoTies, all_at, all_from, all_filter, filter-sort, same_sorted}
+use Rattle.ew_model.proofs.SortingLaws.{NoTies, all_at, all_from, ties_filter, filter-sort, same_sorted}
 use Rattle.ew_model.proofs.VersionLaws.{any_from, found_by}
 use Rattle.ew_model.proofs.PlaceLaws.{ApartByPath, placed_total, among_insertions, insertion_among}
 use Rattle.ew_model.proofs.PrefixLaws.{insertions-append, over_insertions}
@@ -51,14 +50,6 @@ map_map f g (x ∷ xs) = ap (λ ws. g (f x) ∷ ws) (map_map f g xs)
 pub map_itself : {X : Type 0} (f : X → X) (xs : List X) → ((x : X) → f x ≡ x) → map f xs ≡ xs
 map_itself f [] h = refl
 map_itself f (x ∷ xs) h = λ i. h x i ∷ map_itself f xs h i
-
-ties_kept : {X : Type 0} (R : X → X → Ordering) (b : Bool) (x : X) (xs : List X) → NoTie R x xs → NoTies R xs → NoTies R (cond b (x ∷ xs) xs)
-ties_kept R true x xs h k = (h, k)
-ties_kept R false x xs h k = k
-
-ties_filter : {X : Type 0} (R : X → X → Ordering) (p : X → Bool) (xs : List X) → NoTies R xs → NoTies R (filter p xs)
-ties_filter R p [] h = tt
-ties_filter R p (x ∷ xs) h = ties_kept R (p x) x (filter p xs) (all_filter (λ y. R x y ≡ Equal → ⊥) p xs h.0) (ties_filter R p xs h.1)
 
 -- the part of a tree is apart where the tree is
 noted_kept : (b : Bool) (n : Noted ℕ) (ns : List (Noted ℕ)) (e : Entry) → Among e (map entry_of (cond b (n ∷ ns) ns)) → Among e (n.entry ∷ map entry_of ns)

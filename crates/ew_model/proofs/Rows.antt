@@ -1,5 +1,6 @@
 -- Worked rows: what the definitions compute to.
 pub mod Cuts
+pub mod Edits
 pub mod Events
 pub mod File
 pub mod FileFaults

@@ -1,5 +1,5 @@
 -- Which cuts stop being critical when an event is appended, for events of any kind.
-use Rattle.std.specs.Prelude.{◌≡◌, ℕ, suc, ◌-◌, ◌<◌, ◌≤◌, Bool, true, false, ◌&&◌, ◌||◌, List, [], ◌∷◌, ◌++◌, map, if◌then◌else◌, nat_lt, ◌==◌, length, filter, take}
+use Rattle.std.specs.Prelude.{◌≡◌, ℕ, suc, ◌-◌, ◌<◌, ◌≤◌, Bool, true, false, ◌&&◌, ◌||◌, List, [], ◌∷◌, ◌++◌, map, if◌then◌else◌, nat_lt, ◌==◌, length, filter}
 use Rattle.std.specs.List.{list_any}
 use Rattle.ew_model.specs.Graph.{is_named, are_named, childless, greatest_to, passing_to}
 

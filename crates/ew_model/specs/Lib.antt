@@ -7,6 +7,7 @@ pub mod CutChange
 pub mod CutRule
 pub mod Cuts
 pub mod Distinct
+pub mod EditLaws
 pub mod Edits
 pub mod Entries
 pub mod Events

@@ -52,6 +52,10 @@ two_at_start = ins 98 0 0 88 (id 97 2 ∷ []) ∷ ins 99 0 0 89 (id 97 2 ∷ [])
 abbrev pub abcdef : List Event
 abcdef = typed 97 0 0 (97 ∷ 98 ∷ 99 ∷ 100 ∷ 101 ∷ 102 ∷ []) []
 
+-- a, then b and c beside each other
+abbrev pub fork : List Event
+fork = ins 97 0 0 97 [] ∷ ins 98 0 1 98 (id 97 0 ∷ []) ∷ ins 99 0 1 99 (id 97 0 ∷ []) ∷ []
+
 -- a fork and a join
 abbrev pub diamond : List Event
 diamond = ins 97 0 0 97 [] ∷ ins 98 0 1 98 (id 97 0 ∷ []) ∷ ins 99 0 1 99 (id 97 0 ∷ []) ∷ ins 100 0 3 100 (id 98 0 ∷ id 99 0 ∷ []) ∷ []
