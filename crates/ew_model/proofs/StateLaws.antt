@@ -15,7 +15,7 @@ use Rattle.ew_model.specs.Sets.{Among}
 use Rattle.ew_model.specs.Entries.{Inserted, Entry, inserted_cmp, deletes, is_deleted, insertions, order}
 use Rattle.ew_model.specs.Tree.{based, Applied, Noted, all_entries, entries_over, next_entry, noted_as, tree_of}
 use Rattle.ew_model.specs.Entries.Entry.{Insertion, Deletion}
-use Rattle.ew_model.specs.Records.{holds, IsClosed, MayApply, IsRun, inserts, is_inserted, deletions_of, prepared_in, Record, record_in, records, walker_records, about, raised, one_less, lowered, MayAdvance, MayRetreat, without, AdvancesTell, RetreatsTell, IsNewId, fresh, struck, record_cmp, next_of, AppliedRecords, AppliesTell, AppliesKeep, AllPreparedIsAll}
+use Rattle.ew_model.specs.Records.{holds, IsClosed, MayApply, IsRun, inserts, is_inserted, deletions_of, prepared_in, Record, record_in, records, walker_records, is_about, raised, one_less, lowered, MayAdvance, MayRetreat, without, AdvancesTell, RetreatsTell, IsNewId, fresh, struck, record_cmp, next_of, AppliedRecords, AppliesTell, AppliesKeep, AllPreparedIsAll}
 use Rattle.ew_model.proofs.SetLaws.{among_joined, joined_left, joined_right, among_map, map_among}
 use Rattle.ew_model.proofs.SortingLaws.{all_at, all_from, sort_sorted}
 use Rattle.ew_model.proofs.VersionLaws.{any_from, found_by}
@@ -73,7 +73,7 @@ abbrev pub ComesInto : List Entry → Entry → Type 0
 ComesInto entries (Insertion y) = (is_inserted entries y.id ≡ false) × (is_deleted entries y.id ≡ false)
 ComesInto entries (Deletion t) = is_inserted entries t ≡ true
 
-pub prepared_more : (xs ys : List Entry) (e : Entry) (x : Id) → ComesInto (xs ++ ys) e → prepared_in (xs ++ e ∷ ys) x ≡ cond (id_eq (about e) x) (suc (prepared_in (xs ++ ys) x)) (prepared_in (xs ++ ys) x)
+pub prepared_more : (xs ys : List Entry) (e : Entry) (x : Id) → ComesInto (xs ++ ys) e → prepared_in (xs ++ e ∷ ys) x ≡ cond (is_about e x) (suc (prepared_in (xs ++ ys) x)) (prepared_in (xs ++ ys) x)
 prepared_more xs ys (Insertion y) x h =
     (λ i. cond (any_more (inserts x) xs (Insertion y) ys i) (suc (count_more (deletes x) xs (Insertion y) ys i)) 0)
     ∙ at (id_eq y.id x) refl
@@ -149,14 +149,14 @@ parts_joined b xs ys = ap (λ es. based b ++ es) (map-append entry_of xs ys) ∙
 
 -- the number of a character, over a part with one more note
 part_more : (b : ℕ) (notes : List (Noted ℕ)) (names : List ℕ) (n : Noted ℕ) → Single notes → Among n notes → holds names n.name ≡ false → ComesInto (entries_over nat_eq b notes names) n.entry
-    → (x : Id) → prepared_in (entries_over nat_eq b notes (n.name ∷ names)) x ≡ cond (id_eq (about n.entry) x) (suc (prepared_in (entries_over nat_eq b notes names) x)) (prepared_in (entries_over nat_eq b notes names) x)
+    → (x : Id) → prepared_in (entries_over nat_eq b notes (n.name ∷ names)) x ≡ cond (is_about n.entry x) (suc (prepared_in (entries_over nat_eq b notes names) x)) (prepared_in (entries_over nat_eq b notes names) x)
 part_more b notes names n s m h into x =
     let d = chosen_more notes names n s m h in
     let before : entries_over nat_eq b notes names ≡ (based b ++ map entry_of d.0) ++ map entry_of d.1 = ap (all_entries b) d.2 ∙ parts_joined b d.0 d.1 in
     let after : entries_over nat_eq b notes (n.name ∷ names) ≡ (based b ++ map entry_of d.0) ++ n.entry ∷ map entry_of d.1 = ap (all_entries b) d.3 ∙ parts_joined b d.0 (n ∷ d.1) in
     ap (λ es. prepared_in es x) after
     ∙ prepared_more (based b ++ map entry_of d.0) (map entry_of d.1) n.entry x (subst (λ es. ComesInto es n.entry) before into)
-    ∙ ap (λ es. cond (id_eq (about n.entry) x) (suc (prepared_in es x)) (prepared_in es x)) (sym before)
+    ∙ ap (λ es. cond (is_about n.entry x) (suc (prepared_in es x)) (prepared_in es x)) (sym before)
 
 -- the base deletes nothing
 base_inserts : (k : ℕ) (x : Id) → Among (Deletion x) (based k) → ⊥
@@ -211,11 +211,11 @@ module _ (b : ℕ) (events : List (Applied ℕ)) (notes : List (Noted ℕ)) (g :
       at (Insertion y) is = (not_yet y is, undeleted y is)
       at (Deletion t) is = target_there t is
 
-  advanced : records (all_entries b notes) (entries_over nat_eq b notes (n.name ∷ names)) ≡ map (raised (about n.entry)) (records (all_entries b notes) part)
+  advanced : records (all_entries b notes) (entries_over nat_eq b notes (n.name ∷ names)) ≡ map (raised n.entry) (records (all_entries b notes) part)
   advanced =
-      map_same (record_in (all_entries b notes) (entries_over nat_eq b notes (n.name ∷ names))) (λ z. raised (about n.entry) (record_in (all_entries b notes) part z)) (order (all_entries b notes))
+      map_same (record_in (all_entries b notes) (entries_over nat_eq b notes (n.name ∷ names))) (λ z. raised n.entry (record_in (all_entries b notes) part z)) (order (all_entries b notes))
       (λ z i. ap (λ k. record { node = z; prepared = k; effect = not (is_deleted (all_entries b notes) z.id) }) (part_more b notes names n g.single m may.outside comes_in z.id))
-      ∙ sym (map_map (record_in (all_entries b notes) part) (raised (about n.entry)) (order (all_entries b notes)))
+      ∙ sym (map_map (record_in (all_entries b notes) part) (raised n.entry) (order (all_entries b notes)))
 
   pub closed_with : IsClosed events (n.name ∷ names)
   closed_with c i h k seen =
@@ -249,8 +249,8 @@ holds_without x k (n ∷ names) = at (nat_eq n x) refl (nat_eq k n) refl (holds_
         ap (λ c. c || holds (without x names) k) f ∙ sym (ap not other)
     at false e false f h = ap (λ c. c || holds (without x names) k) f ∙ h
 
-lowered_back : (x : Id) (r : Record) → lowered x (raised x r) ≡ r
-lowered_back x r = at (id_eq x r.node.id)
+lowered_back : (e : Entry) (r : Record) → lowered e (raised e r) ≡ r
+lowered_back e r = at (is_about e r.node.id)
   where
     at : (b : Bool) → record { node = r.node; prepared = cond b (one_less (cond b (suc r.prepared) r.prepared)) (cond b (suc r.prepared) r.prepared); effect = r.effect } ≡ r
     at true = refl
@@ -307,9 +307,9 @@ retreats_tell b events prepared n run closed m may =
     let back = closed_without events prepared closed n.name may in
     let forth = (advances_tell b events left n run back m (may_return events prepared closed n.name may)).0 in
     let whole : entries_over nat_eq b notes (n.name ∷ left) ≡ entries_over nat_eq b notes prepared = part_same b notes (n.name ∷ left) prepared (λ k. with_without n.name k prepared may.inside) in (
-      sym (ap (map (lowered (about n.entry))) (ap (records all) (sym whole) ∙ forth)
-          ∙ map_map (raised (about n.entry)) (lowered (about n.entry)) (records all (entries_over nat_eq b notes left))
-          ∙ map_itself (λ r. lowered (about n.entry) (raised (about n.entry) r)) (records all (entries_over nat_eq b notes left)) (lowered_back (about n.entry))),
+      sym (ap (map (lowered n.entry)) (ap (records all) (sym whole) ∙ forth)
+          ∙ map_map (raised n.entry) (lowered n.entry) (records all (entries_over nat_eq b notes left))
+          ∙ map_itself (λ r. lowered n.entry (raised n.entry r)) (records all (entries_over nat_eq b notes left)) (lowered_back n.entry)),
       back,
     )
 
@@ -389,8 +389,8 @@ some_id x y e = cc
 
 -- the records after an entry, where it may come in
 module _ (all part : List Entry) where
-  number_after : (e : Entry) → ComesInto part e → (x : Id) → prepared_in (part ++ e ∷ []) x ≡ cond (id_eq (about e) x) (suc (prepared_in part x)) (prepared_in part x)
-  number_after e h x = prepared_more part [] e x (subst (λ es. ComesInto es e) (sym (append-nil part)) h) ∙ ap (λ es. cond (id_eq (about e) x) (suc (prepared_in es x)) (prepared_in es x)) (append-nil part)
+  number_after : (e : Entry) → ComesInto part e → (x : Id) → prepared_in (part ++ e ∷ []) x ≡ cond (is_about e x) (suc (prepared_in part x)) (prepared_in part x)
+  number_after e h x = prepared_more part [] e x (subst (λ es. ComesInto es e) (sym (append-nil part)) h) ∙ ap (λ es. cond (is_about e x) (suc (prepared_in es x)) (prepared_in es x)) (append-nil part)
 
   deleted_after : (e : Entry) (x : Id) → is_deleted (all ++ e ∷ []) x ≡ (deletes x e || is_deleted all x)
   deleted_after e x = any_more (deletes x) all e [] ∙ ap (λ es. deletes x e || is_deleted es x) (append-nil all)

@@ -101,21 +101,21 @@ pub record RecordsSay (b : ℕ) (events : List (Applied ℕ)) (prepared : List �
 abbrev pub RecordsTell : Type 0
 RecordsTell = (b : ℕ) (events : List (Applied ℕ)) (prepared : List ℕ) → IsRun [] events → RecordsSay b events prepared
 
--- the id that an entry is about
-abbrev pub about : Entry → Id
-about (Insertion y) = y.id
-about (Deletion target) = target
+-- the entry is about the character with this id
+abbrev pub is_about : Entry → Id → Bool
+is_about (Insertion y) x = id_eq y.id x
+is_about (Deletion target) x = id_eq target x
 
--- a record after an event about the id came into what is prepared, and after it was taken out
-abbrev pub raised : Id → Record → Record
-raised x r = record { node = r.node; prepared = if id_eq x r.node.id then suc r.prepared else r.prepared; effect = r.effect }
+-- a record after an event that left the entry came into what is prepared, and after it was taken out
+abbrev pub raised : Entry → Record → Record
+raised e r = record { node = r.node; prepared = if is_about e r.node.id then suc r.prepared else r.prepared; effect = r.effect }
 
 abbrev pub one_less : ℕ → ℕ
 one_less zero = zero
 one_less (suc n) = n
 
-abbrev pub lowered : Id → Record → Record
-lowered x r = record { node = r.node; prepared = if id_eq x r.node.id then one_less r.prepared else r.prepared; effect = r.effect }
+abbrev pub lowered : Entry → Record → Record
+lowered e r = record { node = r.node; prepared = if is_about e r.node.id then one_less r.prepared else r.prepared; effect = r.effect }
 
 -- an event that isn't prepared may be: all that it was applied over is
 pub record MayAdvance (events : List (Applied ℕ)) (prepared : List ℕ) (name : ℕ) : Type 0 where
@@ -131,16 +131,16 @@ pub record MayRetreat (events : List (Applied ℕ)) (prepared : List ℕ) (name 
 abbrev pub without : ℕ → List ℕ → List ℕ
 without name names = filter (λ n. not (nat_eq n name)) names
 
--- an advance raises the number of the character that the event is about, and a retreat lowers it
+-- an advance raises the number of the character that the entry is about, and a retreat lowers it
 abbrev pub AdvancesTell : Type 0
 AdvancesTell =
     (b : ℕ) (events : List (Applied ℕ)) (prepared : List ℕ) (n : Noted ℕ) → IsRun [] events → IsClosed events prepared → Among n (tree_of nat_eq b events) → MayAdvance events prepared n.name
-    → (walker_records b events (n.name ∷ prepared) ≡ map (raised (about n.entry)) (walker_records b events prepared)) × IsClosed events (n.name ∷ prepared)
+    → (walker_records b events (n.name ∷ prepared) ≡ map (raised n.entry) (walker_records b events prepared)) × IsClosed events (n.name ∷ prepared)
 
 abbrev pub RetreatsTell : Type 0
 RetreatsTell =
     (b : ℕ) (events : List (Applied ℕ)) (prepared : List ℕ) (n : Noted ℕ) → IsRun [] events → IsClosed events prepared → Among n (tree_of nat_eq b events) → MayRetreat events prepared n.name
-    → (walker_records b events (without n.name prepared) ≡ map (lowered (about n.entry)) (walker_records b events prepared)) × IsClosed events (without n.name prepared)
+    → (walker_records b events (without n.name prepared) ≡ map (lowered n.entry) (walker_records b events prepared)) × IsClosed events (without n.name prepared)
 
 -- the record of a character just inserted, and a record after a deletion was applied
 abbrev pub fresh : Inserted → Record
