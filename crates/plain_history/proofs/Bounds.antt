@@ -1,13 +1,14 @@
 -- A text has at most one character for each event.
-use Rattle.std.proofs.Common.{◌≡◌, ℕ, suc, ◌+◌, ◌≤◌, Bool, true, false, not, cond, List, [], ◌∷◌, ◌++◌, map, filter, fold, length, Option, Some, None, refl, sym, ap, ◌∙◌, arith, length-append}
+use Rattle.std.proofs.Common.{◌≡◌, ℕ, suc, ◌+◌, ◌*◌, ◌^◌, ◌<◌, ◌≤◌, Bool, true, false, not, cond, ◌||◌, List, [], ◌∷◌, ◌++◌, map, filter, fold, length, Option, Some, None, refl, sym, ap, ◌∙◌, arith, length-append}
+use Rattle.std.proofs.Math.Nat.{mul-le-mul_left}
 use Rattle.std.specs.List.{list_any}
 use Rattle.std.specs.Ordering.{is_lt}
 use Rattle.std.specs.declared.cmp.Ordering.{Ordering}
 use Rattle.std.proofs.lemmas.List.{length-map}
 use Rattle.ew_model.specs.declared.id.Id.{Id}
 use Rattle.ew_model.specs.declared.event.Event.{Event}
-use Rattle.ew_model.specs.Ids.{id_eq}
-use Rattle.ew_model.specs.Ancestors.{ancestors}
+use Rattle.ew_model.specs.Ids.{id_eq, is_among}
+use Rattle.ew_model.specs.Ancestors.{is_parent, version_events, ancestors}
 use Rattle.ew_model.specs.Sorting.{put_in_order, sort_by}
 use Rattle.ew_model.specs.Entries.{Inserted, Entry, inserted_cmp, insertions, is_deleted, order, visible}
 use Rattle.ew_model.specs.Entries.Entry.{Insertion, Deletion}
@@ -73,3 +74,23 @@ length-text_at-le history version =
     let named : Noted Id → Bool = λ n. list_any (id_eq n.name) names in
     let entries = entries_over id_eq 0 notes names in
     omega (arith, length-map (visible entries) (λ (x : Inserted). x.ch), length-visible-le entries, length-map (filter named notes) (λ (n : Noted Id). n.entry), length-filter-le named notes, length-tree-le history)
+
+length-version_events-le : (history : List Event) (named : List Id) → length (version_events history named) ≤ length history
+length-version_events-le [] named = omega arith
+length-version_events-le (e ∷ later) named =
+    kept_le (is_among named e.id || is_parent (version_events later named) e.id) e (version_events later named) (length later) (length-version_events-le later named)
+
+pub length-ancestors-le : (history : List Event) (named : List Id) → length (ancestors history named) ≤ length history
+length-ancestors-le history named =
+    omega (arith, length-map (version_events history named) (λ (e : Event). e.id), length-version_events-le history named)
+
+pub length-visible_all-le : (history : List Event) → length (visible (all_entries 0 (tree history))) ≤ length history
+length-visible_all-le history =
+    omega (arith, length-visible-le (all_entries 0 (tree history)), length-map (tree history) (λ (n : Noted Id). n.entry), length-tree-le history)
+
+-- a square of 32 bits has 64
+pub square_fits : (n : ℕ) → n < 2 ^ 32 → n * n < 2 ^ 64
+square_fits n h =
+    let most : n ≤ 4294967295 = omega (arith, h) in
+    let wide : n * n ≤ n * 4294967295 = mul-le-mul_left n most in
+    omega (arith, wide, most)
