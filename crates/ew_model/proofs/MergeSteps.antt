@@ -37,7 +37,7 @@ same_op : (o : Op) → op_eq o o ≡ true
 same_op (op.Ins at ch) = λ i. eq-eqb at at refl i && eq-eqb ch ch refl i
 same_op (op.Del at) = eq-eqb at at refl
 
-same_event : (e : Event) → event_eq e e ≡ true
+pub same_event : (e : Event) → event_eq e e ≡ true
 same_event e = λ i. ids_alike.refl e.id i && same_parents e.parents i && same_op e.op i
 
 repeat_row : (b c : Bool) (rows : List (Option Ruling)) → b ≡ true → first_row (then_some b Repeat ∷ then_some c Clash ∷ rows) ≡ Repeat

@@ -1,0 +1,96 @@
+-- A text has at most one character for each event.
+use Rattle.std.proofs.Common.{◌≡◌, ℕ, suc, ◌+◌, ◌*◌, ◌^◌, ◌<◌, ◌≤◌, Bool, true, false, not, cond, ◌||◌, List, [], ◌∷◌, ◌++◌, map, filter, fold, length, Option, Some, None, refl, sym, ap, ◌∙◌, arith, length-append}
+use Rattle.std.proofs.Math.Nat.{mul-le-mul_left}
+use Rattle.std.specs.List.{list_any}
+use Rattle.std.specs.Ordering.{is_lt}
+use Rattle.std.specs.declared.cmp.Ordering.{Ordering}
+use Rattle.std.proofs.lemmas.List.{length-map}
+use Rattle.ew_model.specs.declared.id.Id.{Id}
+use Rattle.ew_model.specs.declared.event.Event.{Event}
+use Rattle.ew_model.specs.Ids.{id_eq, is_among}
+use Rattle.ew_model.specs.Ancestors.{is_parent, version_events, ancestors}
+use Rattle.ew_model.specs.Sorting.{put_in_order, sort_by}
+use Rattle.ew_model.specs.Entries.{Inserted, Entry, inserted_cmp, insertions, is_deleted, order, visible}
+use Rattle.ew_model.specs.Entries.Entry.{Insertion, Deletion}
+use Rattle.ew_model.specs.Tree.{Applied, Noted, all_entries, entries_over, next_entry, noted_as, grow, tree_of, applied_after, tree_on, tree}
+use Rattle.ew_model.specs.Texts.{visible_at, text_at, text_of}
+
+kept_le : {X : Type 0} (b : Bool) (x : X) (xs : List X) (n : ℕ) → length xs ≤ n → length (cond b (x ∷ xs) xs) ≤ suc n
+kept_le true x xs n h = omega (arith, h)
+kept_le false x xs n h = omega (arith, h)
+
+pub length-filter-le : {X : Type 0} (p : X → Bool) (xs : List X) → length (filter p xs) ≤ length xs
+length-filter-le p [] = omega arith
+length-filter-le p (x ∷ xs) = kept_le (p x) x (filter p xs) (length xs) (length-filter-le p xs)
+
+length-insertions-le : (entries : List Entry) → length (insertions entries) ≤ length entries
+length-insertions-le [] = omega arith
+length-insertions-le (Insertion x ∷ entries) = omega (arith, length-insertions-le entries)
+length-insertions-le (Deletion t ∷ entries) = omega (arith, length-insertions-le entries)
+
+put_length : {X : Type 0} (R : X → X → Ordering) (b : Bool) (x y : X) (ys zs : List X) → length zs ≡ suc (length ys) → length (cond b (x ∷ y ∷ ys) (y ∷ zs)) ≡ suc (suc (length ys))
+put_length R true x y ys zs e = refl
+put_length R false x y ys zs e = ap suc e
+
+length-put_in_order : {X : Type 0} (R : X → X → Ordering) (x : X) (ys : List X) → length (put_in_order R x ys) ≡ suc (length ys)
+length-put_in_order R x [] = refl
+length-put_in_order R x (y ∷ ys) = put_length R (is_lt (R x y)) x y ys (put_in_order R x ys) (length-put_in_order R x ys)
+
+length-sort_by : {X : Type 0} (R : X → X → Ordering) (xs : List X) → length (sort_by R xs) ≡ length xs
+length-sort_by R [] = refl
+length-sort_by R (x ∷ xs) = length-put_in_order R x (sort_by R xs) ∙ ap suc (length-sort_by R xs)
+
+pub length-visible-le : (entries : List Entry) → length (visible entries) ≤ length entries
+unfolding visible order
+length-visible-le entries =
+    omega (arith, length-filter-le (λ (x : Inserted). not (is_deleted entries x.id)) (sort_by inserted_cmp (insertions entries)), length-sort_by inserted_cmp (insertions entries), length-insertions-le entries)
+
+noted_le : {N : Type 0} (name : N) (o : Option Entry) → length (noted_as name o) ≤ 1
+noted_le name None = omega arith
+noted_le name (Some entry) = omega arith
+
+grown_le : {N : Type 0} (same : N → N → Bool) (b : ℕ) (notes : List (Noted N)) (events : List (Applied N)) → length (fold (grow same b) notes events) ≤ length notes + length events
+grown_le same b notes [] = omega arith
+grown_le same b notes (a ∷ events) =
+    omega (arith, grown_le same b (grow same b notes a) events, length-append notes (noted_as a.name (next_entry same b notes a)), noted_le a.name (next_entry same b notes a))
+
+pub length-tree_of-le : {N : Type 0} (same : N → N → Bool) (b : ℕ) (events : List (Applied N)) → length (tree_of same b events) ≤ length events
+unfolding tree_of
+length-tree_of-le same b events = omega (arith, grown_le same b [] events)
+
+length-applied_after : (before history : List Event) → length (applied_after before history) ≡ length history
+length-applied_after before [] = refl
+length-applied_after before (e ∷ history) = ap suc (length-applied_after (before ++ e ∷ []) history)
+
+pub length-tree-le : (history : List Event) → length (tree history) ≤ length history
+unfolding tree tree_on
+length-tree-le history = omega (arith, length-tree_of-le id_eq 0 (applied_after [] history), length-applied_after [] history)
+
+pub length-text_at-le : (history : List Event) (version : List Id) → length (text_at history version) ≤ length history
+unfolding text_at visible_at
+length-text_at-le history version =
+    let names = ancestors history version in
+    let notes = tree history in
+    let named : Noted Id → Bool = λ n. list_any (id_eq n.name) names in
+    let entries = entries_over id_eq 0 notes names in
+    omega (arith, length-map (visible entries) (λ (x : Inserted). x.ch), length-visible-le entries, length-map (filter named notes) (λ (n : Noted Id). n.entry), length-filter-le named notes, length-tree-le history)
+
+length-version_events-le : (history : List Event) (named : List Id) → length (version_events history named) ≤ length history
+length-version_events-le [] named = omega arith
+length-version_events-le (e ∷ later) named =
+    kept_le (is_among named e.id || is_parent (version_events later named) e.id) e (version_events later named) (length later) (length-version_events-le later named)
+
+pub length-ancestors-le : (history : List Event) (named : List Id) → length (ancestors history named) ≤ length history
+length-ancestors-le history named =
+    omega (arith, length-map (version_events history named) (λ (e : Event). e.id), length-version_events-le history named)
+
+pub length-visible_all-le : (history : List Event) → length (visible (all_entries 0 (tree history))) ≤ length history
+length-visible_all-le history =
+    omega (arith, length-visible-le (all_entries 0 (tree history)), length-map (tree history) (λ (n : Noted Id). n.entry), length-tree-le history)
+
+-- a square of 32 bits has 64
+pub square_fits : (n : ℕ) → n < 2 ^ 32 → n * n < 2 ^ 64
+square_fits n h =
+    let most : n ≤ 4294967295 = omega (arith, h) in
+    let wide : n * n ≤ n * 4294967295 = mul-le-mul_left n most in
+    omega (arith, wide, most)

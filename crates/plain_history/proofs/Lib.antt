@@ -1,0 +1,9 @@
+pub mod Bounds
+pub mod CutTests
+pub mod EntryLaws
+pub mod EventTests
+pub mod Mapped
+pub mod PathLaws
+pub mod Placing
+pub mod RowLaws
+pub mod Turns
