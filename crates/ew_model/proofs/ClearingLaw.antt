@@ -30,11 +30,11 @@ operations-append : (b : ℕ) (notes : List (Noted Id)) (xs ys : List (Applied I
 operations-append b notes [] ys = refl
 operations-append b notes (x ∷ xs) ys = ap (λ ops. next_operation id_eq b notes x ∷ ops) (operations-append b (grow id_eq b notes x) xs ys)
 
-length-operations : (b : ℕ) (notes : List (Noted Id)) (xs : List (Applied Id)) → length (operations_after id_eq b notes xs) ≡ length xs
+pub length-operations : (b : ℕ) (notes : List (Noted Id)) (xs : List (Applied Id)) → length (operations_after id_eq b notes xs) ≡ length xs
 length-operations b notes [] = refl
 length-operations b notes (x ∷ xs) = ap suc (length-operations b (grow id_eq b notes x) xs)
 
-length-applied : (before xs : List Event) → length (applied_after before xs) ≡ length xs
+pub length-applied : (before xs : List Event) → length (applied_after before xs) ≡ length xs
 length-applied before [] = refl
 length-applied before (x ∷ xs) = ap suc (length-applied (before ++ x ∷ []) xs)
 

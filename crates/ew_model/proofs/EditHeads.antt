@@ -45,7 +45,7 @@ heads_reduced history ids there =
     (versions.named_or_parent (λ (e : Event). e.id) (λ (e : Event). e.parents) id_eq history (m ∷ []) f.0 f.1))
 
 -- no two ids of a history tie
-ids_apart : (before later : List Event) → LaidOut before later → NoTies id_cmp (ids_of later)
+pub ids_apart : (before later : List Event) → LaidOut before later → NoTies id_cmp (ids_of later)
 ids_apart before [] laid = tt
 ids_apart before (e ∷ later) laid = (
   all_from (λ y. id_cmp e.id y ≡ Equal → ⊥) (ids_of later) (λ y m tie.

@@ -14,6 +14,7 @@ pub mod CoverLaws
 pub mod CutLaws
 pub mod CutNumbers
 pub mod CutSteps
+pub mod Decimals
 pub mod EditEvents
 pub mod EditHeads
 pub mod EditLaws
@@ -21,6 +22,7 @@ pub mod EditNumbers
 pub mod EditTexts
 pub mod EntryLaws
 pub mod EqualSets
+pub mod EscapedText
 pub mod FileEvents
 pub mod FileFields
 pub mod FileLists
@@ -45,6 +47,7 @@ pub mod LawRows
 pub mod LikeLaws
 pub mod LikeSteps
 pub mod LimitsKept
+pub mod LineLaws
 pub mod ListTests
 pub mod LocalEdit
 pub mod MergeSteps
@@ -77,14 +80,17 @@ pub mod RoundSteps
 pub mod Rows
 pub mod RulingLaws
 pub mod RunLaws
+pub mod ScriptReading
 pub mod SetLaws
 pub mod SiblingLaws
+pub mod SortedLists
 pub mod SortingLaws
 pub mod StateLaws
 pub mod StemLaws
 pub mod SubgraphLaws
 pub mod TableLaws
 pub mod TextLaws
+pub mod TextLengths
 pub mod TouchSteps
 pub mod TreeLaws
 pub mod TurnLaws
@@ -92,3 +98,4 @@ pub mod VersionLaws
 pub mod WalkLaws
 pub mod WalkRows
 pub mod WalkRuns
+pub mod WritableLaws

@@ -9,4 +9,5 @@ pub mod Parts
 pub mod Positions
 pub mod Premises
 pub mod Receiving
+pub mod Scripts
 pub mod Texts

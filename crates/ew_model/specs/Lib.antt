@@ -35,6 +35,9 @@ pub mod ReceivingLaws
 pub mod Records
 pub mod RoundLaw
 pub mod Rounds
+pub mod Runs
+pub mod ScriptLaws
+pub mod Scripts
 pub mod Sets
 pub mod Siblings
 pub mod Sorting

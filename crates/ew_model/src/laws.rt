@@ -7,6 +7,7 @@ pub mod edits;
 pub mod files;
 pub mod orders;
 pub mod positions;
+pub mod scripts;
 pub mod texts;
 pub mod touches;
 pub mod walker;

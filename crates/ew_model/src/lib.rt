@@ -10,6 +10,7 @@ pub mod limits;
 pub mod name;
 pub mod node;
 pub mod parents;
+pub mod run;
 pub mod steps;
 #[cfg(test)]
 mod tests;

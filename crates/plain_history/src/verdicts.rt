@@ -65,7 +65,7 @@ pub fn first_bad(alloc: Global, events: &[Event]) -> Result<Option<(u32, Verdict
 }
 
 fn is_good(verdict: &Verdict) -> bool
-    ensures { result ≡ model.is_good (ruling_of verdict.now) }
+    ensures { result ≡ model.is_verdict_good (ruling_of verdict.now) }
 {
     match verdict {
         Verdict::Good => true,
