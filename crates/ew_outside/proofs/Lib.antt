@@ -1,0 +1,2 @@
+-- Lemmas of the outside.
+pub mod NamedFiles

@@ -1,0 +1,6 @@
+-- The words of the outside: counts, bytes, files, and what the forms in memory are seen as.
+pub mod Counts
+pub mod Bytes
+pub mod Files
+pub mod FileMap
+pub mod Memory

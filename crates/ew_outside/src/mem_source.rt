@@ -1,0 +1,48 @@
+//! A source in memory that fails where a test asks for it.
+ghost use Rattle.std.specs.Prelude.{◌≡◌, ◌↔◌, Some, length, min, IsErr, IfOk, Contains, is_err};
+ghost use Rattle.ew_outside.specs.Counts.{Counts};
+ghost use Rattle.ew_outside.specs.Bytes.{ReadTakes};
+ghost use Rattle.ew_outside.specs.Memory.{after_call};
+
+use crate::{Calls, Failed, Source, UnreadBytes};
+
+/// Bytes in memory. Exactly the listed calls fail.
+#[derive(Debug, Drop)]
+pub struct MemSource {
+    pub left: UnreadBytes,
+    pub calls: Calls,
+}
+
+impl MemSource {
+    /// The first read has the number 0 in the list.
+    pub fn new(bytes: Vec<u8>, failing: Vec<u64>) -> MemSource
+        ensures left { result.left ≡ bytes.items }
+        ensures calls { result.calls ≡ record { failing = failing.items; made = 0; faults = 0 } }
+    {
+        MemSource {
+            left: UnreadBytes::new(bytes),
+            calls: Calls::new(failing),
+        }
+    }
+}
+
+impl Source for MemSource {
+    ghost left = { λ s. Some s.left };
+
+    ghost faults = { λ s. s.calls.faults };
+
+    fn read(&mut self, buf: &mut [u8]) -> Result<usize, Failed>
+        ensures bytes { ReadTakes (Some self.old.left) (Some self.new.left) result buf.new }
+        ensures cause { Counts self.old.calls.faults self.new.calls.faults result }
+        ensures exactly { IsErr result ↔ Contains self.old.calls.failing self.old.calls.made }
+        ensures calls { self.new.calls ≡ after_call self.old.calls (is_err result) }
+        ensures count { IfOk result (λ n. n ≡ min (length self.old.left) (length buf.new)) }
+    {
+        if self.calls.fails_next() {
+            self.calls.count(true);
+            return Err(Failed);
+        }
+        self.calls.count(false);
+        Ok(self.left.give(buf))
+    }
+}

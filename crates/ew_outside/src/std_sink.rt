@@ -1,0 +1,63 @@
+//! A writer of std as a sink.
+ghost use Rattle.std.specs.Prelude.{◌≡◌, None};
+ghost use Rattle.std.specs.Io.KnownBytes.{Keeps};
+ghost use Rattle.ew_outside.specs.Counts.{Counts};
+ghost use Rattle.ew_outside.specs.Bytes.{WriteTakes};
+
+use crate::{Counter, Failed, Sink};
+use std::io::Write;
+
+/// A writer, as standard output or a file. It tells nothing of what was taken, but passes on what it is given.
+#[derive(Debug, Drop)]
+pub struct StdSink<W> {
+    pub writer: W,
+    pub faults: Counter,
+}
+
+impl<W: Write> StdSink<W> {
+    pub fn new(writer: W) -> Self
+        ensures writer { result.writer ≡ writer }
+        ensures faults { result.faults ≡ 0 }
+    {
+        StdSink {
+            writer,
+            faults: Counter::new(),
+        }
+    }
+}
+
+impl<W: Write> Sink for StdSink<W> {
+    ghost taken = { λ _. None };
+
+    ghost flushed = { λ _. None };
+
+    ghost faults = { λ s. s.faults };
+
+    /// A writer that takes none of the bytes that it is given has failed.
+    fn write(&mut self, piece: &[u8]) -> Result<usize, Failed>
+        ensures bytes { WriteTakes None None result piece.now }
+        ensures cause { Counts self.old.faults self.new.faults result }
+        ensures passed { WriteTakes (W.contents self.old.writer) (W.contents self.new.writer) result piece.now }
+    {
+        match self.writer.write(piece) {
+            Ok(count) if count > 0 || piece.is_empty() => Ok(count),
+            _ => {
+                self.faults.rise();
+                Err(Failed)
+            }
+        }
+    }
+
+    fn flush(&mut self) -> Result<(), Failed>
+        ensures cause { Counts self.old.faults self.new.faults result }
+        ensures passed { Keeps (W.contents self.old.writer) (W.contents self.new.writer) }
+    {
+        match self.writer.flush() {
+            Ok(()) => Ok(()),
+            Err(_) => {
+                self.faults.rise();
+                Err(Failed)
+            }
+        }
+    }
+}

@@ -1,0 +1,64 @@
+//! A shelf in memory that never fails.
+ghost use Rattle.std.specs.Prelude.{◌≡◌, ◌+◌, ◌<◌, ◌≤◌, ◌^◌, Some, false, IfOk, IfSome, vec_len};
+ghost use Rattle.std.specs.FinMap.{empty};
+ghost use Rattle.ew_outside.specs.Counts.{CountsFaults, CountsMisses, is_failed};
+ghost use Rattle.ew_outside.specs.Files.{LoadGives, StoreLeaves};
+
+use crate::{Counter, FileMap, Shelf, ShelfFault};
+use std::alloc::Global;
+
+/// Files in memory. Want of memory is its one fault, and isn't counted; a miss is.
+#[derive(Debug, Drop)]
+pub struct SureShelf {
+    pub files: FileMap,
+    pub misses: Counter,
+}
+
+impl SureShelf {
+    /// A shelf without files.
+    pub fn new(alloc: Global) -> SureShelf
+        ensures files { result.files ≡ empty }
+        ensures misses { result.misses ≡ 0 }
+    {
+        SureShelf {
+            files: FileMap::new(alloc),
+            misses: Counter::new(),
+        }
+    }
+}
+
+impl Shelf for SureShelf {
+    ghost files = { λ s. Some s.files };
+
+    ghost faults = { λ _. 0 };
+
+    ghost misses = { λ s. s.misses };
+
+    fn load(&mut self, name: &str, max: usize) -> Result<Option<Vec<u8>>, ShelfFault>
+        requires { max < 2 ^ 62 }
+        ensures bytes { LoadGives (Some self.old.files) name.now max result }
+        ensures most { IfOk result (λ found. IfSome found (λ v. vec_len v ≤ max + 1)) }
+        ensures same { Some self.new.files ≡ Some self.old.files }
+        ensures cause { CountsFaults 0 0 result }
+        ensures misses { CountsMisses self.old.misses self.new.misses result }
+        ensures sure { is_failed result ≡ false }
+    {
+        match self.files.first(name, max)? {
+            Some(bytes) => Ok(Some(bytes)),
+            None => {
+                self.misses.rise();
+                Ok(None)
+            }
+        }
+    }
+
+    fn store(&mut self, name: &str, bytes: &[u8]) -> Result<(), ShelfFault>
+        ensures left { StoreLeaves (Some self.old.files) (Some self.new.files) name.now bytes.now result }
+        ensures cause { CountsFaults 0 0 result }
+        ensures misses { self.new.misses ≡ self.old.misses }
+        ensures sure { is_failed result ≡ false }
+    {
+        self.files.put(name, bytes)?;
+        Ok(())
+    }
+}
