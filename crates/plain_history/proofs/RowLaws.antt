@@ -1,11 +1,13 @@
 -- The first of rows in parts.
-use Rattle.std.proofs.Common.{◌≡◌, ℕ, Bool, true, false, List, [], ◌∷◌, ◌++◌, Option, Some, None, if◌then◌else◌, length, refl, sym, ap, ◌∙◌}
+use Rattle.std.proofs.Common.{◌≡◌, ◌≤◌, ◌<◌, nat_le, Bool, true, false, List, [], ◌∷◌, ◌++◌, Option, Some, None, if◌then◌else◌, length, refl, sym, ap, ◌∙◌, append_assoc}
 use Rattle.std.specs.Bool.{then_some}
 use Rattle.std.specs.Option.{unwrap_or}
 use Rattle.ew_model.specs.declared.event.Event.{Event}
+use Rattle.ew_model.specs.Limits.{LimitNumbers}
+use Rattle.std.proofs.lemmas.Bool.{false≢true, le-leb, lt-leb}
 use Rattle.ew_model.specs.Texts.{text_at}
-use Rattle.ew_model.specs.Verdicts.{Ruling, first_row, range_rows, is_outside}
-use Rattle.ew_model.specs.Verdicts.Ruling.{OutOfRange, Good}
+use Rattle.ew_model.specs.Verdicts.{Ruling, first_row, id_rows, parent_rows, size_rows, range_rows, is_outside, verdict}
+use Rattle.ew_model.specs.Verdicts.Ruling.{GraphFull, OutOfRange, Good}
 use Rattle.plain_history.specs.Judging.{row_in, index_ruling}
 
 first_row-append : (xs ys : List (Option Ruling)) → first_row (xs ++ ys) ≡ unwrap_or (row_in xs) (first_row ys)
@@ -13,27 +15,27 @@ first_row-append [] ys = refl
 first_row-append (None ∷ xs) ys = first_row-append xs ys
 first_row-append (Some r ∷ xs) ys = refl
 
-row_in-append : (xs ys : List (Option Ruling)) → row_in xs ≡ None → row_in (xs ++ ys) ≡ row_in ys
-row_in-append [] ys e = refl
-row_in-append (None ∷ xs) ys e = row_in-append xs ys e
-row_in-append (Some r ∷ xs) ys e = let no : ⊥ = cc in absurd no
+pub first_row-alone : (xs : List (Option Ruling)) → first_row xs ≡ unwrap_or (row_in xs) Good
+first_row-alone [] = refl
+first_row-alone (None ∷ xs) = first_row-alone xs
+first_row-alone (Some r ∷ xs) = refl
 
-row_in-found : (xs ys : List (Option Ruling)) (r : Ruling) → row_in xs ≡ Some r → row_in (xs ++ ys) ≡ Some r
-row_in-found [] ys r e = let no : ⊥ = cc in absurd no
-row_in-found (None ∷ xs) ys r e = row_in-found xs ys r e
-row_in-found (Some q ∷ xs) ys r e = e
+pub row_in-none : (xs ys : List (Option Ruling)) → None ≡ row_in xs → row_in (xs ++ ys) ≡ row_in ys
+row_in-none [] ys e = refl
+row_in-none (None ∷ xs) ys e = row_in-none xs ys e
+row_in-none (Some r ∷ xs) ys e = let no : ⊥ = cc in absurd no
 
-pub by_first : (xs ys zs : List (Option Ruling)) (r : Ruling) → Some r ≡ row_in xs → r ≡ first_row (xs ++ ys ++ zs)
-by_first xs ys zs r e =
-    sym (first_row-append (xs ++ ys) zs ∙ ap (λ o. unwrap_or o (first_row zs)) (row_in-found xs ys r (sym e)))
+pub row_in-some : (xs ys : List (Option Ruling)) (r : Ruling) → Some r ≡ row_in xs → row_in (xs ++ ys) ≡ Some r
+row_in-some [] ys r e = let no : ⊥ = cc in absurd no
+row_in-some (None ∷ xs) ys r e = row_in-some xs ys r e
+row_in-some (Some q ∷ xs) ys r e = sym e
 
-pub by_second : (xs ys zs : List (Option Ruling)) (r : Ruling) → None ≡ row_in xs → Some r ≡ row_in ys → r ≡ first_row (xs ++ ys ++ zs)
-by_second xs ys zs r e f =
-    sym (first_row-append (xs ++ ys) zs ∙ ap (λ o. unwrap_or o (first_row zs)) (row_in-append xs ys (sym e) ∙ sym f))
+-- the first row stands in the first part, or in the second
+pub first_row-some : (xs ys : List (Option Ruling)) (r : Ruling) → Some r ≡ row_in xs → first_row (xs ++ ys) ≡ r
+first_row-some xs ys r e = first_row-append xs ys ∙ ap (λ o. unwrap_or o (first_row ys)) (sym e)
 
-pub by_last : (xs ys zs : List (Option Ruling)) → None ≡ row_in xs → None ≡ row_in ys → first_row zs ≡ first_row (xs ++ ys ++ zs)
-by_last xs ys zs e f =
-    sym (first_row-append (xs ++ ys) zs ∙ ap (λ o. unwrap_or o (first_row zs)) (row_in-append xs ys (sym e) ∙ sym f))
+pub first_row-none : (xs ys : List (Option Ruling)) → None ≡ row_in xs → first_row (xs ++ ys) ≡ first_row ys
+first_row-none xs ys e = first_row-append xs ys ∙ ap (λ o. unwrap_or o (first_row ys)) (sym e)
 
 one_row : (b : Bool) (r : Ruling) → first_row (then_some b r ∷ []) ≡ (if b then r else Good)
 one_row true r = refl
@@ -42,3 +44,27 @@ one_row false r = refl
 pub first_row-range : (held : List Event) (e : Event) → first_row (range_rows held e) ≡ index_ruling (length (text_at held e.parents)) e.op
 unfolding range_rows
 first_row-range held e = one_row (is_outside (length (text_at held e.parents)) e.op) (OutOfRange (length (text_at held e.parents)))
+
+-- the rows in front decide, or the history is full, or else the index
+pub by_limits : (limits : LimitNumbers) (held waiting : List Event) (e : Event) → verdict limits true held waiting e ≡ first_row ((id_rows held waiting e ++ parent_rows held e) ++ (size_rows limits held ++ range_rows held e))
+by_limits limits held waiting e =
+    ap first_row (ap (λ rows. id_rows held waiting e ++ rows) (append_assoc (parent_rows held e) (size_rows limits held) (range_rows held e))
+    ∙ sym (append_assoc (id_rows held waiting e) (parent_rows held e) (size_rows limits held ++ range_rows held e)))
+
+size_full : (b : Bool) (rows : List (Option Ruling)) → b ≡ true → first_row (then_some b GraphFull ∷ rows) ≡ GraphFull
+size_full true rows e = refl
+size_full false rows e = absurd (false≢true e)
+
+size_free : (b : Bool) (rows : List (Option Ruling)) → b ≡ false → first_row (then_some b GraphFull ∷ rows) ≡ first_row rows
+size_free true rows e = absurd (false≢true (sym e))
+size_free false rows e = refl
+
+pub first_row-full : (limits : LimitNumbers) (held : List Event) (rows : List (Option Ruling)) → limits.events ≤ length held → first_row (size_rows limits held ++ rows) ≡ GraphFull
+unfolding size_rows
+first_row-full limits held rows h = size_full (nat_le limits.events (length held)) rows (le-leb limits.events (length held) h)
+
+pub first_row-free : (limits : LimitNumbers) (held : List Event) (rows : List (Option Ruling)) → length held < limits.events → first_row (size_rows limits held ++ rows) ≡ first_row rows
+unfolding size_rows
+first_row-free limits held rows h = size_free (nat_le limits.events (length held)) rows (lt-leb limits.events (length held) h)
+
+pub ruleset row_steps = (row_in-none, row_in-some, first_row-some, first_row-none, by_limits, first_row-full, first_row-free)

@@ -19,5 +19,5 @@ pub use ew_model::NoMem;
 pub use text::{text_at, text_of};
 pub use text_ops::operations;
 pub use touch_count::touches;
-pub use verdicts::{first_bad, next_verdict, verdict};
+pub use verdicts::{first_bad, graph_verdict, next_verdict, verdict, verdict_within};
 pub use versions::{ancestors, heads};

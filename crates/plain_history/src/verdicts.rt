@@ -1,6 +1,6 @@
 //! How an event is judged.
 
-ghost use Rattle.std.specs.Prelude.{◌≡◌, ◌<◌, ◌^◌, IfOk, length, option_map, not, find};
+ghost use Rattle.std.specs.Prelude.{◌≡◌, ◌<◌, ◌^◌, ◌++◌, true, IfOk, length, option_map, not, find};
 ghost use Rattle.std.specs.Option.{option_copied};
 ghost use Rattle.std.specs.List.{list_any};
 ghost use Rattle.ew_model.specs.Ancestors as held;
@@ -9,7 +9,7 @@ ghost use Rattle.ew_model.specs.Events.{event_eq};
 ghost use Rattle.ew_model.specs.Texts.{text_at};
 ghost use Rattle.ew_model.specs.Tree as trees;
 ghost use Rattle.ew_model.specs.Verdicts as model;
-ghost use Rattle.plain_history.specs.Judging.{rows, row_in, index_ruling, bad_event};
+ghost use Rattle.plain_history.specs.Judging.{rows, row_in, index_ruling, ruling_or_full, bad_event};
 
 use crate::NoMem;
 use crate::ids::{ascend, is_among};
@@ -18,6 +18,7 @@ use crate::tree::Tree;
 use crate::versions::{ancestors, is_held, is_reduced};
 use ew_model::event::{Event, Op};
 use ew_model::id::Id;
+use ew_model::limits::Limits;
 use ew_model::verdict::Verdict;
 use std::alloc::Global;
 
@@ -44,6 +45,40 @@ pub fn verdict(
 {
     let tree = Tree::of(alloc, history)?;
     judge(alloc, &tree, history, waiting, e)
+}
+
+/// The verdict on a received event, where the history may hold so many events. None where it holds as many as it may, and
+/// no row by the id or the parents holds.
+#[tactic(auto, using(crate::proofs::RowLaws::row_steps))]
+pub fn verdict_within(
+    alloc: Global,
+    limits: &Limits,
+    history: &[Event],
+    waiting: &[Event],
+    e: &Event,
+) -> Result<Option<Verdict>, NoMem>
+    requires { length history.now < 2 ^ 32 }
+    ensures { IfOk result (λ v. ruling_or_full v ≡ model.verdict limits.now true history.now waiting.now e.now) }
+{
+    if let Some(verdict) = judge_form(alloc, history, waiting, e)? {
+        return Ok(Some(verdict));
+    }
+    if history.len() >= limits.events() as usize {
+        return Ok(None);
+    }
+    let tree = Tree::of(alloc, history)?;
+    Ok(Some(judge_index(alloc, &tree, history, e)?))
+}
+
+/// The verdict by the events held alone, whatever the event's index and their number. It is never OutOfRange.
+#[tactic(auto, using(crate::proofs::RowLaws::row_steps))]
+pub fn graph_verdict(alloc: Global, history: &[Event], e: &Event) -> Result<Verdict, NoMem>
+    ensures { IfOk result (λ v. ruling_of v ≡ model.graph_verdict history.now e.now) }
+{
+    match judge_form(alloc, history, &[], e)? {
+        Some(verdict) => Ok(verdict),
+        None => Ok(Verdict::Good),
+    }
 }
 
 /// The position of the first event of a list that isn't good behind those before it, and the verdict on it.
@@ -74,6 +109,7 @@ fn is_good(verdict: &Verdict) -> bool
 }
 
 /// The verdict on an event, by the tree of the history.
+#[tactic(auto, using(crate::proofs::RowLaws::row_steps))]
 fn judge(
     alloc: Global,
     tree: &Tree,
@@ -85,14 +121,26 @@ fn judge(
     requires few { length history.now < 2 ^ 32 }
     ensures { IfOk result (λ v. ruling_of v ≡ model.first_row (rows history.now waiting.now e.now)) }
 {
-    if let Some(verdict) = judge_id(history, waiting, e) {
-        return Ok(verdict);
+    match judge_form(alloc, history, waiting, e)? {
+        Some(verdict) => Ok(verdict),
+        None => judge_index(alloc, tree, history, e),
     }
-    if let Some(verdict) = judge_parents(alloc, history, e)? {
-        return Ok(verdict);
+}
+
+/// By the id and the parents. None where no such row holds.
+#[tactic(auto, using(crate::proofs::RowLaws::row_steps))]
+fn judge_form(
+    alloc: Global,
+    history: &[Event],
+    waiting: &[Event],
+    e: &Event,
+) -> Result<Option<Verdict>, NoMem>
+    ensures { IfOk result (λ v. option_map ruling_of v ≡ row_in (model.id_rows history.now waiting.now e.now ++ model.parent_rows history.now e.now)) }
+{
+    match judge_id(history, waiting, e) {
+        Some(verdict) => Ok(Some(verdict)),
+        None => judge_parents(alloc, history, e),
     }
-    let text = text_by(alloc, tree, history, e.parents.as_slice())?;
-    Ok(judge_index(text.len() as u32, e.op))
 }
 
 /// By the id, against the events held and waiting.
@@ -136,8 +184,17 @@ fn judge_parents(alloc: Global, history: &[Event], e: &Event) -> Result<Option<V
     Ok(None)
 }
 
-/// By the index, in a text of this length.
-fn judge_index(len: u32, op: Op) -> Verdict
+/// By the index, in the text at the event's parents.
+fn judge_index(alloc: Global, tree: &Tree, history: &[Event], e: &Event) -> Result<Verdict, NoMem>
+    requires tree { tree.now ≡ trees.tree history.now }
+    requires few { length history.now < 2 ^ 32 }
+    ensures { IfOk result (λ v. ruling_of v ≡ model.first_row (model.range_rows history.now e.now)) }
+{
+    let text = text_by(alloc, tree, history, e.parents.as_slice())?;
+    Ok(judge_in_text(text.len() as u32, e.op))
+}
+
+fn judge_in_text(len: u32, op: Op) -> Verdict
     ensures { ruling_of result ≡ index_ruling len op }
 {
     let is_outside = match op {

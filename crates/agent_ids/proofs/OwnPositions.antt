@@ -1,0 +1,264 @@
+-- The positions of each agent's ids, with one more id and with the last one away.
+use Rattle.std.proofs.Common.{◌≡◌, ℕ, zero, suc, ◌+◌, ◌<◌, ◌≤◌, Bool, true, false, cond, ◌||◌, List, [], ◌∷◌, ◌++◌, map, length, nat_eq, slice_get, get_or, position, Option, Some, None, option_map, is_some, IsSome, IfSome, nat_lt, refl, sym, ap, ◌∙◌, subst, arith, length-append}
+use Rattle.std.specs.List.{list_any, position_or_len}
+use Rattle.std.specs.Option.{option_to_list}
+use Rattle.std.proofs.Math.ListN.{set}
+use Rattle.std.proofs.lemmas.Bool.{true_from_ne_false, ltb-true}
+use Rattle.std.proofs.lemmas.List.{map-set, map-append, length-map, same_from_push}
+use Rattle.std.specs.Cmp.Lexicographic.{pointwise}
+use Rattle.ew_model.specs.declared.id.Id.{Id}
+use Rattle.ew_model.specs.Ids.{name_eq}
+use Rattle.ew_model.proofs.TextLaws.{position-cons}
+use Rattle.agent_ids.specs.Agents.{agents_of, count_of}
+use Rattle.agent_ids.specs.Table.{positions_from, positions_of, AreAgents}
+use Rattle.agent_ids.proofs.Agents.{names_tested, names_alike, one_name, agents_push, agents_few, count_cons, is_agent, AreDistinct, agents_distinct}
+
+-- as many as the agent has ids
+positions-length-from : (n : ℕ) (ids : List Id) (agent : List ℕ) → length (positions_from n ids agent) ≡ count_of ids agent
+positions-length-from n [] agent = refl
+positions-length-from n (x ∷ ids) agent =
+    at (name_eq x.agent agent) (positions-length-from (suc n) ids agent) ∙ sym (count_cons x ids agent)
+  where
+    at : (b : Bool) → length (positions_from (suc n) ids agent) ≡ count_of ids agent → length (cond b (n ∷ positions_from (suc n) ids agent) (positions_from (suc n) ids agent)) ≡ cond b 1 0 + count_of ids agent
+    at true e = omega (arith, e)
+    at false e = omega (arith, e)
+
+pub positions-length : (ids : List Id) (agent : List ℕ) → length (positions_of ids agent) ≡ count_of ids agent
+positions-length ids agent = positions-length-from 0 ids agent
+
+-- one more id
+positions-push-from : (n : ℕ) (ids : List Id) (x : Id) (agent : List ℕ)
+    → positions_from n (ids ++ x ∷ []) agent ≡ cond (name_eq x.agent agent) (positions_from n ids agent ++ (n + length ids) ∷ []) (positions_from n ids agent)
+positions-push-from n [] x agent = let none : n ≡ n + 0 = omega arith in ap (λ p. cond (name_eq x.agent agent) (p ∷ []) []) none
+positions-push-from n (y ∷ ids) x agent =
+    let next : suc n + length ids ≡ n + suc (length ids) = omega arith in
+    ap (λ ps. cond (name_eq y.agent agent) (n ∷ ps) ps)
+    (positions-push-from (suc n) ids x agent ∙ ap (λ p. cond (name_eq x.agent agent) (positions_from (suc n) ids agent ++ p ∷ []) (positions_from (suc n) ids agent)) next)
+    ∙ at (name_eq y.agent agent) (name_eq x.agent agent) (positions_from (suc n) ids agent) (n + suc (length ids))
+  where
+    at : (b c : Bool) (ps : List ℕ) (p : ℕ) → cond b (n ∷ cond c (ps ++ p ∷ []) ps) (cond c (ps ++ p ∷ []) ps) ≡ cond c (cond b (n ∷ ps) ps ++ p ∷ []) (cond b (n ∷ ps) ps)
+    at true true ps p = refl
+    at true false ps p = refl
+    at false true ps p = refl
+    at false false ps p = refl
+
+positions-push : (ids : List Id) (x : Id) (agent : List ℕ) → positions_of (ids ++ x ∷ []) agent ≡ cond (name_eq x.agent agent) (positions_of ids agent ++ length ids ∷ []) (positions_of ids agent)
+positions-push ids x agent =
+    let none : 0 + length ids ≡ length ids = omega arith in
+    positions-push-from 0 ids x agent ∙ ap (λ p. cond (name_eq x.agent agent) (positions_of ids agent ++ p ∷ []) (positions_of ids agent)) none
+
+positions-push_own : (ids : List Id) (x : Id) → positions_of (ids ++ x ∷ []) x.agent ≡ positions_of ids x.agent ++ length ids ∷ []
+positions-push_own ids x = positions-push ids x x.agent ∙ ap (λ b. cond b (positions_of ids x.agent ++ length ids ∷ []) (positions_of ids x.agent)) (names_alike.refl x.agent)
+
+positions-push_other : (ids : List Id) (x : Id) (agent : List ℕ) → name_eq x.agent agent ≡ false → positions_of (ids ++ x ∷ []) agent ≡ positions_of ids agent
+positions-push_other ids x agent h = positions-push ids x agent ∙ ap (λ b. cond b (positions_of ids agent ++ length ids ∷ []) (positions_of ids agent)) h
+
+-- who is no agent has none
+none-from : (n : ℕ) (ids : List Id) (agent : List ℕ) → list_any (λ (x : Id). name_eq x.agent agent) ids ≡ false → positions_from n ids agent ≡ []
+none-from n [] agent h = refl
+none-from n (x ∷ ids) agent h = at (name_eq x.agent agent) h (λ k. none-from (suc n) ids agent k)
+  where
+    at : (b : Bool) → (b || list_any (λ (y : Id). name_eq y.agent agent) ids) ≡ false → (list_any (λ (y : Id). name_eq y.agent agent) ids ≡ false → positions_from (suc n) ids agent ≡ [])
+        → cond b (n ∷ positions_from (suc n) ids agent) (positions_from (suc n) ids agent) ≡ []
+    at true k f = let no : ⊥ = cc in absurd no
+    at false k f = f k
+
+some-from : (n : ℕ) (ids : List Id) (agent : List ℕ) → positions_from n ids agent ≡ [] → list_any (λ (x : Id). name_eq x.agent agent) ids ≡ false
+some-from n [] agent h = refl
+some-from n (x ∷ ids) agent h = at (name_eq x.agent agent) h (λ k. some-from (suc n) ids agent k)
+  where
+    at : (b : Bool) → cond b (n ∷ positions_from (suc n) ids agent) (positions_from (suc n) ids agent) ≡ [] → (positions_from (suc n) ids agent ≡ [] → list_any (λ (y : Id). name_eq y.agent agent) ids ≡ false)
+        → (b || list_any (λ (y : Id). name_eq y.agent agent) ids) ≡ false
+    at true k f = let no : ⊥ = cc in absurd no
+    at false k f = f k
+
+pub none_of : (ids : List Id) (agent : List ℕ) → list_any (name_eq agent) (agents_of ids) ≡ false → positions_of ids agent ≡ []
+none_of ids agent h = none-from 0 ids agent (sym (is_agent ids agent) ∙ h)
+
+agent_of : (ids : List Id) (agent : List ℕ) → positions_of ids agent ≡ [] → list_any (name_eq agent) (agents_of ids) ≡ false
+agent_of ids agent h = is_agent ids agent ∙ some-from 0 ids agent h
+
+-- What a search finds.
+is_some_at : (b : Bool) (o : Option ℕ) → is_some (cond b (Some 0) (option_map (λ i. 1 + i) o)) ≡ (b || is_some o)
+is_some_at true o = refl
+is_some_at false None = refl
+is_some_at false (Some i) = refl
+
+pub is_some-position : {X : Type 0} (p : X → Bool) (xs : List X) → is_some (position p xs) ≡ list_any p xs
+is_some-position p [] = refl
+is_some-position p (x ∷ xs) = ap is_some (position-cons p x xs) ∙ is_some_at (p x) (position p xs) ∙ ap (λ b. p x || b) (is_some-position p xs)
+
+within_at : (b : Bool) (k n long : ℕ) → nat_lt k long ≡ b → Some n ≡ cond b (Some k) None → n < long
+within_at true k n long h e = let same : n ≡ k = cc in let low : k < long = ltb-true k long h in omega (arith, same, low)
+within_at false k n long h e = let no : ⊥ = cc in absurd no
+
+-- a place that is found is in the list
+pub position_within : {X : Type 0} (p : X → Bool) (xs : List X) (o : Option ℕ) → o ≡ position p xs → IfSome o (λ n. n < length xs)
+position_within p xs None e = tt
+position_within p xs (Some n) e = within_at (nat_lt (position_or_len p xs) (length xs)) (position_or_len p xs) n (length xs) refl e
+
+pub found_name : (names : List (List ℕ)) (a : List ℕ) (n : ℕ) → position (name_eq a) names ≡ Some n → slice_get names n ≡ Some a
+found_name [] a n h = let no : ⊥ = cc in absurd no
+found_name (b ∷ names) a n h = at (name_eq a b) refl (position (name_eq a) names) (sym (position-cons (name_eq a) b names) ∙ h) (λ i e. found_name names a i e)
+  where
+    at : (c : Bool) → name_eq a b ≡ c → (o : Option ℕ) → cond c (Some 0) (option_map (λ i. 1 + i) o) ≡ Some n → ((i : ℕ) → o ≡ Some i → slice_get names i ≡ Some a) → slice_get (b ∷ names) n ≡ Some a
+    at true c o k f = let first : 0 ≡ n = cc in subst (λ m. slice_get (b ∷ names) m ≡ Some a) first (ap Some (sym (one_name a b c)))
+    at false c None k f = let no : ⊥ = cc in absurd no
+    at false c (Some i) k f = let there : 1 + i ≡ n = cc in let next : suc i ≡ n = omega (arith, there) in subst (λ m. slice_get (b ∷ names) m ≡ Some a) next (f i refl)
+
+slice_get-map : {X Y : Type 0} (f : X → Y) (xs : List X) (n : ℕ) (x : X) → slice_get xs n ≡ Some x → slice_get (map f xs) n ≡ Some (f x)
+slice_get-map f [] n x h = let no : ⊥ = cc in absurd no
+slice_get-map f (y ∷ xs) zero x h = let one : y ≡ x = cc in ap (λ z. Some (f z)) one
+slice_get-map f (y ∷ xs) (suc n) x h = slice_get-map f xs n x h
+
+-- functions that differ at one name alone, where it isn't and where it is
+alike_elsewhere : (f g : List ℕ → List ℕ) (names : List (List ℕ)) (a : List ℕ) → list_any (name_eq a) names ≡ false → ((b : List ℕ) → name_eq a b ≡ false → g b ≡ f b) → map f names ≡ map g names
+alike_elsewhere f g [] a h other = refl
+alike_elsewhere f g (b ∷ names) a h other = at (name_eq a b) refl h (λ k. alike_elsewhere f g names a k other)
+  where
+    at : (c : Bool) → name_eq a b ≡ c → (c || list_any (name_eq a) names) ≡ false → (list_any (name_eq a) names ≡ false → map f names ≡ map g names) → f b ∷ map f names ≡ g b ∷ map g names
+    at true c k rest = let no : ⊥ = cc in absurd no
+    at false c k rest = λ i. sym (other b c) i ∷ rest k i
+
+one_changed : (f g : List ℕ → List ℕ) (names : List (List ℕ)) (a : List ℕ) (n : ℕ) → AreDistinct names → position (name_eq a) names ≡ Some n → ((b : List ℕ) → name_eq a b ≡ false → g b ≡ f b)
+    → set (map f names) n (g a) ≡ map g names
+one_changed f g [] a n d h other = let no : ⊥ = cc in absurd no
+one_changed f g (b ∷ names) a n d h other =
+    at (name_eq a b) refl (position (name_eq a) names) (sym (position-cons (name_eq a) b names) ∙ h) (λ i e. one_changed f g names a i d.1 e other)
+  where
+    at : (c : Bool) → name_eq a b ≡ c → (o : Option ℕ) → cond c (Some 0) (option_map (λ i. 1 + i) o) ≡ Some n → ((i : ℕ) → o ≡ Some i → set (map f names) i (g a) ≡ map g names) → set (f b ∷ map f names) n (g a) ≡ g b ∷ map g names
+    at true c o k rest =
+        let first : 0 ≡ n = cc in
+        let one : a ≡ b = one_name a b c in
+        subst (λ m. set (f b ∷ map f names) m (g a) ≡ g b ∷ map g names) first
+        (λ i. g (one i) ∷ alike_elsewhere f g names a (ap (λ x. list_any (name_eq x) names) one ∙ d.0) other i)
+    at false c None k rest = let no : ⊥ = cc in absurd no
+    at false c (Some i) k rest =
+        let there : 1 + i ≡ n = cc in
+        let next : suc i ≡ n = omega (arith, there) in
+        subst (λ m. set (f b ∷ map f names) m (g a) ≡ g b ∷ map g names) next (λ j. sym (other b c) j ∷ rest i refl j)
+
+-- The code's search by name is that of the definitions.
+pub searched : (names : List (List ℕ)) (a : List ℕ) → position (pointwise nat_eq a) names ≡ position (name_eq a) names
+searched names a = ap (λ (same : List ℕ → List ℕ → Bool). position (same a) names) (sym names_tested)
+
+-- No more agents are kept than there are ids.
+pub kept_few : (ids : List Id) (names lists : List (List ℕ)) → AreAgents ids names lists → length names ≤ length ids
+kept_few ids names lists t = let long = ap (length {A = List ℕ}) t.named in let few = agents_few ids in omega (arith, long, few)
+
+pub kept_alike : (ids : List Id) (names lists : List (List ℕ)) → AreAgents ids names lists → length lists ≡ length names
+kept_alike ids names lists t = ap (length {A = List ℕ}) t.placed ∙ length-map names (positions_of ids)
+
+-- An agent's number is the place of its name, and who has none has no positions.
+pub number_at : (ids : List Id) (names lists : List (List ℕ)) (a : List ℕ) (o : Option ℕ) → AreAgents ids names lists → o ≡ position (pointwise nat_eq a) names → o ≡ position (name_eq a) (agents_of ids)
+number_at ids names lists a o t e = e ∙ searched names a ∙ ap (position (name_eq a)) t.named
+
+pub no_positions : (ids : List Id) (names lists : List (List ℕ)) (a : List ℕ) → AreAgents ids names lists → position (pointwise nat_eq a) names ≡ None → positions_of ids a ≡ []
+no_positions ids names lists a t e = none_of ids a (ap (list_any (name_eq a)) (sym t.named) ∙ sym (is_some-position (name_eq a) names) ∙ ap is_some (sym (searched names a) ∙ e))
+
+-- ONE MORE ID of a new agent, which comes last.
+pub more_of_new : (ids : List Id) (x : Id) (names : List (List ℕ)) (lists : List (List ℕ)) → AreAgents ids names lists → position (pointwise nat_eq x.agent) names ≡ None
+    → AreAgents (ids ++ x ∷ []) (names ++ x.agent ∷ []) (lists ++ (length ids ∷ []) ∷ [])
+more_of_new ids x names lists t h =
+    let absent : list_any (name_eq x.agent) names ≡ false = sym (is_some-position (name_eq x.agent) names) ∙ ap is_some (sym (searched names x.agent) ∙ h) in
+    let new : list_any (name_eq x.agent) (agents_of ids) ≡ false = ap (list_any (name_eq x.agent)) (sym t.named) ∙ absent in
+    let first : positions_of (ids ++ x ∷ []) x.agent ≡ length ids ∷ [] = positions-push_own ids x ∙ ap (λ ps. ps ++ length ids ∷ []) (none_of ids x.agent new) in
+    record {
+      named = ap (λ ns. ns ++ x.agent ∷ []) t.named ∙ sym (agents_push ids x ∙ ap (λ b. cond b (agents_of ids) (agents_of ids ++ x.agent ∷ [])) new);
+      placed = (λ i. (t.placed ∙ alike_elsewhere (positions_of ids) (positions_of (ids ++ x ∷ [])) names x.agent absent (positions-push_other ids x)) i ++ sym first i ∷ []) ∙ sym (map-append (positions_of (ids ++ x ∷ [])) names (x.agent ∷ []));
+    }
+
+-- the last id's agent is there
+pub has_place : (ids : List Id) (x : Id) (names lists : List (List ℕ)) → AreAgents (ids ++ x ∷ []) names lists → position (pointwise nat_eq x.agent) names ≡ None → ⊥
+has_place ids x names lists t e =
+    let none : positions_of (ids ++ x ∷ []) x.agent ≡ [] = no_positions (ids ++ x ∷ []) names lists x.agent t e in
+    let long = ap (length {A = ℕ}) (sym (positions-push_own ids x) ∙ none) in
+    omega (arith, long, length-append (positions_of ids x.agent) (length ids ∷ []))
+
+listed : {X : Type 0} (o : Option X) → IsSome o → (x : X) × (option_to_list o ≡ x ∷ [])
+listed None h = let no : ⊥ = cc in absurd no
+listed (Some x) h = (x, refl)
+
+module _ {V : Type 0} (items : V → List ℕ) where
+  -- what an agent's place holds are its positions
+  pub own_at : (ids : List Id) (names : List (List ℕ)) (vs : List V) (a : List ℕ) (n : ℕ) (v : V) → AreAgents ids names (map items vs) → position (pointwise nat_eq a) names ≡ Some n → v ≡ get_or vs n v
+      → n < length vs → items v ≡ positions_of ids a
+  own_at ids names vs a n v t h is within =
+      let there : slice_get (map items vs) n ≡ Some (positions_of ids a) =
+      ap (λ ps. slice_get ps n) t.placed ∙ slice_get-map (positions_of ids) names n a (found_name names a n (sym (searched names a) ∙ h)) in
+      at (slice_get-map items vs n v (within_get vs n v within ∙ ap Some (sym is))) there
+    where
+      within_get : (xs : List V) (i : ℕ) (d : V) → i < length xs → slice_get xs i ≡ Some (get_or xs i d)
+      within_get [] i d l = absurd (omega (arith, l))
+      within_get (x ∷ xs) zero d l = refl
+      within_get (x ∷ xs) (suc i) d l = within_get xs i d (omega (arith, l))
+
+      at : slice_get (map items vs) n ≡ Some (items v) → slice_get (map items vs) n ≡ Some (positions_of ids a) → items v ≡ positions_of ids a
+      at p q = cc
+
+  -- the place is there
+  pub place_within : (ids : List Id) (names : List (List ℕ)) (vs : List V) (n : ℕ) → AreAgents ids names (map items vs) → n < length names → n < length vs
+  place_within ids names vs n t h = let long = ap (length {A = List ℕ}) t.placed in omega (arith, h, long, length-map vs items, length-map names (positions_of ids))
+
+  -- ONE MORE ID of an agent that is there: its positions have one more, and the others stay.
+  pub more_of_agent : (ids : List Id) (x : Id) (names : List (List ℕ)) (vs : List V) (n : ℕ) (old new : V) → AreAgents ids names (map items vs) → position (pointwise nat_eq x.agent) names ≡ Some n
+      → old ≡ get_or vs n old → n < length vs → items new ≡ items old ++ length ids ∷ [] → AreAgents (ids ++ x ∷ []) names (map items (set vs n new))
+  more_of_agent ids x names vs n old new t h is within put =
+      let place : position (name_eq x.agent) names ≡ Some n = sym (searched names x.agent) ∙ h in
+      let grown : items new ≡ positions_of (ids ++ x ∷ []) x.agent =
+      put ∙ ap (λ ps. ps ++ length ids ∷ []) (own_at ids names vs x.agent n old t h is within) ∙ sym (positions-push_own ids x) in
+      let there : list_any (name_eq x.agent) (agents_of ids) ≡ true = ap (list_any (name_eq x.agent)) (sym t.named) ∙ sym (is_some-position (name_eq x.agent) names) ∙ ap is_some place in
+      record {
+        named = t.named ∙ sym (agents_push ids x ∙ ap (λ b. cond b (agents_of ids) (agents_of ids ++ x.agent ∷ [])) there);
+        placed = map-set items vs n new ∙ (λ i. set (t.placed i) n (grown i))
+            ∙ one_changed (positions_of ids) (positions_of (ids ++ x ∷ [])) names x.agent n (subst AreDistinct (sym t.named) (agents_distinct ids)) place (positions-push_other ids x);
+      }
+
+  -- THE LAST ID AWAY: its agent's positions without the last are those that it has then, and the others stay.
+  less_places : (ids : List Id) (x : Id) (names : List (List ℕ)) (vs : List V) (n : ℕ) (old new : V) (last : Option ℕ) → AreAgents (ids ++ x ∷ []) names (map items vs) → position (pointwise nat_eq x.agent) names ≡ Some n
+      → old ≡ get_or vs n old → n < length vs → items old ≡ items new ++ option_to_list last → (0 < length (items old) → IsSome last)
+      → (items new ≡ positions_of ids x.agent) × (map items (set vs n new) ≡ map (positions_of ids) names)
+  less_places ids x names vs n old new last t h is within put some =
+      let place : position (name_eq x.agent) names ≡ Some n = sym (searched names x.agent) ∙ h in
+      let own : items old ≡ positions_of ids x.agent ++ length ids ∷ [] = own_at (ids ++ x ∷ []) names vs x.agent n old t h is within ∙ positions-push_own ids x in
+      let long = ap (length {A = ℕ}) own in
+      let there = listed last (some (omega (arith, long, length-append (positions_of ids x.agent) (length ids ∷ [])))) in
+      let less : items new ≡ positions_of ids x.agent =
+      (same_from_push (items new) (positions_of ids x.agent) there.0 (length ids) (ap (λ ps. items new ++ ps) (sym there.1) ∙ sym put ∙ own)).0 in (
+        less,
+        map-set items vs n new ∙ (λ i. set (t.placed i) n (less i))
+            ∙ one_changed (positions_of (ids ++ x ∷ [])) (positions_of ids) names x.agent n (subst AreDistinct (sym t.named) (agents_distinct (ids ++ x ∷ []))) place (λ b e. sym (positions-push_other ids x b e)),
+      )
+
+  -- where it has some left, it stays
+  pub agent_left : (ids : List Id) (x : Id) (names : List (List ℕ)) (vs : List V) (n : ℕ) (old new : V) (last : Option ℕ) → AreAgents (ids ++ x ∷ []) names (map items vs) → position (pointwise nat_eq x.agent) names ≡ Some n
+      → old ≡ get_or vs n old → n < length vs → items old ≡ items new ++ option_to_list last → (0 < length (items old) → IsSome last) → 0 < length (items new) → AreAgents ids names (map items (set vs n new))
+  agent_left ids x names vs n old new last t h is within put some left =
+      let less = less_places ids x names vs n old new last t h is within put some in
+      record {
+        named = t.named ∙ agents_push ids x
+            ∙ ap (λ b. cond b (agents_of ids) (agents_of ids ++ x.agent ∷ []))
+            (true_from_ne_false (list_any (name_eq x.agent) (agents_of ids)) (λ e. let none : length (items new) ≡ 0 = ap (length {A = ℕ}) (less.0 ∙ none_of ids x.agent e) in absurd (omega (arith, none, left))));
+        placed = less.1;
+      }
+
+  -- where it has none left, it was the last agent
+  pub agent_gone : (ids : List Id) (x : Id) (names names' : List (List ℕ)) (vs vs' : List V) (n : ℕ) (old new : V) (last : Option ℕ) (name : Option (List ℕ)) (v : Option V) → AreAgents (ids ++ x ∷ []) names (map items vs)
+      → position (pointwise nat_eq x.agent) names ≡ Some n → old ≡ get_or vs n old → n < length vs → items old ≡ items new ++ option_to_list last → (0 < length (items old) → IsSome last) → length (items new) ≡ 0
+      → names ≡ names' ++ option_to_list name → IsSome name → set vs n new ≡ vs' ++ option_to_list v → IsSome v → AreAgents ids names' (map items vs')
+  agent_gone ids x names names' vs vs' n old new last name v t h is within put some none fewer some_name less some_v =
+      let lists = less_places ids x names vs n old new last t h is within put some in
+      let empty : positions_of ids x.agent ≡ [] = sym lists.0 ∙ nothing (items new) none in
+      let k = listed name some_name in
+      let w = listed v some_v in
+      let front : names' ++ k.0 ∷ [] ≡ names = ap (λ ns. names' ++ ns) (sym k.1) ∙ sym fewer in
+      let short : set vs n new ≡ vs' ++ w.0 ∷ [] = less ∙ ap (λ us. vs' ++ us) w.1 in
+      record {
+        named = (same_from_push names' (agents_of ids) k.0 x.agent (front ∙ t.named ∙ agents_push ids x ∙ ap (λ b. cond b (agents_of ids) (agents_of ids ++ x.agent ∷ [])) (agent_of ids x.agent empty))).0;
+        placed = (same_from_push (map items vs') (map (positions_of ids) names') (items w.0) (positions_of ids k.0)
+            (sym (map-append items vs' (w.0 ∷ [])) ∙ ap (map items) (sym short) ∙ lists.1 ∙ ap (map (positions_of ids)) (sym front) ∙ map-append (positions_of ids) names' (k.0 ∷ []))).0;
+      }
+    where
+      nothing : (ps : List ℕ) → length ps ≡ 0 → ps ≡ []
+      nothing [] e = refl
+      nothing (p ∷ ps) e = absurd (omega (arith, e))

@@ -1,0 +1,26 @@
+use Rattle.std.proofs.Common.{◌≡◌, ◌∙◌, ◌∷◌, ◌++◌, [], ℕ, List, Vec, Global, length, map, refl, sym, ap, subst, arith, length-append}
+use Rattle.std.proofs.lemmas.List.{length-map}
+use Rattle.ew_model.specs.declared.id.Id.{Id}
+use Rattle.agent_ids.specs.Agents.{count_of}
+use Rattle.agent_ids.specs.Table.{IsTable}
+use Rattle.agent_ids.proofs.OwnPositions.{kept_alike}
+use Rattle.agent_ids.proofs.Numbers.{numbered_push}
+use Rattle.agent_ids.proofs.table.AgentTable.append.Goals as goal
+
+pub add_position-requires : goal.add_position-requires
+add_position-requires c =
+    let alike = kept_alike _ _ _ c.self.invariant.agents in
+    record { alike = omega (arith, alike, c.self.inside.positions.ok.0, length-map c.self.inside.positions.items (λ (v : Vec ℕ Global). v.items)) }
+
+pub invariant_of-self-2 : goal.invariant_of-self-2
+invariant_of-self-2 c =
+    let ids = c.self.inside.ids.items in
+    let more : ids ++ c.args.id ∷ [] ≡ c.push_reserved.new.self.items = ap (λ xs. xs ++ c.args.id ∷ []) (sym c.in_ok-reserve.ensures.items) ∙ sym c.push_reserved.ensures.items in
+    let place : length ids ≡ c.len-lv.result = sym c.self.inside.ids.ok.0 ∙ sym c.len-lv.ensures in
+    let next = subst (λ (xs : List Id). c.args.id.seq ≡ count_of xs c.args.id.agent) (sym c.self.view_is) c.requires.next in
+    let long = ap (length {A = Id}) c.self.view_is in
+    subst (λ (xs : List Id). IsTable xs c.add_position.new.names.keys (map (λ (v : Vec ℕ Global). v.items) c.add_position.new.positions.items)) more (record {
+      agents = c.in_ok-add_position.ensures.ok ids c.args.id c.self.invariant.agents place refl;
+      numbered = numbered_push ids c.args.id c.self.invariant.numbered next;
+      few = omega (arith, c.requires.room, long, length-append ids (c.args.id ∷ []));
+    })

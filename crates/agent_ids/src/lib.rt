@@ -1,0 +1,8 @@
+//! Which agent made which event: ids and their positions, both ways, and the agents' numbers.
+#![tactic(auto)]
+
+pub mod table;
+#[cfg(test)]
+mod tests;
+
+pub use table::AgentTable;

@@ -1,0 +1,211 @@
+//! The table of ids.
+
+ghost use Rattle.std.specs.Prelude.{◌≡◌, ◌↔◌, ℕ, ◌+◌, ◌-◌, ◌<◌, ◌^◌, List, [], ◌∷◌, ◌++◌, map, length, take, Some, OnOk, OnErr, IsOkAnd, IfSome, false, nat_eq, slice_get, position};
+ghost use Rattle.std.specs.Cmp.Lexicographic.{pointwise};
+ghost use Rattle.std.specs.Vec.{vec_len};
+ghost use Rattle.indexmap.specs.IndexSet.{contains};
+ghost use Rattle.ew_model.specs.declared.id.Id.{Id};
+ghost use Rattle.ew_model.specs.Ids.{name_eq, id_eq};
+ghost use Rattle.agent_ids.specs.Agents.{agents_of, count_of, AreNumbered};
+ghost use Rattle.agent_ids.specs.Table.{AreAgents, positions_of};
+
+use ew_model::NoMem;
+use ew_model::id::Id;
+use ew_model::name::Name;
+use indexmap::IndexSet;
+use std::alloc::Global;
+use std::marker::Model;
+
+/// The ids of events by position, with the positions of each agent's ids. Agents have numbers in order of first use.
+/// Contracts see the list of the ids.
+#[derive(Drop)]
+pub struct AgentTable {
+    ids: Vec<Id>,
+    names: IndexSet<Name>,
+    /// For each agent the positions of its ids: its id number n stands at place n.
+    positions: Vec<Vec<u32>>,
+}
+
+impl Model for AgentTable {
+    ghost use Rattle.std.specs.Prelude.{List, map};
+    ghost use Rattle.ew_model.specs.declared.id.Id.{Id};
+    ghost use Rattle.agent_ids.specs.Table.{IsTable};
+
+    ghost Value = { List Id };
+
+    ghost view = { λ t. t.ids.items };
+
+    ghost invariant = { λ t. IsTable t.ids.items t.names.keys (map (λ v. v.items) t.positions.items) };
+}
+
+impl AgentTable {
+    /// A table of no ids. It takes no memory, and never fails.
+    pub fn new(alloc: Global) -> Result<AgentTable, NoMem>
+        ensures { IsOkAnd result (λ t. t ≡ []) }
+    {
+        Ok(AgentTable {
+            ids: Vec::new(alloc),
+            names: IndexSet::new(alloc),
+            positions: Vec::new(alloc),
+        })
+    }
+
+    /// How many agents there are.
+    pub fn agent_count(&self) -> u32
+        ensures { result ≡ length (agents_of self.now) }
+    {
+        let _ids = &self.ids;
+        self.names.len() as u32
+    }
+
+    /// The number of an agent, if it has an id.
+    pub fn number_of(&self, name: &Name) -> Option<u32>
+        ensures value { result ≡ position (name_eq name.now) (agents_of self.now) }
+        ensures within { IfSome result (λ n. n < length (agents_of self.now)) }
+    {
+        let number = self.names.get_index_of(name)?;
+        Some(number as u32)
+    }
+
+    /// The name of the agent with this number.
+    pub fn name_of(&self, number: u32) -> Name
+        requires { number < length (agents_of self.now) }
+        ensures { slice_get (agents_of self.now) number ≡ Some result }
+    {
+        match self.names.get_index(number as usize) {
+            Some(name) => *name,
+            None => unreachable!(),
+        }
+    }
+
+    /// How many ids of the agent there are, which is the number of its next one.
+    pub fn count_of(&self, name: &Name) -> u32
+        ensures value { result ≡ count_of self.now name.now }
+        ensures numbered { AreNumbered self.now }
+    {
+        self.positions_of(name).len() as u32
+    }
+
+    /// The position of an id, if it is there.
+    pub fn position(&self, id: &Id) -> Option<u32>
+        ensures value { result ≡ position (id_eq id.now) self.now }
+        ensures within { IfSome result (λ lv. lv < length self.now) }
+    {
+        number_at(self.positions_of(&id.agent), id.seq)
+    }
+
+    /// The id at a position.
+    pub fn id_at(&self, lv: u32) -> Id
+        requires { lv < length self.now }
+        ensures { slice_get self.now lv ≡ Some result }
+    {
+        self.ids[lv as usize]
+    }
+
+    /// Puts one more id behind the others: the next one of its agent, or the first one of a new agent.
+    pub fn append(&mut self, id: Id) -> Result<(), NoMem>
+        requires next { id.seq ≡ count_of self.old id.agent }
+        requires room { length self.old + 1 < 2 ^ 32 }
+        ensures ok { OnOk result (self.new ≡ self.old ++ id ∷ []) }
+        ensures err { OnErr result (self.new ≡ self.old) }
+    {
+        let lv = self.ids.len() as u32;
+        self.ids.reserve(1)?;
+        add_position(&mut self.names, &mut self.positions, id.agent, lv)?;
+        self.ids.push_reserved(id);
+        Ok(())
+    }
+
+    /// Leaves the first n ids.
+    pub fn truncate(&mut self, n: u32)
+        ensures { self.new ≡ take n self.old }
+    {
+        while self.ids.len() > n as usize {
+            self.remove_last();
+        }
+    }
+
+    /// The positions of the agent's ids, rising.
+    fn positions_of(&self, name: &Name) -> &[u32]
+        ensures value { result.now ≡ positions_of self.now name.now }
+        ensures numbered { AreNumbered self.now }
+        ensures few { length self.now < 2 ^ 32 }
+    {
+        match self.names.get_index_of(name) {
+            Some(number) => self.positions[number].as_slice(),
+            None => &[],
+        }
+    }
+
+    /// Takes the last id out.
+    fn remove_last(&mut self)
+        requires { 0 < length self.old }
+        ensures { self.new ≡ take (length self.old - 1) self.old }
+    {
+        if let Some(id) = self.ids.pop() {
+            remove_position(&mut self.names, &mut self.positions, &id.agent);
+        }
+    }
+}
+
+fn number_at(list: &[u32], place: u32) -> Option<u32>
+    ensures { result ≡ slice_get list.now place }
+{
+    list.get(place as usize).copied()
+}
+
+/// Gives an agent one more position, behind the ones that it has.
+fn add_position(
+    names: &mut IndexSet<Name>,
+    positions: &mut Vec<Vec<u32>>,
+    name: Name,
+    lv: u32,
+) -> Result<(), NoMem>
+    requires alike { vec_len positions.old ≡ length names.old.keys }
+    ensures ok { OnOk result ((ids : List Id) (id : Id) → AreAgents ids names.old.keys (map (λ v. v.items) positions.old.items) → length ids ≡ lv → id.agent ≡ name → AreAgents (ids ++ id ∷ []) names.new.keys (map (λ v. v.items) positions.new.items)) }
+    ensures same_names { OnErr result (names.new.keys ≡ names.old.keys) }
+    ensures same_positions { OnErr result (map (λ v. v.items) positions.new.items ≡ map (λ v. v.items) positions.old.items) }
+{
+    match names.get_index_of(&name) {
+        Some(number) => positions[number].push(lv)?,
+        None => start_agent(names, positions, name, lv)?,
+    }
+    Ok(())
+}
+
+/// Gives a new agent its first position.
+fn start_agent(
+    names: &mut IndexSet<Name>,
+    positions: &mut Vec<Vec<u32>>,
+    name: Name,
+    lv: u32,
+) -> Result<(), NoMem>
+    requires new { contains (pointwise nat_eq) names.old name ≡ false }
+    ensures names { OnOk result (names.new.keys ≡ names.old.keys ++ name ∷ []) }
+    ensures positions { OnOk result (map (λ v. v.items) positions.new.items ≡ map (λ v. v.items) positions.old.items ++ (lv ∷ []) ∷ []) }
+    ensures same_names { OnErr result (names.new.keys ≡ names.old.keys) }
+    ensures same_positions { OnErr result (map (λ v. v.items) positions.new.items ≡ map (λ v. v.items) positions.old.items) }
+{
+    let alloc = *positions.allocator();
+    let mut own = Vec::with_capacity(alloc, 1)?;
+    own.push_reserved(lv);
+    positions.reserve(1)?;
+    names.insert(name)?;
+    positions.push_reserved(own);
+    Ok(())
+}
+
+/// Takes the last position of an agent away, and an agent without a position too.
+fn remove_position(names: &mut IndexSet<Name>, positions: &mut Vec<Vec<u32>>, name: &Name)
+    requires alike { vec_len positions.old ≡ length names.old.keys }
+    ensures { (ids : List Id) (id : Id) → AreAgents (ids ++ id ∷ []) names.old.keys (map (λ v. v.items) positions.old.items) → id.agent ≡ name.now → AreAgents ids names.new.keys (map (λ v. v.items) positions.new.items) }
+{
+    if let Some(number) = names.get_index_of(name) {
+        let own = &mut positions[number];
+        own.pop();
+        if own.is_empty() {
+            names.pop();
+            positions.pop();
+        }
+    }
+}
