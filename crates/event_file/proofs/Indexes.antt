@@ -1,5 +1,5 @@
 -- The index of what is read so far: which agent may come next, and how the index grows with an event.
-use Rattle.std.proofs.Common.{◌≡◌, ℕ, zero, suc, ◌+◌, ◌-◌, ◌<◌, ◌≤◌, Bool, true, false, cond, ◌||◌, ◌&&◌, inl, inr, List, [], ◌∷◌, ◌++◌, length, take, get_or, fold, Option, Some, None, refl, sym, ap, subst, ◌∙◌, append-nil, arith}
+use Rattle.std.proofs.Common.{◌≡◌, ℕ, zero, suc, ◌+◌, ◌-◌, ◌≤◌, Bool, true, false, cond, ◌||◌, ◌&&◌, inl, inr, List, [], ◌∷◌, ◌++◌, length, take, Option, Some, None, refl, sym, ap, ◌∙◌, arith}
 use Rattle.std.specs.Prelude.{slice_get}
 use Rattle.std.specs.List.{list_any}
 use Rattle.std.proofs.lemmas.Bool.{and_parts, cond-true, cond-false, or_cases}
@@ -8,11 +8,11 @@ use Rattle.std.proofs.lemmas.List.Folds.{list_any-append}
 use Rattle.std.proofs.lemmas.List.Sums.{fold_push}
 use Rattle.ew_model.specs.declared.id.Id.{Id}
 use Rattle.ew_model.specs.declared.event.Event.{Event}
-use Rattle.ew_model.specs.Ids.{name_eq, id_eq, id_lt, is_among, ids_ascend}
+use Rattle.ew_model.specs.Ids.{name_eq, id_eq, id_lt, ids_ascend}
 use Rattle.ew_model.specs.Ancestors.{ids_of, is_held}
 use Rattle.ew_model.specs.File.{with_agent, agents_of}
 use Rattle.ew_model.specs.FileFaults.{open_agents}
-use Rattle.ew_model.proofs.FileLists.{some_is, none_is_some, or_other, none_in_front, get-take_within, there_among}
+use Rattle.ew_model.proofs.FileLists.{some_is, none_is_some, none_in_front, get-take_within, there_among}
 use Rattle.ew_model.proofs.FileRecords.{names_equal, name_exact}
 use Rattle.ew_model.proofs.TextLaws.{ids_equal}
 use Rattle.event_file.specs.Progress.{IsIndexed}

@@ -1,19 +1,19 @@
 -- Tables of places, as they grow, and the records that are written by them.
-use Rattle.std.proofs.Common.{◌≡◌, ℕ, zero, suc, ◌+◌, ◌^◌, ◌<◌, ◌≤◌, Bool, true, false, cond, not, ◌||◌, leb, inl, inr, List, [], ◌∷◌, ◌++◌, length, take, drop, get_or, flat_map, map, Option, Some, None, All, refl, sym, ap, subst, ◌∙◌, append_assoc, append-nil, arith}
-use Rattle.std.specs.Prelude.{unwrap_or, is_some, IsSome, slice_get}
+use Rattle.std.proofs.Common.{◌≡◌, ℕ, zero, suc, ◌+◌, ◌<◌, ◌≤◌, Bool, true, false, cond, not, ◌||◌, inl, inr, List, [], ◌∷◌, ◌++◌, length, take, drop, get_or, flat_map, Option, Some, None, All, refl, sym, ap, subst, ◌∙◌, append_assoc, append-nil, arith}
+use Rattle.std.specs.Prelude.{unwrap_or, is_some, IsSome}
 use Rattle.std.specs.Cmp.{IsEquivalence}
 use Rattle.std.specs.List.{list_any, list_all, position_or_len, AllByRecursion}
-use Rattle.std.proofs.lemmas.Bool.{cases_Bool, cond-true, cond-false, or_parts, or_left, or_right, and_parts, leb-true, false≢true}
-use Rattle.std.proofs.lemmas.List.{map-append, length-append, take-append-drop, take_more}
+use Rattle.std.proofs.lemmas.Bool.{cases_Bool, cond-true, cond-false, or_parts, or_left, or_right, and_parts}
+use Rattle.std.proofs.lemmas.List.{map-append, take-append-drop, take_more}
 use Rattle.std.proofs.lemmas.List.Elements.{All-from_recursion}
 use Rattle.std.proofs.lemmas.List.Folds.{list_any-append}
 use Rattle.std.proofs.Math.Seq.{drop-cons}
 use Rattle.ew_model.specs.declared.id.Id.{Id}
 use Rattle.ew_model.specs.declared.event.Event.{Event}
 use Rattle.ew_model.specs.Ids.{name_eq, id_eq, is_among}
-use Rattle.ew_model.specs.Ancestors.{ids_of, is_held}
+use Rattle.ew_model.specs.Ancestors.{ids_of}
 use Rattle.ew_model.specs.File.{four_bytes, op_bytes, agents_of, record_bytes, are_writable_after, IsWritable}
-use Rattle.ew_model.proofs.FileLists.{or_other, place_kept, there_among, get-take}
+use Rattle.ew_model.proofs.FileLists.{place_kept, there_among, get-take}
 use Rattle.ew_model.proofs.FileRecords.{names_equal, name_exact, id_eq_exact, parent_bytes, record_at, MayFollow}
 use Rattle.ew_model.proofs.FileEvents.{writable_parts, record_whole, agent_open, agents_few_from}
 use Rattle.ew_model.proofs.TextLaws.{ids_equal}
@@ -34,11 +34,11 @@ module _ {X : Type 0} (eq : X → X → Bool) (laws : IsEquivalence eq) (exact :
   one_more_place xs y table more has new up x =
       elim (cases_Bool (eq y x)) [
         | inl t ↦
-          let same : y ≡ x = exact y x t in
-          let none : list_any (eq x) xs ≡ false = ap (λ z. list_any (eq z) xs) (sym same) ∙ new in
-          let own : eq x y ≡ true = laws.symm x y ∙ t in
-          let there : list_any (eq x) (xs ++ y ∷ []) ≡ true = joined xs x y ∙ or_right (list_any (eq x) xs) (eq x y || false) (or_left (eq x y) false own) in
-          up x ∙ cond-true (eq y x) (Some (length xs)) (table x) t ∙ ap (λ n. Some n) (sym (at_end xs x y none own)) ∙ sym (cond-true (list_any (eq x) (xs ++ y ∷ [])) (Some (position_or_len (eq x) (xs ++ y ∷ []))) None there)
+            let same : y ≡ x = exact y x t in
+            let none : list_any (eq x) xs ≡ false = ap (λ z. list_any (eq z) xs) (sym same) ∙ new in
+            let own : eq x y ≡ true = laws.symm x y ∙ t in
+            let there : list_any (eq x) (xs ++ y ∷ []) ≡ true = joined xs x y ∙ or_right (list_any (eq x) xs) (eq x y || false) (or_left (eq x y) false own) in
+            up x ∙ cond-true (eq y x) (Some (length xs)) (table x) t ∙ ap (λ n. Some n) (sym (at_end xs x y none own)) ∙ sym (cond-true (list_any (eq x) (xs ++ y ∷ [])) (Some (position_or_len (eq x) (xs ++ y ∷ []))) None there)
         | inr f ↦ up x ∙ cond-false (eq y x) (Some (length xs)) (table x) f ∙ has x ∙ kept (laws.symm x y ∙ f) (list_any (eq x) xs) refl
       ]
     where
@@ -142,8 +142,8 @@ pub places_more : (events : List Event) (i : ℕ) (e : Event) (table more : Id �
 places_more events i e table more w lt is has up =
     let size : length (ids_of (take i events)) ≡ i = ids_length (take i events) ∙ take_length events i (omega arith) in
     subst (HasPlaces id_eq more) (sym (ids_more events i e lt is))
-        (one_more_place id_eq ids_equal id_eq_exact (ids_of (take i events)) e.id table more has (follows_at events i e w lt is).new
-            (λ x. up x ∙ ap (λ n. cond (id_eq e.id x) (Some n) (table x)) (sym size)))
+    (one_more_place id_eq ids_equal id_eq_exact (ids_of (take i events)) e.id table more has (follows_at events i e w lt is).new
+    (λ x. up x ∙ ap (λ n. cond (id_eq e.id x) (Some n) (table x)) (sym size)))
 
 -- no more agents than events
 pub few_agents : (events : List Event) (i : ℕ) → i ≤ length events → length (agents_of (take i events)) ≤ i

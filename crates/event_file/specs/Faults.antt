@@ -1,5 +1,5 @@
 -- What the faults of this crate say, in the model's words.
-use Rattle.std.specs.Prelude.{◌≡◌, ℕ, List, Result, Ok, Err}
+use Rattle.std.specs.Prelude.{◌≡◌, Result, Ok, Err}
 use Rattle.std.specs.Global.{Vec}
 use Rattle.ew_model.specs.declared.event.Event.{Event}
 use Rattle.ew_model.specs.FileFaults as model
@@ -9,6 +9,7 @@ use Rattle.event_file.specs.declared.fault.FileFault.TheVariants.{Short, BadMagi
 use Rattle.event_file.specs.declared.fault.RecordFault.{RecordFault}
 use Rattle.event_file.specs.declared.fault.RecordFault.TheVariants.{Cut, NameBad, NameTwice, AgentNumber, IdTwice, ParentCount, ParentPosition, ParentOrder, KindBad, Scalar, Trailing, UnusedAgent}
 
+-- the model's word for a kind of fault
 abbrev pub kind_of : RecordFault → model.RecordFault
 kind_of Cut = model.Cut
 kind_of NameBad = model.NameBad

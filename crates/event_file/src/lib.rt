@@ -14,3 +14,6 @@ mod writing;
 pub use fault::{FileFault, RecordFault};
 pub use reading::decode;
 pub use writing::encode;
+
+#[cfg(test)]
+mod tests;

@@ -1,13 +1,9 @@
-use Rattle.std.proofs.Common.{◌≡◌, ℕ, List, [], ◌∷◌, ◌++◌, not, refl, sym, ap, ◌∙◌}
-use Rattle.std.specs.List.{list_any}
+use Rattle.std.proofs.Common.{[]}
 use Rattle.std.specs.BTreeSet.{contains}
 use Rattle.std.specs.Cmp.Lexicographic.{slice_cmp}
 use Rattle.std.specs.Ordering.{nat_cmp}
 use Rattle.std.proofs.lemmas.Result.{err_from_is_err_and}
-use Rattle.ew_model.specs.Ids.{name_eq}
-use Rattle.ew_model.specs.FileFaults.{field, only, read_name, read_names}
-use Rattle.ew_model.specs.FileFaults.RecordFault.{NameTwice}
-use Rattle.event_file.proofs.Loops.{same_field}
+use Rattle.ew_model.specs.FileFaults.{read_names}
 use Rattle.event_file.proofs.NameLoop.{names_go_on, names_end, names_done, names_new}
 use Rattle.event_file.proofs.names.read_names.Goals as goal
 

@@ -1,4 +1,4 @@
-use Rattle.std.proofs.Common.{◌≡◌, length, List, ℕ, ap, ◌∙◌, arith}
+use Rattle.std.proofs.Common.{length, List, ℕ, ap, ◌∙◌, arith}
 use Rattle.event_file.proofs.Tables.{few_agents_all}
 use Rattle.event_file.proofs.writing.content.Goals as goal
 

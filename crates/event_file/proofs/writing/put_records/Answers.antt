@@ -1,9 +1,8 @@
-use Rattle.std.proofs.Common.{◌≡◌, ℕ, ◌+◌, ◌<◌, ◌≤◌, length, take, get_or, flat_map, List, [], ◌∷◌, ◌++◌, ap, ◌∙◌, sym, subst, arith}
+use Rattle.std.proofs.Common.{length, take, flat_map, [], ◌∷◌, ◌++◌, ap, ◌∙◌, sym}
 use Rattle.std.specs.BTreeMap.{get}
 use Rattle.std.specs.List.{list_any}
 use Rattle.std.proofs.lemmas.Bool.{leb-true}
 use Rattle.std.proofs.lemmas.List.{take_more, flat_map_more}
-use Rattle.ew_model.specs.declared.event.Event.{Event}
 use Rattle.ew_model.specs.Ids.{name_eq, id_cmp}
 use Rattle.ew_model.specs.Ancestors.{ids_of}
 use Rattle.ew_model.specs.File.{record_bytes}
@@ -36,5 +35,5 @@ loop-i-preserved c =
     record {
       so_far = c.in_ok-put_record.ensures ∙ ap (λ t. t ++ record_by c.args.agents.now table e) c.loop-i.invariant.so_far ∙ ap (λ t. (c.args.out.now.items ++ flat_map (record_bytes events) (take c.loop-i.i events)) ++ t) record_text
           ∙ flat_map_more (record_bytes events) c.args.out.now.items (take c.loop-i.i events) e ∙ ap (λ xs. c.args.out.now.items ++ flat_map (record_bytes events) xs) (sym more);
-      places = places_more events c.loop-i.i e table (get id_cmp c.insert.new.self) c.requires.writable c.loop-i-test.true c.index-events-i.is c.loop-i.invariant.places c.in_ok-insert.ensures.updates.0
+      places = places_more events c.loop-i.i e table (get id_cmp c.insert.new.self) c.requires.writable c.loop-i-test.true c.index-events-i.is c.loop-i.invariant.places c.in_ok-insert.ensures.updates.0;
     }

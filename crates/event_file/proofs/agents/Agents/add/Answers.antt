@@ -1,10 +1,9 @@
-use Rattle.std.proofs.Common.{◌≡◌, ℕ, List, [], ◌∷◌, ◌++◌, cond, Option, Some, None, ap, ◌∙◌, sym, subst}
+use Rattle.std.proofs.Common.{ℕ, List, [], ◌∷◌, ◌++◌, cond, Some, ap, ◌∙◌, sym}
 use Rattle.std.specs.BTreeMap.{get}
 use Rattle.std.specs.Cmp.Lexicographic.{slice_cmp}
 use Rattle.std.specs.Ordering.{nat_cmp}
 use Rattle.ew_model.specs.Ids.{name_eq}
 use Rattle.ew_model.proofs.FileRecords.{names_equal, name_exact}
-use Rattle.event_file.specs.Places.{HasPlaces}
 use Rattle.event_file.proofs.Tables.{one_more_place, no_place, none_from_is_some}
 use Rattle.event_file.proofs.agents.Agents.add.Goals as goal
 

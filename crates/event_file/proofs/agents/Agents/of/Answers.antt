@@ -1,4 +1,4 @@
-use Rattle.std.proofs.Common.{◌≡◌, ◌<◌, ◌^◌, ◌≤◌, length, List, ℕ, ap, arith}
+use Rattle.std.proofs.Common.{length, List, ℕ, ap, arith}
 use Rattle.event_file.proofs.Tables.{few_agents}
 use Rattle.event_file.proofs.agents.Agents.of.Goals as goal
 

@@ -1,4 +1,4 @@
-use Rattle.std.proofs.Common.{◌≡◌, ℕ, List, [], true, ◌-◌}
+use Rattle.std.proofs.Common.{◌≡◌, [], true, ◌-◌}
 use Rattle.ew_model.specs.Ids.{ids_ascend}
 use Rattle.ew_model.specs.Ancestors.{ids_of}
 use Rattle.ew_model.specs.FileFaults.{read_parents}

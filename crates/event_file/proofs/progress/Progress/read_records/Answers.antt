@@ -1,4 +1,3 @@
-use Rattle.std.proofs.Common.{ap, ◌∙◌, sym}
 use Rattle.std.proofs.lemmas.Result.{err_from_is_err_and}
 use Rattle.ew_model.specs.FileFaults.{read_records}
 use Rattle.event_file.proofs.RecordLoops.{records_go_on, records_end, records_done}

@@ -1,4 +1,4 @@
-use Rattle.std.proofs.Common.{◌≡◌, ℕ, List, ◌-◌}
+use Rattle.std.proofs.Common.{◌≡◌, ◌-◌}
 use Rattle.ew_model.specs.FileFaults.{read_records}
 use Rattle.event_file.proofs.progress.Progress.read_records.Given as goal
 
