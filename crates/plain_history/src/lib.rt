@@ -6,6 +6,8 @@ mod entry;
 mod ids;
 mod path;
 mod place;
+#[cfg(test)]
+mod tests;
 mod text;
 mod text_ops;
 mod touch_count;

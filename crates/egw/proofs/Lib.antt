@@ -1,0 +1,5 @@
+pub mod FaultLaws
+pub mod Outputs
+pub mod Runs
+pub mod Stops
+pub mod TakenWords

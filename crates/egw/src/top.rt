@@ -1,0 +1,63 @@
+//! The top call.
+ghost use Rattle.std.specs.Prelude.{map, string_bytes};
+ghost use Rattle.std.specs.Option.{option_map};
+ghost use Rattle.egw.specs.Headline.{IsLineRun, IsRun, seen};
+ghost use Rattle.egw.specs.Views.{IsNamed, line_view};
+
+use crate::ending::{Ending, carry_out, tell};
+use crate::plan::make_plan;
+use crate::words::{Taken, read_words};
+use ew_model::limits::Limits;
+use ew_model::steps::Steps;
+use ew_outside::{Shelf, Sink, Source};
+use std::alloc::{AllocError, Global};
+use std::sync::ledger::Ledger;
+
+/// Runs a line, or answers the usage where there is none.
+fn run_line<H: Shelf, S: Source, K: Sink, E: Sink, L: Ledger>(
+    alloc: Global,
+    line: Option<Taken<'_>>,
+    limits: &Limits,
+    shelf: &mut H,
+    input: &mut S,
+    out: &mut K,
+    err: &mut E,
+    steps: &mut Steps<L>,
+) -> u8
+    requires { IsNamed (option_map line_view line) }
+    ensures { IsLineRun (option_map line_view line.entry) limits.now
+        (seen (H.files shelf.old) (H.faults shelf.old) (H.misses shelf.old) (S.left input.old) (S.faults input.old)
+        (K.taken out.old) (K.flushed out.old) (K.faults out.old) (E.taken err.old) (E.faults err.old))
+        (seen (H.files shelf.new) (H.faults shelf.new) (H.misses shelf.new) (S.left input.new) (S.faults input.new)
+        (K.taken out.new) (K.flushed out.new) (K.faults out.new) (E.taken err.new) (E.faults err.new))
+        result }
+{
+    let planned = make_plan(alloc, line, limits, shelf, input, steps);
+    let ending = carry_out(planned, shelf, out);
+    tell(ending, err)
+}
+
+/// Runs one command line, without the program's name, and answers the status. What it prints, says, stores and answers is
+/// what the command table says, except where a count of faults rose (status 6) or memory was wanted (status 8).
+pub fn run<H: Shelf, S: Source, K: Sink, E: Sink, L: Ledger>(
+    alloc: Global,
+    words: &[String],
+    limits: &Limits,
+    shelf: &mut H,
+    input: &mut S,
+    out: &mut K,
+    err: &mut E,
+    steps: &mut Steps<L>,
+) -> u8
+    ensures { IsRun (map string_bytes words.now) limits.now
+        (seen (H.files shelf.old) (H.faults shelf.old) (H.misses shelf.old) (S.left input.old) (S.faults input.old)
+        (K.taken out.old) (K.flushed out.old) (K.faults out.old) (E.taken err.old) (E.faults err.old))
+        (seen (H.files shelf.new) (H.faults shelf.new) (H.misses shelf.new) (S.left input.new) (S.faults input.new)
+        (K.taken out.new) (K.flushed out.new) (K.faults out.new) (E.taken err.new) (E.faults err.new))
+        result }
+{
+    match read_words(alloc, words) {
+        Err(AllocError) => tell(Ending::OutOfMemory, err),
+        Ok(line) => run_line(alloc, line, limits, shelf, input, out, err, steps),
+    }
+}

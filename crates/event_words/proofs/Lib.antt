@@ -1,0 +1,6 @@
+pub mod Escapes
+pub mod Faults
+pub mod LineParts
+pub mod Lines
+pub mod Numbers
+pub mod Texts

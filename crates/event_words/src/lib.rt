@@ -1,0 +1,12 @@
+//! The words of the editor as bytes: edit scripts are read, and ids, versions and characters are printed. What the bytes
+//! mean is said in `specs/Scripts.antt` of `ew_model`.
+#![tactic(auto)]
+
+pub mod edit;
+mod line;
+pub mod print;
+pub mod script;
+#[cfg(test)]
+mod tests;
+pub mod text;
+mod words;

@@ -1,0 +1,23 @@
+//! A history as its events' parents.
+
+ghost use Rattle.std.specs.Prelude.{◌≡◌, ℕ, ◌<◌, List, length};
+ghost use Rattle.ew_model.specs.Positions.{AreParents, IsHistoryOfParents, parents_at};
+
+use smallvec::SmallVec;
+
+/// A history whose events are known by their positions, and by the positions of their parents. The calls take no memory.
+pub trait Parentage {
+    /// The parents of each event, the oldest event first.
+    ghost parents: { Self → List (List ℕ) };
+
+    /// How many events there are.
+    fn count(&self) -> u32
+        ensures count { result ≡ length (parents self.now) }
+        ensures history { IsHistoryOfParents (parents self.now) };
+
+    /// The parents of the event at a position, rising.
+    fn parents_of(&self, lv: u32) -> SmallVec<u32, 16>
+        requires { lv < length (parents self.now) }
+        ensures value { result.items ≡ parents_at (parents self.now) lv }
+        ensures lower { AreParents lv result.items };
+}

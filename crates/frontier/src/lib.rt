@@ -1,0 +1,10 @@
+//! The heads of a history, and what is asked of a history about its events' parents.
+#![tactic(auto)]
+
+pub mod events;
+pub mod heads;
+#[cfg(test)]
+mod tests;
+
+pub use events::Parentage;
+pub use heads::Frontier;

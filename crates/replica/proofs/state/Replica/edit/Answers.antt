@@ -1,0 +1,51 @@
+use Rattle.std.proofs.Common.{◌≡◌, ◌∙◌, ap, length, sym, subst, None, arith}
+use Rattle.ew_model.specs.Edits.{edit_refusal}
+use Rattle.ew_model.specs.Kept.{ReplicaState}
+use Rattle.ew_model.specs.Verdicts.{IsGood}
+use Rattle.replica.specs.Editing.{edit_view}
+use Rattle.replica.proofs.EditAnswers.{made_long, refusal_is, refused, nothing_made, some_made, text_after}
+use Rattle.replica.proofs.state.Replica.edit.Goals as goal
+
+pub returns-in-Some-clause-edits : goal.returns-in-Some-clause-edits
+returns-in-Some-clause-edits c =
+    let edit = edit_view c.args.edit.now in
+    let now = c.args.self.now in
+    refused c.args.agent edit now c.in-Some.fault (refusal_is now.limits now.held c.args.agent edit ∙ sym c.in-Some.ensures)
+
+pub returns-then-size-eq0-clause-edits : goal.returns-then-size-eq0-clause-edits
+returns-then-size-eq0-clause-edits c =
+    let edit = edit_view c.args.edit.now in
+    let now = c.args.self.now in
+    nothing_made c.args.agent edit now (refusal_is now.limits now.held c.args.agent edit ∙ sym c.in_default.ensures) (sym c.size.ensures ∙ c.if-size-eq0.true)
+
+pub returns-then-size-eq0-clause-text : goal.returns-then-size-eq0-clause-text
+returns-then-size-eq0-clause-text c =
+    let edit = edit_view c.args.edit.now in
+    let now = c.args.self.now in
+    let good : IsGood now.held = subst (λ (s : ReplicaState). IsGood s.held) c.self.view_is c.self.invariant.kept.orderly.good in
+    text_after c.args.agent edit now now 0 good
+    (nothing_made c.args.agent edit now (refusal_is now.limits now.held c.args.agent edit ∙ sym c.in_default.ensures) (sym c.size.ensures ∙ c.if-size-eq0.true))
+
+pub make-requires-clause-allowed : goal.make-requires-clause-allowed
+make-requires-clause-allowed c = refusal_is c.args.self.now.limits c.args.self.now.held c.args.agent (edit_view c.args.edit.now) ∙ sym c.in_default.ensures
+
+pub append-requires-clause-some : goal.append-requires-clause-some
+append-requires-clause-some c =
+    let made = ap length c.in_ok-made.ensures.events in
+    omega (arith, made, made_long c.args.self.now.held c.args.agent (edit_view c.args.edit.now), c.size.ensures, c.if-size-eq0.false)
+
+pub returns-clause-edits : goal.returns-clause-edits
+returns-clause-edits c =
+    let edit = edit_view c.args.edit.now in
+    let now = c.args.self.now in
+    let none : edit_refusal now.limits now.held c.args.agent edit ≡ None = refusal_is now.limits now.held c.args.agent edit ∙ sym c.in_default.ensures in
+    some_made c.args.agent edit now c.append.new.self c.in_ok-made.made.items c.in_ok-n.n none c.in_ok-made.ensures.events c.in_ok-n.ensures.ok c.in_ok-n.ensures.count
+
+pub returns-clause-text : goal.returns-clause-text
+returns-clause-text c =
+    let edit = edit_view c.args.edit.now in
+    let now = c.args.self.now in
+    let none : edit_refusal now.limits now.held c.args.agent edit ≡ None = refusal_is now.limits now.held c.args.agent edit ∙ sym c.in_default.ensures in
+    let good : IsGood now.held = subst (λ (s : ReplicaState). IsGood s.held) c.self.view_is c.self.invariant.kept.orderly.good in
+    text_after c.args.agent edit now c.append.new.self c.in_ok-n.n good
+    (some_made c.args.agent edit now c.append.new.self c.in_ok-made.made.items c.in_ok-n.n none c.in_ok-made.ensures.events c.in_ok-n.ensures.ok c.in_ok-n.ensures.count)

@@ -1,0 +1,5 @@
+pub mod Answers
+pub mod Appending
+pub mod Editing
+pub mod Keeping
+pub mod Refusing

@@ -1,0 +1,14 @@
+-- Why an edit is refused, by numbers alone.
+use Rattle.std.specs.Prelude.{ℕ, ◌+◌, nat_lt, ◌==◌, if◌then◌else◌, Option, Some, None}
+use Rattle.ew_model.specs.Edits.{EditRefusal}
+use Rattle.ew_model.specs.Edits.EditRefusal.{OutOfRange, TooManyHeads, Full}
+
+-- the first reason: the text has len characters where the edit needs more, or there are too many heads, or the events held
+-- and those of the edit are more than the most that may be
+abbrev pub refusal_by : (len heads count most needed size : ℕ) → Option EditRefusal
+refusal_by len heads count most needed size =
+    if nat_lt len needed then Some (OutOfRange len)
+    else if size == 0 then None
+    else if nat_lt 16 heads then Some (TooManyHeads heads)
+    else if nat_lt most (count + size) then Some (Full count)
+    else None

@@ -1,0 +1,59 @@
+//! Why a replica answers no.
+
+ghost use Rattle.std.specs.Prelude.{◌≡◌};
+ghost use Rattle.replica.specs.declared.fault.LoadFault.TheVariants as load;
+ghost use Rattle.replica.specs.declared.fault.EditFault.TheVariants as edit;
+
+use ew_model::verdict::Verdict;
+use std::alloc::{AllocError, AllocFailed};
+use thiserror::Error;
+
+/// Why events make no replica.
+#[derive(Clone, Copy, Debug, PartialEq, Eq, Error)]
+pub enum LoadFault {
+    /// The first event that isn't good behind those before it.
+    #[error("the event at position {position} isn't good: {verdict:?}")]
+    BadEvent { position: u32, verdict: Verdict },
+    #[error("out of memory")]
+    OutOfMemory,
+}
+
+impl From<AllocError> for LoadFault {
+    ghost from_gives = { λ _ e. e ≡ load.OutOfMemory };
+
+    fn from(_e: AllocError) -> LoadFault {
+        LoadFault::OutOfMemory
+    }
+}
+
+/// Why an edit is refused. The first reason in this order is told.
+#[derive(Clone, Copy, Debug, PartialEq, Eq, Error)]
+pub enum EditFault {
+    /// The index, or the end of what is to be deleted, is behind the end of the text, which has this length.
+    #[error("out of range, length {len}")]
+    OutOfRange { len: u32 },
+    /// There are more heads than one event may have parents.
+    #[error("{heads} heads, more than 16")]
+    TooManyHeads { heads: u32 },
+    /// The history holds so many events, and has no room for the new ones.
+    #[error("{count} events are held, with no room for the new ones")]
+    Full { count: u32 },
+    #[error("out of memory")]
+    OutOfMemory,
+}
+
+impl From<AllocError> for EditFault {
+    ghost from_gives = { λ _ e. e ≡ edit.OutOfMemory };
+
+    fn from(_e: AllocError) -> EditFault {
+        EditFault::OutOfMemory
+    }
+}
+
+impl<T: Drop> From<AllocFailed<T>> for EditFault {
+    ghost from_gives = { λ _ e. e ≡ edit.OutOfMemory };
+
+    fn from(_e: AllocFailed<T>) -> EditFault {
+        EditFault::OutOfMemory
+    }
+}

@@ -1,0 +1,12 @@
+//! A replica: the events held, their text, and what local edits make of them.
+#![tactic(auto)]
+
+mod edit;
+mod fault;
+mod heads;
+mod load;
+mod made;
+mod state;
+
+pub use fault::{EditFault, LoadFault};
+pub use state::Replica;

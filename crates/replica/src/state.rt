@@ -1,0 +1,291 @@
+//! The replica itself.
+
+ghost use Rattle.std.specs.Prelude.{◌≡◌, ◌+◌, ◌≤◌, ◌<◌, [], ◌++◌, length, None, false, map, IfOk, OnOk, OnErr, encode_utf8_all};
+ghost use Rattle.std.specs.Option.{option_and_then};
+ghost use Rattle.std.specs.Str.{chars};
+ghost use Rattle.ew_model.specs.Ancestors.{heads};
+ghost use Rattle.ew_model.specs.EditLaws.{edited, size_of};
+ghost use Rattle.ew_model.specs.Edits as model;
+ghost use Rattle.ew_model.specs.Ids.{id_cmp};
+ghost use Rattle.ew_model.specs.File.{IsWritable};
+ghost use Rattle.ew_model.specs.Kept.{IsKept, is_awaited};
+ghost use Rattle.ew_model.specs.Sorting.{sort_by};
+ghost use Rattle.ew_model.specs.TextLaws.{own_change};
+ghost use Rattle.ew_model.specs.Texts.{text_of};
+ghost use Rattle.ew_model.specs.Verdicts.{IsGood};
+ghost use Rattle.replica.specs.Answers.{EditsBy, Loads, refusal_of};
+ghost use Rattle.replica.specs.Appending.{CanAppend};
+ghost use Rattle.replica.specs.Editing.{edit_view};
+ghost use Rattle.replica.specs.Keeping.{head_positions};
+ghost use Rattle.replica.specs.Refusing.{refusal_by};
+
+use crate::edit::{Edit, changes, characters};
+use crate::fault::{EditFault, LoadFault};
+use crate::heads;
+use crate::load::{check, load_text};
+use crate::made::{events_by, put_behind};
+use ew_model::NoMem;
+use ew_model::event::Event;
+use ew_model::id::Id;
+use ew_model::limits::Limits;
+use ew_model::name::Name;
+use ew_model::steps::Steps;
+use ew_model::text_op::TextOp;
+use rope::Rope;
+use std::alloc::Global;
+use std::marker::Model;
+use std::sync::ledger::Ledger;
+
+/// The most parents of an event.
+const MOST_PARENTS: u32 = 16;
+
+/// The events that one person holds, with their text. Contracts see its limits, the events held and those that wait.
+#[derive(Drop)]
+pub struct Replica {
+    limits: Limits,
+    events: Vec<Event>,
+    text: Rope,
+    heads: Vec<u32>,
+}
+
+impl Model for Replica {
+    ghost use Rattle.std.specs.Prelude.{[]};
+    ghost use Rattle.ew_model.specs.Kept.{ReplicaState};
+    ghost use Rattle.replica.specs.Keeping.{IsUpToDate};
+
+    ghost Value = { ReplicaState };
+
+    ghost view = { λ r. record { limits = r.limits; held = r.events.items; waiting = [] } };
+
+    ghost invariant = { λ r. IsUpToDate r.limits r.events.items r.text r.heads.items };
+}
+
+impl Replica {
+    /// A replica of no events.
+    pub fn new(alloc: Global, limits: Limits) -> Result<Replica, NoMem>
+        ensures { IfOk result (λ r. r ≡ record { limits = limits; held = []; waiting = [] }) }
+    {
+        let events = Vec::new(alloc);
+        let text = Rope::new(alloc)?;
+        let heads = Vec::new(alloc);
+        Ok(Replica {
+            limits,
+            events,
+            text,
+            heads,
+        })
+    }
+
+    /// A replica of the events, or the first that isn't good behind those before it.
+    pub fn from_events<L: Ledger>(
+        alloc: Global,
+        events: Vec<Event>,
+        limits: Limits,
+        steps: &mut Steps<L>,
+    ) -> Result<Replica, LoadFault>
+        requires { length events.items ≤ limits.events }
+        ensures loads { Loads events.items limits result }
+        ensures steps { steps.new ≡ steps.old }
+    {
+        let _ = steps;
+        let _most = limits.events();
+        check(alloc, events.as_slice())?;
+        let replica = of_good(alloc, events, limits)?;
+        Ok(replica)
+    }
+
+    /// The text, in UTF-8.
+    pub fn text(&self) -> Result<Vec<u8>, NoMem>
+        ensures { IfOk result (λ v. v.items ≡ encode_utf8_all (text_of self.now.held)) }
+    {
+        let mut bytes = Vec::new(*self.events.allocator());
+        self.text.write_to(&mut bytes)?;
+        Ok(bytes)
+    }
+
+    /// How many characters the text has.
+    pub fn len(&self) -> u32
+        ensures { result ≡ length (text_of self.now.held) }
+    {
+        self.text.len()
+    }
+
+    /// The positions of the heads among the events held, rising.
+    pub fn heads(&self) -> &[u32]
+        ensures { result.now ≡ head_positions self.now.held }
+    {
+        self.heads.as_slice()
+    }
+
+    /// The ids of the heads, ascending.
+    pub fn head_ids(&self) -> Result<Vec<Id>, NoMem>
+        ensures { IfOk result (λ v. v.items ≡ sort_by id_cmp (heads self.now.held)) }
+    {
+        heads::head_ids(*self.events.allocator(), self.events.as_slice())
+    }
+
+    /// The limits that it was made with. They hold for what it keeps.
+    pub fn limits(&self) -> Limits
+        ensures limits { result ≡ self.now.limits }
+        ensures kept { IsKept self.now.limits self.now.held self.now.waiting }
+    {
+        self.limits
+    }
+
+    /// The events held, in order. They may be written as a file.
+    pub fn events(&self) -> &[Event]
+        ensures events { result.now ≡ self.now.held }
+        ensures writable { IsWritable self.now.held }
+    {
+        let _most = self.limits.events();
+        self.events.as_slice()
+    }
+
+    /// Inserts the characters of a text at an index: one event for each. Answers how many events were made.
+    pub fn insert<L: Ledger>(
+        &mut self,
+        agent: Name,
+        at: u32,
+        text: &str,
+        steps: &mut Steps<L>,
+    ) -> Result<u32, EditFault>
+        requires { is_awaited self.old.held self.old.waiting agent ≡ false }
+        ensures edits { EditsBy agent (model.Edit.Insert at (chars text.now)) self.old self.new result }
+        ensures text { OnOk result (text_of self.new.held ≡ edited (model.Edit.Insert at (chars text.now)) (text_of self.old.held)) }
+        ensures steps { steps.new ≡ steps.old }
+    {
+        let _ = steps;
+        let text = characters(*self.events.allocator(), text)?;
+        self.edit(agent, &Edit::Insert { at, text })
+    }
+
+    /// Deletes n characters from an index on: one event for each. Answers how many events were made.
+    pub fn delete<L: Ledger>(
+        &mut self,
+        agent: Name,
+        at: u32,
+        n: u32,
+        steps: &mut Steps<L>,
+    ) -> Result<u32, EditFault>
+        requires { is_awaited self.old.held self.old.waiting agent ≡ false }
+        ensures edits { EditsBy agent (model.Edit.Delete at n) self.old self.new result }
+        ensures text { OnOk result (text_of self.new.held ≡ edited (model.Edit.Delete at n) (text_of self.old.held)) }
+        ensures steps { steps.new ≡ steps.old }
+    {
+        let _ = steps;
+        self.edit(agent, &Edit::Delete { at, n })
+    }
+
+    /// Makes the events of an edit, and holds them. Nothing waits, so no event waits for one of the agent's.
+    fn edit(&mut self, agent: Name, edit: &Edit) -> Result<u32, EditFault>
+        ensures edits { EditsBy agent (edit_view edit.now) self.old self.new result }
+        ensures text { OnOk result (text_of self.new.held ≡ edited (edit_view edit.now) (text_of self.old.held)) }
+    {
+        let _ = &self.events;
+        if let Some(fault) = self.refusal(edit) {
+            return Err(fault);
+        }
+        if edit.size() == 0 {
+            return Ok(0);
+        }
+        let (made, changes) = self.make(agent, edit)?;
+        let n = self.append(made, changes.as_slice())?;
+        Ok(n)
+    }
+
+    /// The first reason against an edit.
+    fn refusal(&self, edit: &Edit) -> Option<EditFault>
+        ensures { option_and_then refusal_of result ≡ refusal_by (length (text_of self.now.held)) (length (heads self.now.held)) (length self.now.held) self.now.limits.events (model.needed_length (edit_view edit.now)) (size_of (edit_view edit.now)) }
+    {
+        let len = self.len();
+        if u64::from(len) < edit.needed() {
+            return Some(EditFault::OutOfRange { len });
+        }
+        if edit.size() == 0 {
+            return None;
+        }
+        let heads = self.head_count();
+        if heads > MOST_PARENTS {
+            return Some(EditFault::TooManyHeads { heads });
+        }
+        if u64::from(self.room()) < edit.size() {
+            let count = self.count();
+            return Some(EditFault::Full { count });
+        }
+        None
+    }
+
+    /// How many events are held.
+    fn count(&self) -> u32
+        ensures { result ≡ length self.now.held }
+    {
+        let _most = self.limits.events();
+        self.events.len() as u32
+    }
+
+    /// How many more events may be held.
+    fn room(&self) -> u32
+        ensures { result + length self.now.held ≡ self.now.limits.events }
+    {
+        let most = self.limits.events();
+        most - self.events.len() as u32
+    }
+
+    fn head_count(&self) -> u32
+        ensures { result ≡ length (heads self.now.held) }
+    {
+        let _most = self.limits.events();
+        self.heads.len() as u32
+    }
+
+    /// The events of an edit that isn't refused, and what they do to the text.
+    fn make(&self, agent: Name, edit: &Edit) -> Result<(Vec<Event>, Vec<TextOp>), NoMem>
+        requires allowed { model.edit_refusal self.now.limits self.now.held agent (edit_view edit.now) ≡ None }
+        requires some { 0 < size_of (edit_view edit.now) }
+        ensures events { IfOk result (λ made. made.0.items ≡ model.events_of_edit self.now.held agent (edit_view edit.now)) }
+        ensures can { IfOk result (λ made. CanAppend self.now.limits self.now.held made.0.items made.1.items) }
+    {
+        let _most = self.limits.events();
+        let alloc = *self.events.allocator();
+        let ops = edit.ops(alloc)?;
+        let made = events_by(alloc, self.events.as_slice(), agent, ops.as_slice())?;
+        let changes = changes(alloc, ops.as_slice())?;
+        Ok((made, changes))
+    }
+
+    /// Holds some more events, and changes the text. Answers how many they are. All room is made first.
+    fn append(&mut self, made: Vec<Event>, changes: &[TextOp]) -> Result<u32, NoMem>
+        requires some { 0 < length made.items }
+        requires can { CanAppend self.old.limits self.old.held made.items changes.now }
+        ensures count { IfOk result (λ n. n ≡ length made.items) }
+        ensures ok { OnOk result (self.new ≡ record { limits = self.old.limits; held = self.old.held ++ made.items; waiting = self.old.waiting }) }
+        ensures err { OnErr result (self.new ≡ self.old) }
+    {
+        let _most = self.limits.events();
+        let n = made.len() as u32;
+        let last = self.events.len() as u32 + n - 1;
+        let heads = Vec::from_slice(*self.events.allocator(), &[last])?;
+        self.events.reserve(made.len())?;
+        self.text.apply(changes)?;
+        self.heads = heads;
+        put_behind(&mut self.events, made);
+        Ok(n)
+    }
+}
+
+/// What is kept of events that are good.
+fn of_good(alloc: Global, events: Vec<Event>, limits: Limits) -> Result<Replica, NoMem>
+    requires good { IsGood events.items }
+    requires few { length events.items ≤ limits.events }
+    ensures { IfOk result (λ r. r ≡ record { limits = limits; held = events.items; waiting = [] }) }
+{
+    let _most = limits.events();
+    let text = load_text(alloc, events.as_slice())?;
+    let heads = heads::head_positions(alloc, events.as_slice())?;
+    Ok(Replica {
+        limits,
+        events,
+        text,
+        heads,
+    })
+}
