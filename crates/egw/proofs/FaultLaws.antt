@@ -1,5 +1,5 @@
 -- A fault of a file is the finding that it says.
-use Rattle.std.proofs.Common.{◌≡◌, Some, None, sym, subst}
+use Rattle.std.proofs.Common.{sym, subst}
 use Rattle.std.specs.Prelude.{IsSomeAnd}
 use Rattle.ew_model.specs.FileFaults.{FileFinding}
 use Rattle.event_file.specs.declared.fault.FileFault.{FileFault}

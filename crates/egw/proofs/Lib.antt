@@ -1,5 +1,6 @@
 pub mod FaultLaws
 pub mod Outputs
+pub mod Readings
 pub mod Runs
 pub mod Stops
 pub mod TakenWords

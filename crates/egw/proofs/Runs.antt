@@ -1,6 +1,5 @@
 -- From what the parts of a run ensure to what a run is.
-use Rattle.std.proofs.Common.{Vec, ◌≡◌, ◌≤◌, ◌<◌, ◌⊎◌, inl, inr, ℕ, List, [], false, refl, sym, ◌∙◌, ap, subst, arith, Option, None, Some, Result, Ok, Err, Bool, true}
-use Rattle.std.specs.Option.{option_map}
+use Rattle.std.proofs.Common.{Vec, ◌≡◌, ◌≤◌, ◌<◌, ◌⊎◌, inl, inr, ℕ, List, [], false, refl, sym, ◌∙◌, ap, subst, arith, Option, None, Some, Result, Ok, Err}
 use Rattle.std.specs.Io.KnownBytes.{Appends}
 use Rattle.std.proofs.KnownBytes.{Appends-nil}
 use Rattle.std.proofs.lemmas.Bool.Decides.{eqb_tells}
@@ -12,7 +11,7 @@ use Rattle.ew_outside.specs.Bytes.{IsFlushed}
 use Rattle.egw.specs.Outputs.{GrowsByFront}
 use Rattle.egw.specs.Text.{out_of_memory}
 use Rattle.egw.specs.Scripts.{Reading, Means}
-use Rattle.egw.specs.Table.{Text, Command, Reply, Answer, reply_of, answer_of, reads_input, needs_file}
+use Rattle.egw.specs.Table.{Command, Reply, Answer, reply_of, answer_of, reads_input, needs_file}
 use Rattle.egw.specs.Views.{plan_view, status_of, Causes, MissesFor, MissesBy, PlansBy, PlansLine, ReadsFor, ReadsAll, IsRefusal}
 use Rattle.egw.specs.Endings.{EndFiles, EndOut, EndShelfCount, EndSinkCount, EndsPlan, end_of_stop, end_status, end_text, FilesAfter, files_after, out_of}
 use Rattle.egw.specs.Headline.{Seen, Object, shelf, source, sink, faults_of, failed_text, TellsErr, IsAnswered, IsFailed, IsOutOfMemory, IsTableRun, NamesFault, IsLineRun}

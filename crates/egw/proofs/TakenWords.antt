@@ -1,10 +1,10 @@
 -- When words are taken.
-use Rattle.std.proofs.Common.{◌≡◌, ◌⊎◌, inl, inr, codes, true, refl, sym, ◌∙◌, ap, subst, List, [], ◌∷◌, Option, None, Some}
-use Rattle.clap.specs.Words.{App, Row, Kinds, IsAmong, fault_of, subcommand_of, is_simple, is_simple_and_free}
+use Rattle.std.proofs.Common.{◌≡◌, ◌⊎◌, inl, inr, codes, true, refl, sym, ◌∙◌, ap, List, [], ◌∷◌, Option, None, Some}
+use Rattle.clap.specs.Words.{Row, Kinds, IsAmong, fault_of, subcommand_of, is_simple, is_simple_and_free}
 use Rattle.clap.specs.declared.error.kind.ErrorKind.{ErrorKind}
 use Rattle.clap.specs.declared.error.kind.ErrorKind.TheVariants.{OutOfMemory}
 use Rattle.clap.proofs.OnLiterals.{clap_on_literals}
-use Rattle.egw.specs.Table.{Text, Command, cat, create, edit, head_list, line_in, where_none, line_of}
+use Rattle.egw.specs.Table.{Text, Command, cat, edit, line_in, where_none, line_of}
 use Rattle.egw.specs.Cli.{create_app, edit_app, cat_app, heads_app, egw_app}
 
 pub egw_is_simple : is_simple egw_app ≡ true

@@ -2,6 +2,7 @@
 use Rattle.std.specs.Prelude.{◌≡◌, ◌≤◌, ⊤, ℕ, List, [], Option, None, Some, Result, Ok, Err, Bool, true, false, ◌⊎◌}
 use Rattle.ew_outside.specs.Files.{Files}
 use Rattle.ew_outside.specs.Counts.{Rose}
+use Rattle.ew_model.specs.Limits.{LimitNumbers}
 use Rattle.ew_model.specs.Names.{is_name}
 use Rattle.egw.specs.Scripts.{Reading, Means}
 use Rattle.egw.specs.Table.{Command, cat, create, edit, head_list, Reply, prints, stores, refuses, Opened, opened, refused}
@@ -106,6 +107,11 @@ IsRead (found.Refused status _) = IsFileStatus status
 abbrev pub IsOpenable : Found → Type 0
 IsOpenable (found.Open _) = ⊤
 IsOpenable (found.Refused status _) = IsRefusal status
+
+-- a file that is open is a replica of these limits, in which nothing waits
+abbrev pub IsFresh : LimitNumbers → Found → Type 0
+IsFresh limits (found.Open replica) = (replica.limits ≡ limits) × (replica.waiting ≡ [])
+IsFresh limits (found.Refused _ _) = ⊤
 
 -- the count of misses rises where the file is missing
 abbrev pub OpenMisses : ℕ → ℕ → Result Found Stop → Type 0

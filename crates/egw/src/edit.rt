@@ -190,8 +190,6 @@ pub fn edit<'a, H: Shelf, S: Source, L: Ledger>(
 {
     match open(alloc, name, limits, shelf, steps)? {
         Found::Refused { status, text } => Ok(Plan::Refuses { status, text }),
-        Found::Open(replica) => {
-            take_input(alloc, name, agent, limits, replica, input, steps)
-        }
+        Found::Open(replica) => { take_input(alloc, name, agent, limits, replica, input, steps) }
     }
 }

@@ -7,7 +7,7 @@ ghost use Rattle.ew_model.specs.Verdicts.{first_bad};
 ghost use Rattle.egw.specs.Faults.{finding_of};
 ghost use Rattle.egw.specs.Loads.{whole_of};
 ghost use Rattle.egw.specs.Table.{judged, open_file, read_as, refused};
-ghost use Rattle.egw.specs.Views.{IsFileStatus, IsJudged, IsOpenable, IsRead, OpenMisses, ShelfCauses, opened_view};
+ghost use Rattle.egw.specs.Views.{IsFileStatus, IsFresh, IsJudged, IsOpenable, IsRead, OpenMisses, ShelfCauses, opened_view};
 
 use crate::load::{Loaded, load_whole};
 use crate::reply::Stop;
@@ -42,6 +42,7 @@ fn judge<L: Ledger>(
     requires { length events.items ≤ limits.events }
     ensures told { IfOk result (λ f. opened_view f ≡ judged name.now events.items (first_bad events.items)) }
     ensures status { IfOk result IsJudged }
+    ensures fresh { IfOk result (λ f. IsFresh limits f) }
 {
     match Replica::from_events(alloc, events, limits, steps) {
         Ok(replica) => Ok(Found::Open(replica)),
@@ -88,6 +89,7 @@ fn read<L: Ledger>(
 ) -> Result<Found, AllocError>
     ensures told { IfOk result (λ f. opened_view f ≡ read_as name.now limits.now (file_finding limits.now.events bytes.now)) }
     ensures status { IfOk result IsRead }
+    ensures fresh { IfOk result (λ f. IsFresh limits.now f) }
 {
     match decode(alloc, bytes, limits.events()) {
         Ok(events) => judge(alloc, name, *limits, events, steps),
@@ -108,6 +110,7 @@ pub fn open<H: Shelf, L: Ledger>(
 ) -> Result<Found, Stop>
     ensures told { IfSome (H.files shelf.old) (λ m. IfOk result (λ f. opened_view f ≡ open_file name.now limits.now m)) }
     ensures status { IfOk result IsOpenable }
+    ensures fresh { IfOk result (λ f. IsFresh limits.now f) }
     ensures same { H.files shelf.new ≡ H.files shelf.old }
     ensures cause { ShelfCauses (H.faults shelf.old) (H.faults shelf.new) result }
     ensures misses { OpenMisses (H.misses shelf.old) (H.misses shelf.new) result }

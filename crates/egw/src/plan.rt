@@ -43,7 +43,15 @@ pub fn make_plan<'a, H: Shelf, S: Source, L: Ledger>(
     };
     match line {
         Taken::New(name) => create(alloc, name, shelf),
-        Taken::Edit { file, agent } => edit(alloc, file, name_of(agent), limits, shelf, input, steps),
+        Taken::Edit { file, agent } => edit(
+            alloc,
+            file,
+            name_of(agent),
+            limits,
+            shelf,
+            input,
+            steps,
+        ),
         Taken::Cat(name) => cat(alloc, name, limits, shelf, steps),
         Taken::Heads(name) => heads(alloc, name, limits, shelf, steps),
     }

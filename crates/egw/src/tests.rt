@@ -70,7 +70,10 @@ fn a_file_is_made_edited_and_read(rt: HostRuntime) -> Result<(), Fail> {
     let limits = Limits::program();
     let mut at = make_outside(alloc)?;
     assert_eq!(rt; answer(alloc, &mut at, &limits, "new F", b"")?, 0);
-    assert_eq!(rt; answer(alloc, &mut at, &limits, "edit F --agent a", b"ins 0 abc\n")?, 0);
+    assert_eq!(rt;
+        answer(alloc, &mut at, &limits, "edit F --agent a", b"ins 0 abc\n")?,
+        0
+    );
     assert_eq!(rt; answer(alloc, &mut at, &limits, "cat F", b"")?, 0);
     assert_eq!(rt; answer(alloc, &mut at, &limits, "heads F", b"")?, 0);
     assert_eq!(rt; at.out.bytes.as_slice(), b"made 3\nabca:2\n".as_slice());
@@ -86,10 +89,40 @@ fn a_script_is_run_whole_or_not_at_all(rt: HostRuntime) -> Result<(), Fail> {
     let limits = Limits::program();
     let mut at = make_outside(alloc)?;
     assert_eq!(rt; answer(alloc, &mut at, &limits, "new F", b"")?, 0);
-    assert_eq!(rt; answer(alloc, &mut at, &limits, "edit F --agent a", b"ins 0 a\\nb\ndel 0 2")?, 0);
-    assert_eq!(rt; answer(alloc, &mut at, &limits, "edit F --agent b", b"ins 0 x\nins 00 a\n")?, 5);
-    assert_eq!(rt; answer(alloc, &mut at, &limits, "edit F --agent b", b"ins 1 x\nins 4 x\n")?, 5);
-    assert_eq!(rt; answer(alloc, &mut at, &limits, "edit F --agent b", b"\ndel 1 0\n")?, 0);
+    assert_eq!(rt;
+        answer(
+            alloc,
+            &mut at,
+            &limits,
+            "edit F --agent a",
+            b"ins 0 a\\nb\ndel 0 2"
+        )?,
+        0
+    );
+    assert_eq!(rt;
+        answer(
+            alloc,
+            &mut at,
+            &limits,
+            "edit F --agent b",
+            b"ins 0 x\nins 00 a\n"
+        )?,
+        5
+    );
+    assert_eq!(rt;
+        answer(
+            alloc,
+            &mut at,
+            &limits,
+            "edit F --agent b",
+            b"ins 1 x\nins 4 x\n"
+        )?,
+        5
+    );
+    assert_eq!(rt;
+        answer(alloc, &mut at, &limits, "edit F --agent b", b"\ndel 1 0\n")?,
+        0
+    );
     assert_eq!(rt; answer(alloc, &mut at, &limits, "cat F", b"")?, 0);
     assert_eq!(rt; at.out.bytes.as_slice(), b"made 5\nmade 0\nb".as_slice());
     let told = b"egw: line 2: unreadable\negw: line 2: out of range, length 2\n";
@@ -108,7 +141,10 @@ fn files_that_are_not_there_or_are_there_are_told(rt: HostRuntime) -> Result<(),
     let told = b"egw: no file F\negw: file F is there\n";
     assert_eq!(rt; at.err.bytes.as_slice(), told.as_slice());
     assert_eq!(rt; answer(alloc, &mut at, &limits, "cat", b"")?, 2);
-    assert_eq!(rt; answer(alloc, &mut at, &limits, "edit F --agent -a", b"")?, 2);
+    assert_eq!(rt;
+        answer(alloc, &mut at, &limits, "edit F --agent -a", b"")?,
+        2
+    );
     assert_eq!(rt; at.out.bytes.as_slice().len(), 0);
     Ok(())
 }
@@ -130,7 +166,8 @@ fn what_is_wrong_with_a_file_is_told(rt: HostRuntime) -> Result<(), Fail> {
     assert_eq!(rt; answer(alloc, &mut at, &limits, "cat G", b"")?, 4);
     assert_eq!(rt; answer(alloc, &mut at, &limits, "cat H", b"")?, 4);
     assert_eq!(rt; answer(alloc, &mut at, &limits, "cat I", b"")?, 4);
-    let told = b"egw: G: event 0: out of range, length 0\negw: H: digest 0096702c34aa02ada2ca0f8cf819c6a5763c83cde215138023a5045eb5a0e042, found ccb90137d83337afbdc82ee561071cd25d65d958b73f0f936f747c5f03326500\negw: I: short, 47 bytes\n";
+    let told =
+        b"egw: G: event 0: out of range, length 0\negw: H: digest 0096702c34aa02ada2ca0f8cf819c6a5763c83cde215138023a5045eb5a0e042, found ccb90137d83337afbdc82ee561071cd25d65d958b73f0f936f747c5f03326500\negw: I: short, 47 bytes\n";
     assert_eq!(rt; at.err.bytes.as_slice(), told.as_slice());
     Ok(())
 }
@@ -141,12 +178,22 @@ fn limits_are_told(rt: HostRuntime) -> Result<(), Fail> {
     let limits = Limits::new(3, 1, 64, 643).ok_or("limits")?;
     let mut at = make_outside(alloc)?;
     assert_eq!(rt; answer(alloc, &mut at, &limits, "new F", b"")?, 0);
-    assert_eq!(rt; answer(alloc, &mut at, &limits, "edit F --agent a", b"ins 0 abcd")?, 7);
-    assert_eq!(rt; answer(alloc, &mut at, &limits, "edit F --agent a", &[10; 65])?, 7);
-    assert_eq!(rt; answer(alloc, &mut at, &limits, "edit F --agent a", &[10; 64])?, 0);
+    assert_eq!(rt;
+        answer(alloc, &mut at, &limits, "edit F --agent a", b"ins 0 abcd")?,
+        7
+    );
+    assert_eq!(rt;
+        answer(alloc, &mut at, &limits, "edit F --agent a", &[10; 65])?,
+        7
+    );
+    assert_eq!(rt;
+        answer(alloc, &mut at, &limits, "edit F --agent a", &[10; 64])?,
+        0
+    );
     assert!(rt; at.shelf.store("G", &[0; 394]).is_ok());
     assert_eq!(rt; answer(alloc, &mut at, &limits, "cat G", b"")?, 7);
-    let told = b"egw: more than 3 events\negw: input: more than 64 bytes\negw: G: more than 393 bytes\n";
+    let told =
+        b"egw: more than 3 events\negw: input: more than 64 bytes\negw: G: more than 393 bytes\n";
     assert_eq!(rt; at.err.bytes.as_slice(), told.as_slice());
     Ok(())
 }
@@ -160,7 +207,10 @@ fn an_object_that_fails_is_named(rt: HostRuntime) -> Result<(), Fail> {
     at.shelf = MemShelf::new(alloc, vec![in alloc; 1, 3]?, vec![in alloc; 3]?);
     assert!(rt; at.shelf.store("F", &letter).is_ok());
     assert_eq!(rt; answer(alloc, &mut at, &limits, "cat F", b"")?, 6);
-    assert_eq!(rt; answer(alloc, &mut at, &limits, "edit F --agent a", b"del 0 1")?, 6);
+    assert_eq!(rt;
+        answer(alloc, &mut at, &limits, "edit F --agent a", b"del 0 1")?,
+        6
+    );
     at.out = MemSink::new(alloc, 1000, vec![in alloc; 0, 2]?)?;
     assert_eq!(rt; answer(alloc, &mut at, &limits, "heads F", b"")?, 6);
     assert_eq!(rt; answer(alloc, &mut at, &limits, "heads F", b"")?, 6);

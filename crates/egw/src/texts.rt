@@ -8,7 +8,8 @@ use event_file::RecordFault;
 use ew_model::verdict::Verdict;
 use std::alloc::{AllocError, Global};
 
-const USAGE: &str = "usage: egw new FILE\n       egw edit FILE --agent NAME\n       egw cat FILE [--at VERSION]\n       egw heads FILE\n       egw log FILE\n       egw replay FILE\n       egw check FILE\n       egw merge FILE OTHER\n       egw ask FILE\n       egw serve FILE\n       egw net\n       egw make --seed N --count N\n";
+const USAGE: &str =
+    "usage: egw new FILE\n       egw edit FILE --agent NAME\n       egw cat FILE [--at VERSION]\n       egw heads FILE\n       egw log FILE\n       egw replay FILE\n       egw check FILE\n       egw merge FILE OTHER\n       egw ask FILE\n       egw serve FILE\n       egw net\n       egw make --seed N --count N\n";
 
 pub fn usage_text(alloc: Global) -> Result<Vec<u8>, AllocError>
     ensures { IfOk result (λ t. t.items ≡ usage) }

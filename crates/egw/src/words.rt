@@ -83,10 +83,7 @@ fn read_matches<'a>(matches: &ArgMatches<'a>) -> Option<Taken<'a>>
 }
 
 /// Takes the words, or `None` where `clap` doesn't or the agent is no name.
-pub fn read_words<'a>(
-    alloc: Global,
-    words: &'a [String],
-) -> Result<Option<Taken<'a>>, AllocError>
+pub fn read_words<'a>(alloc: Global, words: &'a [String]) -> Result<Option<Taken<'a>>, AllocError>
     ensures line { IfOk result (λ l. option_map line_view l ≡ line_of (map string_bytes words.now)) }
     ensures named { IfOk result (λ l. IsNamed (option_map line_view l)) }
 {

@@ -1,5 +1,5 @@
 -- A text has at most one character for each event.
-use Rattle.std.proofs.Common.{◌≡◌, ℕ, suc, ◌+◌, ◌*◌, ◌^◌, ◌<◌, ◌≤◌, Bool, true, false, not, cond, ◌||◌, List, [], ◌∷◌, ◌++◌, map, filter, fold, length, Option, Some, None, refl, sym, ap, ◌∙◌, arith, length-append}
+use Rattle.std.proofs.Common.{◌≡◌, ℕ, suc, ◌+◌, ◌*◌, ◌^◌, ◌<◌, ◌≤◌, Bool, true, false, not, cond, ◌||◌, List, [], ◌∷◌, ◌++◌, filter, fold, length, Option, Some, None, refl, ap, ◌∙◌, arith, length-append}
 use Rattle.std.proofs.Math.Nat.{mul-le-mul_left}
 use Rattle.std.specs.List.{list_any}
 use Rattle.std.specs.Ordering.{is_lt}
@@ -13,7 +13,7 @@ use Rattle.ew_model.specs.Sorting.{put_in_order, sort_by}
 use Rattle.ew_model.specs.Entries.{Inserted, Entry, inserted_cmp, insertions, is_deleted, order, visible}
 use Rattle.ew_model.specs.Entries.Entry.{Insertion, Deletion}
 use Rattle.ew_model.specs.Tree.{Applied, Noted, all_entries, entries_over, next_entry, noted_as, grow, tree_of, applied_after, tree_on, tree}
-use Rattle.ew_model.specs.Texts.{visible_at, text_at, text_of}
+use Rattle.ew_model.specs.Texts.{visible_at, text_at}
 
 kept_le : {X : Type 0} (b : Bool) (x : X) (xs : List X) (n : ℕ) → length xs ≤ n → length (cond b (x ∷ xs) xs) ≤ suc n
 kept_le true x xs n h = omega (arith, h)

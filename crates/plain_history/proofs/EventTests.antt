@@ -1,5 +1,5 @@
 -- The test of events tells whether they are one.
-use Rattle.std.proofs.Common.{◌≡◌, ℕ, Bool, true, false, IsTrue, ◌↔◌, ◌&&◌, ◌==◌, List, [], ◌∷◌, refl, sym, ap, ◌∙◌, subst, arith}
+use Rattle.std.proofs.Common.{◌≡◌, Bool, true, IsTrue, ◌↔◌, ◌&&◌, ◌==◌, List, [], ◌∷◌, refl, subst}
 use Rattle.std.specs.Cmp.Lexicographic.{pointwise}
 use Rattle.std.proofs.lemmas.Bool.{false≢true, and_parts, eqb-true}
 use Rattle.ew_model.specs.declared.id.Id.{Id}

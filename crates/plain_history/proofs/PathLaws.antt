@@ -1,5 +1,5 @@
 -- A right child's path is one step longer than its parent's.
-use Rattle.std.proofs.Common.{◌≡◌, ◌≢◌, ◌+◌, Bool, true, false, ◌&&◌, List, [], ◌∷◌, length, refl, sym, ap, ◌∙◌, arith}
+use Rattle.std.proofs.Common.{◌≡◌, ◌≢◌, ◌+◌, Bool, true, false, ◌&&◌, List, [], ◌∷◌, length, refl, arith}
 use Rattle.std.specs.Ordering.{is_eq}
 use Rattle.ew_model.specs.Paths.{Step, step_cmp, is_right_child}
 

@@ -1,5 +1,5 @@
 -- An element put into a list in order stands at the first place with a greater one.
-use Rattle.std.proofs.Common.{◌≡◌, ℕ, ◌+◌, suc, Bool, true, false, not, cond, List, [], ◌∷◌, ◌++◌, insert, refl, ap, ◌∙◌, sym, one-add}
+use Rattle.std.proofs.Common.{◌≡◌, ℕ, ◌+◌, Bool, true, false, not, cond, List, [], ◌∷◌, insert, refl, ap, ◌∙◌, sym, one-add}
 use Rattle.std.specs.List.{position_or_len}
 use Rattle.std.specs.Ordering.{is_lt}
 use Rattle.std.specs.declared.cmp.Ordering.{Ordering}

@@ -1,12 +1,12 @@
 -- What is left of a history when one more event is taken.
-use Rattle.std.proofs.Common.{◌≡◌, ℕ, suc, ◌+◌, ◌*◌, ◌<◌, ◌≤◌, nat_le, min, Bool, true, false, List, [], ◌∷◌, ◌++◌, take, drop, length, get_or, map, refl, sym, ap, ◌∙◌, arith, add-one}
-use Rattle.std.proofs.lemmas.List.{take_more, take_all, drop_all, length-map}
+use Rattle.std.proofs.Common.{◌≡◌, ℕ, ◌+◌, ◌<◌, ◌≤◌, nat_le, min, Bool, true, false, List, [], ◌∷◌, ◌++◌, take, drop, length, get_or, refl, sym, ap, ◌∙◌, arith, add-one}
+use Rattle.std.proofs.lemmas.List.{take_more, take_all, drop_all}
 use Rattle.std.proofs.Math.Seq.{drop-cons}
 use Rattle.std.proofs.lemmas.Bool.{leb-true, leb-false}
 use Rattle.ew_model.specs.declared.id.Id.{Id}
 use Rattle.ew_model.specs.declared.event.Event.{Event}
-use Rattle.ew_model.specs.Ids.{id_eq, is_among}
-use Rattle.ew_model.specs.Ancestors.{ids_of, is_parent, version_events, ancestors}
+use Rattle.ew_model.specs.Ids.{id_eq}
+use Rattle.ew_model.specs.Ancestors.{ids_of, ancestors}
 use Rattle.ew_model.specs.Touches.{difference, touches_after, touches}
 use Rattle.ew_model.specs.Tree.{Noted, applied, applied_after, grow}
 use Rattle.ew_model.specs.Operations.{next_operation, operations_after}

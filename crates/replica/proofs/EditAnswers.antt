@@ -60,3 +60,11 @@ some_made agent edit old new made n none is e long =
 -- the text after an edit
 pub text_after : (agent : List ℕ) (edit : Edit) (old new : ReplicaState) (n : ℕ) → IsGood old.held → EditsBy agent edit old new (Ok n) → text_of new.held ≡ edited edit (text_of old.held)
 text_after agent edit old new n good e = ap (λ (s : ReplicaState). text_of s.held) e.1 ∙ (edits_change_text old.limits old.held agent edit good e.0).0
+
+-- an edit leaves the waiting events as they were
+pub waiting_stays : (agent : List ℕ) (edit : Edit) (old new : ReplicaState) (result : Result ℕ EditFault) → EditsBy agent edit old new result → new.waiting ≡ old.waiting
+waiting_stays agent edit old new (Ok n) e = ap (λ (s : ReplicaState). s.waiting) e.1
+waiting_stays agent edit old new (Err (fault.OutOfRange len)) e = ap (λ (s : ReplicaState). s.waiting) e.1
+waiting_stays agent edit old new (Err (fault.TooManyHeads n)) e = ap (λ (s : ReplicaState). s.waiting) e.1
+waiting_stays agent edit old new (Err (fault.Full count)) e = ap (λ (s : ReplicaState). s.waiting) e.1
+waiting_stays agent edit old new (Err fault.OutOfMemory) e = ap (λ (s : ReplicaState). s.waiting) e

@@ -15,9 +15,9 @@ insertions_at-push at (x ∷ text) ch =
 pub insertions_more : (at : ℕ) (text : List ℕ) (i ch : ℕ) → i < length text → ch ≡ get_or text i 0 → insertions_at at (take i text) ++ Ins (at + i) ch ∷ [] ≡ insertions_at at (take (i + 1) text)
 insertions_more at text i ch within is =
     sym (
-      ap (insertions_at at) (take_more text i 0 within ∙ ap (λ c. take i text ++ c ∷ []) (sym is))
-      ∙ insertions_at-push at (take i text) ch
-      ∙ ap (λ k. insertions_at at (take i text) ++ Ins (at + k) ch ∷ []) (length-take-le i text (omega arith)))
+    ap (insertions_at at) (take_more text i 0 within ∙ ap (λ c. take i text ++ c ∷ []) (sym is))
+    ∙ insertions_at-push at (take i text) ch
+    ∙ ap (λ k. insertions_at at (take i text) ++ Ins (at + k) ch ∷ []) (length-take-le i text (omega arith)))
 
 deletions_alike : (at n : ℕ) → deletions_at at n ≡ replicate n (Del at)
 deletions_alike at zero = refl

@@ -5,7 +5,7 @@ ghost use Rattle.replica.specs.declared.fault.LoadFault.TheVariants as load;
 ghost use Rattle.replica.specs.declared.fault.EditFault.TheVariants as edit;
 
 use ew_model::verdict::Verdict;
-use std::alloc::{AllocError, AllocFailed};
+use std::alloc::AllocError;
 use thiserror::Error;
 
 /// Why events make no replica.
@@ -46,14 +46,6 @@ impl From<AllocError> for EditFault {
     ghost from_gives = { λ _ e. e ≡ edit.OutOfMemory };
 
     fn from(_e: AllocError) -> EditFault {
-        EditFault::OutOfMemory
-    }
-}
-
-impl<T: Drop> From<AllocFailed<T>> for EditFault {
-    ghost from_gives = { λ _ e. e ≡ edit.OutOfMemory };
-
-    fn from(_e: AllocFailed<T>) -> EditFault {
         EditFault::OutOfMemory
     }
 }

@@ -7,6 +7,8 @@ mod heads;
 mod load;
 mod made;
 mod state;
+#[cfg(test)]
+mod tests;
 
 pub use fault::{EditFault, LoadFault};
 pub use state::Replica;

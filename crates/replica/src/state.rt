@@ -181,14 +181,14 @@ impl Replica {
         ensures edits { EditsBy agent (edit_view edit.now) self.old self.new result }
         ensures text { OnOk result (text_of self.new.held ≡ edited (edit_view edit.now) (text_of self.old.held)) }
     {
-        let _ = &self.events;
+        let alloc = *self.events.allocator();
         if let Some(fault) = self.refusal(edit) {
             return Err(fault);
         }
         if edit.size() == 0 {
             return Ok(0);
         }
-        let (made, changes) = self.make(agent, edit)?;
+        let (made, changes) = self.make(alloc, agent, edit)?;
         let n = self.append(made, changes.as_slice())?;
         Ok(n)
     }
@@ -239,14 +239,18 @@ impl Replica {
     }
 
     /// The events of an edit that isn't refused, and what they do to the text.
-    fn make(&self, agent: Name, edit: &Edit) -> Result<(Vec<Event>, Vec<TextOp>), NoMem>
+    fn make(
+        &self,
+        alloc: Global,
+        agent: Name,
+        edit: &Edit,
+    ) -> Result<(Vec<Event>, Vec<TextOp>), NoMem>
         requires allowed { model.edit_refusal self.now.limits self.now.held agent (edit_view edit.now) ≡ None }
         requires some { 0 < size_of (edit_view edit.now) }
         ensures events { IfOk result (λ made. made.0.items ≡ model.events_of_edit self.now.held agent (edit_view edit.now)) }
         ensures can { IfOk result (λ made. CanAppend self.now.limits self.now.held made.0.items made.1.items) }
     {
         let _most = self.limits.events();
-        let alloc = *self.events.allocator();
         let ops = edit.ops(alloc)?;
         let made = events_by(alloc, self.events.as_slice(), agent, ops.as_slice())?;
         let changes = changes(alloc, ops.as_slice())?;

@@ -1,10 +1,10 @@
-use Rattle.std.proofs.Common.{rules, true, ◌≡◌, ◌∙◌, ap, ap₂, codes}
+use Rattle.std.proofs.Common.{true, ◌≡◌, ◌∙◌, ap, ap₂, codes}
 use Rattle.std.proofs.lemmas.Result.{IfOk-weaker}
 use Rattle.clap.specs.Words.{App, app_of, new_app, with_subcommand}
 use Rattle.clap.specs.Simple.{on_top, app_of_fields}
 use Rattle.clap.specs.declared.builder.command.Command.{Command}
 use Rattle.clap.specs.declared.builder.command.Command.TheOpen.{Command-F}
-use Rattle.egw.specs.Cli.{create_app, edit_app, cat_app, heads_app, egw_app}
+use Rattle.egw.specs.Cli.{egw_app}
 use Rattle.egw.proofs.cli.egw_command.Goals as goal
 
 pub returns : goal.returns

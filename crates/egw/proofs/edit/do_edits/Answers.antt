@@ -1,4 +1,4 @@
-use Rattle.std.proofs.Common.{◌≡◌, ◌+◌, List, ◌∷◌, ◌∙◌, ℕ, drop, ap, sym, subst}
+use Rattle.std.proofs.Common.{◌≡◌, ◌+◌, ◌∷◌, ◌∙◌, drop, ap, sym, subst}
 use Rattle.std.proofs.lemmas.List.{drop_more}
 use Rattle.event_words.specs.Meaning.{edit_meant, numbered_edits}
 use Rattle.replica.specs.Answers.{EditsBy}

@@ -1,8 +1,8 @@
-use Rattle.std.proofs.Common.{◌≡◌, ℕ, List, [], ◌∷◌, refl, sym, ◌∙◌, ap, subst, Option, Some}
+use Rattle.std.proofs.Common.{◌≡◌, List, [], ◌∷◌, refl, ◌∙◌, subst, Option, Some}
 use Rattle.ew_model.specs.Limits.{LimitNumbers}
 use Rattle.ew_outside.specs.Files.{Files}
-use Rattle.egw.specs.Table.{Text, Answer, table, line_of}
-use Rattle.egw.specs.Headline.{IsAnswered, IsTableRun}
+use Rattle.egw.specs.Table.{table}
+use Rattle.egw.specs.Headline.{IsTableRun}
 use Rattle.egw.specs.Sequences.{Line, Ran, line_answer, FollowOn, AreOf, NoneFails, AreAnswered, files_at_end, table_files}
 use Rattle.egw.proofs.laws.law_runs.Goals as goal
 

@@ -2,7 +2,6 @@ use Rattle.std.proofs.Common.{Bor, length, ap, ◌∙◌, arith}
 use Rattle.std.proofs.lemmas.List.{length-map}
 use Rattle.ew_model.specs.Entries.{Inserted, visible}
 use Rattle.ew_model.specs.Tree.{all_entries}
-use Rattle.plain_history.specs.Entries.{nodes_behind}
 use Rattle.plain_history.proofs.Bounds.{length-visible_all-le}
 use Rattle.plain_history.proofs.text_ops.next_operation.Goals as goal
 

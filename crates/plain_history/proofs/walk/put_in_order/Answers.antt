@@ -1,8 +1,7 @@
-use Rattle.std.proofs.Common.{◌≡◌, length, insert, sym, ap, ◌∙◌}
+use Rattle.std.proofs.Common.{◌≡◌, insert, sym, ap, ◌∙◌}
 use Rattle.std.specs.List.{position_or_len}
 use Rattle.std.specs.Ordering.{is_lt}
 use Rattle.ew_model.specs.Entries.{Inserted, inserted_cmp}
-use Rattle.ew_model.specs.Sorting.{put_in_order}
 use Rattle.plain_history.specs.Entries.{nodes_behind}
 use Rattle.plain_history.proofs.Mapped.{map-insert}
 use Rattle.plain_history.proofs.Placing.{put_in_order-insert}

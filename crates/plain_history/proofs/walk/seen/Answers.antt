@@ -1,4 +1,4 @@
-use Rattle.std.proofs.Common.{◌≡◌, ◌+◌, Bool, true, false, Bor, not, cond, List, [], ◌∷◌, ◌++◌, length, take, sym, ap, ◌∙◌, append-nil, arith}
+use Rattle.std.proofs.Common.{◌≡◌, true, false, Bor, not, cond, [], ◌∷◌, ◌++◌, take, sym, ap, ◌∙◌, append-nil}
 use Rattle.std.proofs.lemmas.List.{take_all, map-append}
 use Rattle.ew_model.specs.Entries.{Inserted, is_deleted, visible}
 use Rattle.plain_history.specs.Entries.{entries_behind, nodes_behind, seen_in}

@@ -1,0 +1,2 @@
+pub mod BareEvents
+pub mod Pieces

@@ -1,0 +1,9 @@
+//! What the events of a history do, and on which events: their operations and parents, by position.
+#![tactic(auto)]
+
+mod lists;
+pub mod storage;
+#[cfg(test)]
+mod tests;
+
+pub use storage::EventRuns;

@@ -1,0 +1,9 @@
+pub mod DescentLaws
+pub mod EndLaws
+pub mod LineLaws
+pub mod ListLaws
+pub mod NeighbourLaws
+pub mod NodeLaws
+pub mod PathLaws
+pub mod PlaceLaws
+pub mod TreeLaws

@@ -1,0 +1,4 @@
+pub mod Attachments
+pub mod Lines
+pub mod Neighbours
+pub mod Subtrees

@@ -1,0 +1,21 @@
+//! Children of the tree's nodes.
+
+use ew_model::id::Id;
+use ew_model::node::Node;
+
+/// Where a child stands to its parent.
+#[derive(Clone, Copy, Debug, PartialEq, Eq)]
+pub enum Side {
+    Left,
+    Right,
+}
+
+/// A node that was attached as a child of another.
+#[derive(Clone, Copy)]
+pub struct Attached {
+    pub parent: Node,
+    pub side: Side,
+    /// The id of the event that inserted the node: children on one side go by it.
+    pub id: Id,
+    pub node: Node,
+}

@@ -1,0 +1,15 @@
+//! Where a new character stands among those of the tree: the children of each node on each side go by their ids, and a new
+//! child stands right behind the subtree of the next lower one.
+#![tactic(auto)]
+
+mod child;
+mod line;
+mod neighbour;
+mod search;
+mod table;
+#[cfg(test)]
+mod tests;
+
+pub use child::{Attached, Side};
+pub use neighbour::Place;
+pub use table::Siblings;

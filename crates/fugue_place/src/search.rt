@@ -1,0 +1,73 @@
+//! The search for the neighbour of a new child.
+
+ghost use Rattle.std.specs.Prelude.{◌≡◌, ℕ, ◌<◌, true, false, [], length};
+ghost use Rattle.fugue_place.specs.Attachments.{side_of, is_attached, is_there, has_id, path_of, AreAttached};
+ghost use Rattle.fugue_place.specs.Neighbours.{IsPlaceOfNew, beside};
+ghost use Rattle.fugue_place.specs.Subtrees.{node_at, HasBase, tree_nodes, EndsBelow};
+
+use crate::child::{Attached, Side};
+use crate::line::{Line, outermost_child};
+use crate::neighbour::Place;
+use ew_model::id::Id;
+use ew_model::node::Node;
+
+/// The place of a new child of the node on the side, under the id.
+pub fn place_of_new(children: &[Attached], parent: Node, side: Side, id: Id) -> Place
+    requires attached { AreAttached [] children.now }
+    requires parent { is_there children.now parent ≡ true }
+    requires unused { has_id children.now id ≡ false }
+    ensures { IsPlaceOfNew children.now parent side id result }
+{
+    let lower = Line {
+        parent,
+        side,
+        below: Some(id),
+    };
+    if let Some(k) = outermost_child(children, &lower, Side::Right) {
+        let last = outermost_node(children, k, Side::Right);
+        return Place::After(last);
+    }
+    let all = Line {
+        parent,
+        side,
+        below: None,
+    };
+    if let Some(k) = outermost_child(children, &all, Side::Left) {
+        let first = outermost_node(children, k, Side::Left);
+        return Place::Before(first);
+    }
+    beside(parent, side)
+}
+
+/// The place right beside a node on the side.
+fn beside(node: Node, side: Side) -> Place
+    ensures { result ≡ beside side node }
+{
+    match side {
+        Side::Left => Place::Before(node),
+        Side::Right => Place::After(node),
+    }
+}
+
+/// The outermost node on the side `end` of the subtree of the child at a place: the last on the right, the first on the
+/// left.
+fn outermost_node(children: &[Attached], from: usize, end: Side) -> Node
+    requires attached { AreAttached [] children.now }
+    requires within { from < length children.now }
+    ensures there { is_attached children.now result ≡ true }
+    ensures ends { (b : ℕ) → HasBase children.now b → EndsBelow (side_of end) (tree_nodes b children.now) (path_of children.now (node_at children.now from)) (path_of children.now result) }
+{
+    let mut at = from;
+    while let Some(k) = outermost_child(
+        children,
+        &Line {
+            parent: children[at].node,
+            side: end,
+            below: None,
+        },
+        end,
+    ) {
+        at = k;
+    }
+    children[at].node
+}

@@ -1,0 +1,105 @@
+//! The attached children.
+
+ghost use Rattle.std.specs.Prelude.{◌≡◌, true, false, [], ◌∷◌, ◌++◌, IfOk, OnOk, OnErr};
+ghost use Rattle.fugue_place.specs.Attachments.{is_event, is_attached, is_there, has_id};
+ghost use Rattle.fugue_place.specs.Neighbours.{is_child, has_beyond, SomeRightChild, EveryRightChild, IsPlaceOfNew};
+
+use crate::child::{Attached, Side};
+use crate::neighbour::Place;
+use crate::search::place_of_new;
+use ew_model::NoMem;
+use ew_model::id::Id;
+use ew_model::node::Node;
+use std::alloc::Global;
+use std::marker::Model;
+
+/// The children of all nodes of a tree. Contracts see the list of them, in the order in which they were attached.
+#[derive(Drop)]
+pub struct Siblings {
+    children: Vec<Attached>,
+}
+
+impl Model for Siblings {
+    ghost use Rattle.std.specs.Prelude.{List, []};
+    ghost use Rattle.fugue_place.specs.declared.child.Attached.{Attached};
+    ghost use Rattle.fugue_place.specs.Attachments.{AreAttached};
+
+    ghost Value = { List Attached };
+
+    ghost view = { λ s. s.children.items };
+
+    ghost invariant = { λ s. AreAttached [] s.children.items };
+}
+
+impl Siblings {
+    /// No children.
+    pub fn new(alloc: Global) -> Result<Siblings, NoMem>
+        ensures { IfOk result (λ s. s ≡ []) }
+    {
+        Ok(Siblings {
+            children: Vec::new(alloc),
+        })
+    }
+
+    /// Attaches the node of an event as a child of another node, which is the root, a base character or attached.
+    pub fn attach(&mut self, parent: Node, side: Side, id: Id, node: Node) -> Result<(), NoMem>
+        requires event { is_event node ≡ true }
+        requires new { is_attached self.old node ≡ false }
+        requires parent { is_there self.old parent ≡ true }
+        requires unused { has_id self.old id ≡ false }
+        ensures ok { OnOk result (self.new ≡ self.old ++ record { parent = parent; side = side; id = id; node = node } ∷ []) }
+        ensures err { OnErr result (self.new ≡ self.old) }
+    {
+        // A name has at least one byte.
+        let _agent = id.agent.as_slice();
+        self.children.push(Attached {
+            parent,
+            side,
+            id,
+            node,
+        })?;
+        Ok(())
+    }
+
+    /// Where a new child with this id would stand: behind the last node of the next lower sibling's subtree; where there is no
+    /// lower sibling, ahead of the first node of the next higher one's; where there is none either, beside the parent.
+    pub fn position(&self, parent: Node, side: Side, id: Id) -> Place
+        requires parent { is_there self.now parent ≡ true }
+        requires unused { has_id self.now id ≡ false }
+        // On the right of the root no attached node may descend from a base character, and on the right of a base character
+        // none from a later one.
+        requires last { side ≡ Side.Right → has_beyond self.now parent ≡ false }
+
+        ensures { IsPlaceOfNew self.now parent side id result }
+    {
+        place_of_new(self.children.as_slice(), parent, side, id)
+    }
+
+    /// Whether an attached right child of the node is known.
+    pub fn has_known_right<F: Fn(Node) -> bool>(&self, node: Node, known: F) -> bool
+        requires { EveryRightChild (F.pre known) self.now node }
+        ensures one { result ≡ true → SomeRightChild (λ v. F.post known v true) self.now node }
+        ensures none { result ≡ false → EveryRightChild (λ v. F.post known v false) self.now node }
+    {
+        has_known_right(self.children.as_slice(), node, known)
+    }
+}
+
+fn has_known_right<F: Fn(Node) -> bool>(children: &[Attached], node: Node, known: F) -> bool
+    requires { EveryRightChild (F.pre known) children.now node }
+    ensures one { result ≡ true → SomeRightChild (λ v. F.post known v true) children.now node }
+    ensures none { result ≡ false → EveryRightChild (λ v. F.post known v false) children.now node }
+{
+    for child in children {
+        if is_right_child(child, node) && known(child.node) {
+            return true;
+        }
+    }
+    false
+}
+
+fn is_right_child(child: &Attached, parent: Node) -> bool
+    ensures { result ≡ is_child parent Side.Right child.now }
+{
+    child.parent == parent && child.side == Side::Right
+}
