@@ -3,7 +3,7 @@
 use crate::start::run_uncounted;
 use ew_model::limits::Limits;
 use ew_outside::{MemShelf, MemSink, MemSource, Shelf};
-use sha2::Sha256;
+use sha2::{Digest, Sha256};
 use std::alloc::{AllocError, Global};
 use std::marker::Brand;
 use std::sync::ledger::Blank;
