@@ -33,18 +33,28 @@ fn answer(
     line: &str,
     input: &[u8],
 ) -> Result<u8, AllocError> {
+    let mut source = MemSource::new(input.to_vec(alloc)?, Vec::new(alloc));
+    answer_from(alloc, at, limits, line, &mut source)
+}
+
+fn answer_from(
+    alloc: Global,
+    at: &mut Outside,
+    limits: &Limits,
+    line: &str,
+    source: &mut MemSource,
+) -> Result<u8, AllocError> {
     let mut words = Vec::new(alloc);
     for word in line.split(' ') {
         words.push(String::from_str(alloc, word)?)?;
     }
-    let mut source = MemSource::new(input.to_vec(alloc)?, Vec::new(alloc));
     Ok(run_uncounted::<Brand, _, _, _, _>(
         alloc,
         Blank::new(1),
         &words,
         limits,
         &mut at.shelf,
-        &mut source,
+        source,
         &mut at.out,
         &mut at.err,
     ))
@@ -217,5 +227,103 @@ fn an_object_that_fails_is_named(rt: HostRuntime) -> Result<(), Fail> {
     assert_eq!(rt; at.out.bytes.as_slice(), b"a:1\n".as_slice());
     let told = b"egw: shelf failed\negw: shelf failed\negw: sink failed\negw: sink failed\n";
     assert_eq!(rt; at.err.bytes.as_slice(), told.as_slice());
+    Ok(())
+}
+
+#[test]
+fn a_file_of_no_events_shows_nothing(rt: HostRuntime) -> Result<(), Fail> {
+    let alloc = rt.alloc();
+    let limits = Limits::program();
+    let mut at = make_outside(alloc)?;
+    assert_eq!(rt; answer(alloc, &mut at, &limits, "new F", b"")?, 0);
+    let file = at.shelf.load("F", 1000).ok().flatten().ok_or("no file")?;
+    assert_eq!(rt; file.len(), 48);
+    assert_eq!(rt; answer(alloc, &mut at, &limits, "cat F", b"")?, 0);
+    assert_eq!(rt; answer(alloc, &mut at, &limits, "heads F", b"")?, 0);
+    assert_eq!(rt; at.out.bytes.as_slice().len(), 0);
+    assert!(rt; at.shelf.store("F", file.get(..47).ok_or("short")?).is_ok());
+    assert_eq!(rt; answer(alloc, &mut at, &limits, "cat F", b"")?, 4);
+    assert_eq!(rt;
+        at.err.bytes.as_slice(),
+        b"egw: F: short, 47 bytes\n".as_slice()
+    );
+    Ok(())
+}
+
+#[test]
+fn what_is_refused_changes_no_file(rt: HostRuntime) -> Result<(), Fail> {
+    let alloc = rt.alloc();
+    let limits = Limits::program();
+    let mut at = make_outside(alloc)?;
+    assert_eq!(rt; answer(alloc, &mut at, &limits, "new F", b"")?, 0);
+    assert_eq!(rt;
+        answer(alloc, &mut at, &limits, "edit F --agent a", b"ins 0 abc")?,
+        0
+    );
+    let file = at.shelf.load("F", 1000).ok().flatten().ok_or("no file")?;
+    assert_eq!(rt;
+        answer(alloc, &mut at, &limits, "edit F --agent b", b"ins 4 x")?,
+        5
+    );
+    assert_eq!(rt;
+        answer(alloc, &mut at, &limits, "edit F --agent b", b"del 3 0")?,
+        0
+    );
+    let mut source = MemSource::new(b"ins 0 x".to_vec(alloc)?, vec![in alloc; 0]?);
+    assert_eq!(rt;
+        answer_from(alloc, &mut at, &limits, "edit F --agent b", &mut source)?,
+        6
+    );
+    assert_eq!(rt;
+        at.shelf.load("F", 1000).ok().flatten(),
+        Some(file.as_slice().to_vec(alloc)?)
+    );
+    assert!(rt; at.shelf.store("F", file.get(..111).ok_or("short")?).is_ok());
+    assert_eq!(rt; answer(alloc, &mut at, &limits, "cat F", b"")?, 4);
+    assert_eq!(rt; at.out.bytes.as_slice(), b"made 3\nmade 0\n".as_slice());
+    let told =
+        b"egw: line 1: out of range, length 3\negw: source failed\negw: F: digest 00eaa1fd7593dc585f62d19e1d9e3cc2c79199ec73fc103e8b137f4ffd1a714b, found 1ef84b65f88929f09fb5c7915edd83c508f77a5ebfe56d805c65225c5da15b74\n";
+    assert_eq!(rt; at.err.bytes.as_slice(), told.as_slice());
+    Ok(())
+}
+
+/// The file of seventeen agents' first events, none of which has parents.
+fn seventeen_heads(alloc: Global) -> Result<Vec<u8>, AllocError> {
+    let mut bytes = LETTER[..8].to_vec(alloc)?;
+    bytes.extend_from_slice(&17_u32.to_le_bytes())?;
+    for name in b'a'..b'r' {
+        bytes.extend_from_slice(&[1, name])?;
+    }
+    bytes.extend_from_slice(&17_u32.to_le_bytes())?;
+    for agent in 0..17_u32 {
+        bytes.extend_from_slice(&agent.to_le_bytes())?;
+        bytes.extend_from_slice(&LETTER[22..])?;
+    }
+    closed(alloc, &bytes)
+}
+
+#[test]
+fn seventeen_heads_are_too_many(rt: HostRuntime) -> Result<(), Fail> {
+    let alloc = rt.alloc();
+    let limits = Limits::program();
+    let mut at = make_outside(alloc)?;
+    assert!(rt; at.shelf.store("F", &seventeen_heads(alloc)?).is_ok());
+    assert_eq!(rt;
+        answer(alloc, &mut at, &limits, "edit F --agent z", b"ins 0 y")?,
+        7
+    );
+    assert_eq!(rt;
+        answer(alloc, &mut at, &limits, "edit F --agent z", b"ins 0 ")?,
+        0
+    );
+    assert_eq!(rt; answer(alloc, &mut at, &limits, "cat F", b"")?, 0);
+    assert_eq!(rt;
+        at.out.bytes.as_slice(),
+        b"made 0\naaaaaaaaaaaaaaaaa".as_slice()
+    );
+    assert_eq!(rt;
+        at.err.bytes.as_slice(),
+        b"egw: 17 heads, more than 16\n".as_slice()
+    );
     Ok(())
 }
