@@ -6,6 +6,7 @@ use ew_outside::{MemShelf, MemSink, MemSource, Shelf};
 use sha2::{Digest, Sha256};
 use std::alloc::{AllocError, Global};
 use std::marker::Brand;
+use std::process::Abort;
 use std::sync::ledger::Blank;
 use std::test::Fail;
 
@@ -74,20 +75,40 @@ const LETTER: [u8; 36] = [
     0x61, 0x00, 0x00, 0x00,
 ];
 
+/// Runs lines, each with its input and the status that it has to answer.
+fn run_all(
+    rt: &impl Abort,
+    alloc: Global,
+    at: &mut Outside,
+    limits: &Limits,
+    rows: &[(&str, &str, u8)],
+) -> Result<(), AllocError> {
+    for (line, input, status) in rows {
+        let answered = answer(alloc, at, limits, line, input.as_bytes())?;
+        assert_eq!(rt; answered, *status);
+    }
+    Ok(())
+}
+
+/// What was printed and said.
+fn told(rt: &impl Abort, at: &Outside, out: &str, err: &str) {
+    assert_eq!(rt; at.out.bytes.as_slice(), out.as_bytes());
+    assert_eq!(rt; at.err.bytes.as_slice(), err.as_bytes());
+}
+
 #[test]
 fn a_file_is_made_edited_and_read(rt: HostRuntime) -> Result<(), Fail> {
-    let alloc = rt.alloc();
-    let limits = Limits::program();
-    let mut at = make_outside(alloc)?;
-    assert_eq!(rt; answer(alloc, &mut at, &limits, "new F", b"")?, 0);
-    assert_eq!(rt;
-        answer(alloc, &mut at, &limits, "edit F --agent a", b"ins 0 abc\n")?,
-        0
-    );
-    assert_eq!(rt; answer(alloc, &mut at, &limits, "cat F", b"")?, 0);
-    assert_eq!(rt; answer(alloc, &mut at, &limits, "heads F", b"")?, 0);
-    assert_eq!(rt; at.out.bytes.as_slice(), b"made 3\nabca:2\n".as_slice());
-    assert_eq!(rt; at.err.bytes.as_slice().len(), 0);
+    let mut at = make_outside(rt.alloc())?;
+    let rows = [
+        ("new F", "", 0),
+        ("cat F", "", 0),
+        ("heads F", "", 0),
+        ("edit F --agent a", "ins 0 abc\n", 0),
+        ("cat F", "", 0),
+        ("heads F", "", 0),
+    ];
+    run_all(&rt, rt.alloc(), &mut at, &Limits::program(), &rows)?;
+    told(&rt, &at, "made 3\nabca:2\n", "");
     let file = at.shelf.load("F", 1000).ok().flatten();
     assert_eq!(rt; file.map(|bytes| bytes.len()), Some(112));
     Ok(())
@@ -95,195 +116,138 @@ fn a_file_is_made_edited_and_read(rt: HostRuntime) -> Result<(), Fail> {
 
 #[test]
 fn a_script_is_run_whole_or_not_at_all(rt: HostRuntime) -> Result<(), Fail> {
-    let alloc = rt.alloc();
-    let limits = Limits::program();
-    let mut at = make_outside(alloc)?;
-    assert_eq!(rt; answer(alloc, &mut at, &limits, "new F", b"")?, 0);
-    assert_eq!(rt;
-        answer(
-            alloc,
-            &mut at,
-            &limits,
-            "edit F --agent a",
-            b"ins 0 a\\nb\ndel 0 2"
-        )?,
-        0
+    let mut at = make_outside(rt.alloc())?;
+    let rows = [
+        ("new F", "", 0),
+        ("edit F --agent a", "ins 0 a\\nb\ndel 0 2", 0),
+        ("edit F --agent b", "ins 0 x\nins 00 a\n", 5),
+        ("edit F --agent b", "ins 1 x\nins 4 x\n", 5),
+        ("edit F --agent b", "\ndel 1 0\n", 0),
+        ("cat F", "", 0),
+    ];
+    run_all(&rt, rt.alloc(), &mut at, &Limits::program(), &rows)?;
+    told(
+        &rt,
+        &at,
+        "made 5\nmade 0\nb",
+        "egw: line 2: unreadable\negw: line 2: out of range, length 2\n",
     );
-    assert_eq!(rt;
-        answer(
-            alloc,
-            &mut at,
-            &limits,
-            "edit F --agent b",
-            b"ins 0 x\nins 00 a\n"
-        )?,
-        5
-    );
-    assert_eq!(rt;
-        answer(
-            alloc,
-            &mut at,
-            &limits,
-            "edit F --agent b",
-            b"ins 1 x\nins 4 x\n"
-        )?,
-        5
-    );
-    assert_eq!(rt;
-        answer(alloc, &mut at, &limits, "edit F --agent b", b"\ndel 1 0\n")?,
-        0
-    );
-    assert_eq!(rt; answer(alloc, &mut at, &limits, "cat F", b"")?, 0);
-    assert_eq!(rt; at.out.bytes.as_slice(), b"made 5\nmade 0\nb".as_slice());
-    let told = b"egw: line 2: unreadable\negw: line 2: out of range, length 2\n";
-    assert_eq!(rt; at.err.bytes.as_slice(), told.as_slice());
     Ok(())
 }
 
 #[test]
 fn files_that_are_not_there_or_are_there_are_told(rt: HostRuntime) -> Result<(), Fail> {
-    let alloc = rt.alloc();
-    let limits = Limits::program();
-    let mut at = make_outside(alloc)?;
-    assert_eq!(rt; answer(alloc, &mut at, &limits, "cat F", b"")?, 3);
-    assert_eq!(rt; answer(alloc, &mut at, &limits, "new F", b"")?, 0);
-    assert_eq!(rt; answer(alloc, &mut at, &limits, "new F", b"")?, 3);
-    let told = b"egw: no file F\negw: file F is there\n";
-    assert_eq!(rt; at.err.bytes.as_slice(), told.as_slice());
-    assert_eq!(rt; answer(alloc, &mut at, &limits, "cat", b"")?, 2);
-    assert_eq!(rt;
-        answer(alloc, &mut at, &limits, "edit F --agent -a", b"")?,
-        2
+    let mut at = make_outside(rt.alloc())?;
+    let rows = [
+        ("cat F", "", 3),
+        ("edit F --agent a", "ins 0 a", 3),
+        ("new F", "", 0),
+        ("new F", "", 3),
+    ];
+    run_all(&rt, rt.alloc(), &mut at, &Limits::program(), &rows)?;
+    told(
+        &rt,
+        &at,
+        "",
+        "egw: no file F\negw: no file F\negw: file F is there\n",
     );
-    assert_eq!(rt; at.out.bytes.as_slice().len(), 0);
+    let words = [
+        ("cat", "", 2),
+        ("edit F --agent -a", "", 2),
+        ("cat F G", "", 2),
+    ];
+    run_all(&rt, rt.alloc(), &mut at, &Limits::program(), &words)?;
     Ok(())
 }
 
 #[test]
 fn what_is_wrong_with_a_file_is_told(rt: HostRuntime) -> Result<(), Fail> {
     let alloc = rt.alloc();
-    let limits = Limits::program();
     let mut at = make_outside(alloc)?;
     let letter = closed(alloc, &LETTER)?;
     let mut late = LETTER;
     late[28] = 1;
-    assert!(rt; at.shelf.store("F", &letter).is_ok());
-    assert!(rt; at.shelf.store("G", &closed(alloc, &late)?).is_ok());
-    assert!(rt; at.shelf.store("H", &letter[..67]).is_ok());
-    assert!(rt; at.shelf.store("I", &letter[..47]).is_ok());
-    assert_eq!(rt; answer(alloc, &mut at, &limits, "cat F", b"")?, 0);
-    assert_eq!(rt; at.out.bytes.as_slice(), b"a".as_slice());
-    assert_eq!(rt; answer(alloc, &mut at, &limits, "cat G", b"")?, 4);
-    assert_eq!(rt; answer(alloc, &mut at, &limits, "cat H", b"")?, 4);
-    assert_eq!(rt; answer(alloc, &mut at, &limits, "cat I", b"")?, 4);
-    let told =
-        b"egw: G: event 0: out of range, length 0\negw: H: digest 0096702c34aa02ada2ca0f8cf819c6a5763c83cde215138023a5045eb5a0e042, found ccb90137d83337afbdc82ee561071cd25d65d958b73f0f936f747c5f03326500\negw: I: short, 47 bytes\n";
-    assert_eq!(rt; at.err.bytes.as_slice(), told.as_slice());
-    Ok(())
-}
-
-#[test]
-fn limits_are_told(rt: HostRuntime) -> Result<(), Fail> {
-    let alloc = rt.alloc();
-    let limits = Limits::new(3, 1, 64, 643).ok_or("limits")?;
-    let mut at = make_outside(alloc)?;
-    assert_eq!(rt; answer(alloc, &mut at, &limits, "new F", b"")?, 0);
-    assert_eq!(rt;
-        answer(alloc, &mut at, &limits, "edit F --agent a", b"ins 0 abcd")?,
-        7
-    );
-    assert_eq!(rt;
-        answer(alloc, &mut at, &limits, "edit F --agent a", &[10; 65])?,
-        7
-    );
-    assert_eq!(rt;
-        answer(alloc, &mut at, &limits, "edit F --agent a", &[10; 64])?,
-        0
-    );
-    assert!(rt; at.shelf.store("G", &[0; 394]).is_ok());
-    assert_eq!(rt; answer(alloc, &mut at, &limits, "cat G", b"")?, 7);
-    let told =
-        b"egw: more than 3 events\negw: input: more than 64 bytes\negw: G: more than 393 bytes\n";
-    assert_eq!(rt; at.err.bytes.as_slice(), told.as_slice());
-    Ok(())
-}
-
-#[test]
-fn an_object_that_fails_is_named(rt: HostRuntime) -> Result<(), Fail> {
-    let alloc = rt.alloc();
-    let limits = Limits::program();
-    let letter = closed(alloc, &LETTER)?;
-    let mut at = make_outside(alloc)?;
-    at.shelf = MemShelf::new(alloc, vec![in alloc; 1, 3]?, vec![in alloc; 3]?);
-    assert!(rt; at.shelf.store("F", &letter).is_ok());
-    assert_eq!(rt; answer(alloc, &mut at, &limits, "cat F", b"")?, 6);
-    assert_eq!(rt;
-        answer(alloc, &mut at, &limits, "edit F --agent a", b"del 0 1")?,
-        6
-    );
-    at.out = MemSink::new(alloc, 1000, vec![in alloc; 0, 2]?)?;
-    assert_eq!(rt; answer(alloc, &mut at, &limits, "heads F", b"")?, 6);
-    assert_eq!(rt; answer(alloc, &mut at, &limits, "heads F", b"")?, 6);
-    assert_eq!(rt; at.out.bytes.as_slice(), b"a:1\n".as_slice());
-    let told = b"egw: shelf failed\negw: shelf failed\negw: sink failed\negw: sink failed\n";
-    assert_eq!(rt; at.err.bytes.as_slice(), told.as_slice());
-    Ok(())
-}
-
-#[test]
-fn a_file_of_no_events_shows_nothing(rt: HostRuntime) -> Result<(), Fail> {
-    let alloc = rt.alloc();
-    let limits = Limits::program();
-    let mut at = make_outside(alloc)?;
-    assert_eq!(rt; answer(alloc, &mut at, &limits, "new F", b"")?, 0);
-    let file = at.shelf.load("F", 1000).ok().flatten().ok_or("no file")?;
-    assert_eq!(rt; file.len(), 48);
-    assert_eq!(rt; answer(alloc, &mut at, &limits, "cat F", b"")?, 0);
-    assert_eq!(rt; answer(alloc, &mut at, &limits, "heads F", b"")?, 0);
-    assert_eq!(rt; at.out.bytes.as_slice().len(), 0);
-    assert!(rt; at.shelf.store("F", file.get(..47).ok_or("short")?).is_ok());
-    assert_eq!(rt; answer(alloc, &mut at, &limits, "cat F", b"")?, 4);
-    assert_eq!(rt;
-        at.err.bytes.as_slice(),
-        b"egw: F: short, 47 bytes\n".as_slice()
+    let late = closed(alloc, &late)?;
+    let cut = letter.get(..67).ok_or("short")?;
+    let short = letter.get(..47).ok_or("short")?;
+    let files = [
+        ("F", letter.as_slice()),
+        ("G", late.as_slice()),
+        ("H", cut),
+        ("I", short),
+    ];
+    for (name, bytes) in files {
+        assert!(rt; at.shelf.store(name, bytes).is_ok());
+    }
+    let rows = [
+        ("cat F", "", 0),
+        ("cat G", "", 4),
+        ("cat H", "", 4),
+        ("cat I", "", 4),
+    ];
+    run_all(&rt, rt.alloc(), &mut at, &Limits::program(), &rows)?;
+    told(
+        &rt,
+        &at,
+        "a",
+        "egw: G: event 0: out of range, length 0\negw: H: digest 0096702c34aa02ada2ca0f8cf819c6a5763c83cde215138023a5045eb5a0e042, found ccb90137d83337afbdc82ee561071cd25d65d958b73f0f936f747c5f03326500\negw: I: short, 47 bytes\n",
     );
     Ok(())
 }
 
 #[test]
 fn what_is_refused_changes_no_file(rt: HostRuntime) -> Result<(), Fail> {
-    let alloc = rt.alloc();
-    let limits = Limits::program();
-    let mut at = make_outside(alloc)?;
-    assert_eq!(rt; answer(alloc, &mut at, &limits, "new F", b"")?, 0);
-    assert_eq!(rt;
-        answer(alloc, &mut at, &limits, "edit F --agent a", b"ins 0 abc")?,
-        0
-    );
+    let mut at = make_outside(rt.alloc())?;
+    let rows = [
+        ("new F", "", 0),
+        ("edit F --agent a", "ins 0 abc", 0),
+        ("edit F --agent b", "ins 4 x", 5),
+        ("edit F --agent b", "del 3 0", 0),
+    ];
+    run_all(&rt, rt.alloc(), &mut at, &Limits::program(), &rows)?;
     let file = at.shelf.load("F", 1000).ok().flatten().ok_or("no file")?;
-    assert_eq!(rt;
-        answer(alloc, &mut at, &limits, "edit F --agent b", b"ins 4 x")?,
-        5
-    );
-    assert_eq!(rt;
-        answer(alloc, &mut at, &limits, "edit F --agent b", b"del 3 0")?,
-        0
-    );
-    let mut source = MemSource::new(b"ins 0 x".to_vec(alloc)?, vec![in alloc; 0]?);
-    assert_eq!(rt;
-        answer_from(alloc, &mut at, &limits, "edit F --agent b", &mut source)?,
-        6
-    );
-    assert_eq!(rt;
-        at.shelf.load("F", 1000).ok().flatten(),
-        Some(file.as_slice().to_vec(alloc)?)
-    );
+    assert_eq!(rt; file.len(), 112);
     assert!(rt; at.shelf.store("F", file.get(..111).ok_or("short")?).is_ok());
-    assert_eq!(rt; answer(alloc, &mut at, &limits, "cat F", b"")?, 4);
-    assert_eq!(rt; at.out.bytes.as_slice(), b"made 3\nmade 0\n".as_slice());
-    let told =
-        b"egw: line 1: out of range, length 3\negw: source failed\negw: F: digest 00eaa1fd7593dc585f62d19e1d9e3cc2c79199ec73fc103e8b137f4ffd1a714b, found 1ef84b65f88929f09fb5c7915edd83c508f77a5ebfe56d805c65225c5da15b74\n";
-    assert_eq!(rt; at.err.bytes.as_slice(), told.as_slice());
+    run_all(
+        &rt,
+        rt.alloc(),
+        &mut at,
+        &Limits::program(),
+        &[("cat F", "", 4)],
+    )?;
+    told(
+        &rt,
+        &at,
+        "made 3\nmade 0\n",
+        "egw: line 1: out of range, length 3\negw: F: digest 00eaa1fd7593dc585f62d19e1d9e3cc2c79199ec73fc103e8b137f4ffd1a714b, found 1ef84b65f88929f09fb5c7915edd83c508f77a5ebfe56d805c65225c5da15b74\n",
+    );
+    Ok(())
+}
+
+#[test]
+fn limits_are_told(rt: HostRuntime) -> Result<(), Fail> {
+    let limits = Limits::new(3, 1, 64, 643).ok_or("limits")?;
+    let mut at = make_outside(rt.alloc())?;
+    assert!(rt; at.shelf.store("G", &[0; 394]).is_ok());
+    let rows = [
+        ("new F", "", 0),
+        ("edit F --agent a", "ins 0 abcd", 7),
+        (
+            "edit F --agent a",
+            "ins 0 12345678901234567890123456789012345678901234567890123456789",
+            7,
+        ),
+        ("edit F --agent a", "ins 0 abc", 0),
+        ("edit F --agent a", "ins 0 d", 7),
+        ("cat G", "", 7),
+    ];
+    run_all(&rt, rt.alloc(), &mut at, &limits, &rows)?;
+    told(
+        &rt,
+        &at,
+        "made 3\n",
+        "egw: more than 3 events\negw: input: more than 64 bytes\negw: more than 3 events\negw: G: more than 393 bytes\n",
+    );
     Ok(())
 }
 
@@ -305,25 +269,79 @@ fn seventeen_heads(alloc: Global) -> Result<Vec<u8>, AllocError> {
 #[test]
 fn seventeen_heads_are_too_many(rt: HostRuntime) -> Result<(), Fail> {
     let alloc = rt.alloc();
-    let limits = Limits::program();
     let mut at = make_outside(alloc)?;
     assert!(rt; at.shelf.store("F", &seventeen_heads(alloc)?).is_ok());
-    assert_eq!(rt;
-        answer(alloc, &mut at, &limits, "edit F --agent z", b"ins 0 y")?,
-        7
+    let rows = [
+        ("edit F --agent z", "ins 0 y", 7),
+        ("edit F --agent z", "ins 0 ", 0),
+        ("cat F", "", 0),
+    ];
+    run_all(&rt, rt.alloc(), &mut at, &Limits::program(), &rows)?;
+    told(
+        &rt,
+        &at,
+        "made 0\naaaaaaaaaaaaaaaaa",
+        "egw: 17 heads, more than 16\n",
     );
-    assert_eq!(rt;
-        answer(alloc, &mut at, &limits, "edit F --agent z", b"ins 0 ")?,
-        0
+    Ok(())
+}
+
+/// Which call of the shelf fails, and what the lines then answer.
+const SHELF_FAULTS: [(u64, u8, u8, u8); 6] = [
+    (0, 6, 3, 3),
+    (1, 6, 3, 3),
+    (2, 0, 6, 0),
+    (3, 0, 6, 0),
+    (4, 0, 0, 6),
+    (5, 0, 0, 0),
+];
+
+#[test]
+fn a_shelf_that_fails_is_named(rt: HostRuntime) -> Result<(), Fail> {
+    let alloc = rt.alloc();
+    for (call, made, edited, shown) in SHELF_FAULTS {
+        let mut at = make_outside(alloc)?;
+        at.shelf = MemShelf::new(alloc, vec![in alloc; call]?, Vec::new(alloc));
+        let rows = [
+            ("new F", "", made),
+            ("edit F --agent a", "ins 0 a", edited),
+            ("cat F", "", shown),
+        ];
+        run_all(&rt, rt.alloc(), &mut at, &Limits::program(), &rows)?;
+    }
+    Ok(())
+}
+
+#[test]
+fn an_output_that_fails_is_named(rt: HostRuntime) -> Result<(), Fail> {
+    let alloc = rt.alloc();
+    let mut at = make_outside(alloc)?;
+    assert!(rt; at.shelf.store("F", &closed(alloc, &LETTER)?).is_ok());
+    // The write of the first line fails, and the flush of the second.
+    at.out = MemSink::new(alloc, 1000, vec![in alloc; 0, 2]?)?;
+    let rows = [("heads F", "", 6), ("heads F", "", 6), ("heads F", "", 0)];
+    run_all(&rt, rt.alloc(), &mut at, &Limits::program(), &rows)?;
+    told(
+        &rt,
+        &at,
+        "a:0\na:0\n",
+        "egw: sink failed\negw: sink failed\n",
     );
-    assert_eq!(rt; answer(alloc, &mut at, &limits, "cat F", b"")?, 0);
+    Ok(())
+}
+
+#[test]
+fn a_first_read_that_fails_leaves_the_file(rt: HostRuntime) -> Result<(), Fail> {
+    let alloc = rt.alloc();
+    let mut at = make_outside(alloc)?;
+    assert!(rt; at.shelf.store("F", &closed(alloc, &LETTER)?).is_ok());
+    let mut source = MemSource::new(b"ins 0 x".to_vec(alloc)?, vec![in alloc; 0]?);
+    let limits = Limits::program();
     assert_eq!(rt;
-        at.out.bytes.as_slice(),
-        b"made 0\naaaaaaaaaaaaaaaaa".as_slice()
+        answer_from(alloc, &mut at, &limits, "edit F --agent b", &mut source)?,
+        6
     );
-    assert_eq!(rt;
-        at.err.bytes.as_slice(),
-        b"egw: 17 heads, more than 16\n".as_slice()
-    );
+    run_all(&rt, rt.alloc(), &mut at, &limits, &[("cat F", "", 0)])?;
+    told(&rt, &at, "a", "egw: source failed\n");
     Ok(())
 }
