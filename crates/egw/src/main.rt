@@ -13,8 +13,6 @@ mod output;
 mod plan;
 mod reply;
 mod start;
-#[cfg(test)]
-mod tests;
 mod texts;
 mod top;
 mod words;
