@@ -1,17 +1,16 @@
 -- Whether a line means an edit can be decided: there is one edit that it might mean.
-use Rattle.std.proofs.Common.{◌≡◌, ◌≢◌, ℕ, ◌+◌, ◌<◌, ◌≤◌, ◌^◌, Bool, true, false, cond, eqb, ◌⊎◌, inl, inr, List, [], ◌∷◌, ◌++◌, get_or, drop, codes, refl, sym, ap, subst, ◌∙◌, arith, append-nil, lit<}
+use Rattle.std.proofs.Common.{◌≡◌, ◌≢◌, ℕ, ◌<◌, ◌≤◌, ◌^◌, true, false, ◌⊎◌, inl, inr, List, [], ◌∷◌, ◌++◌, get_or, drop, codes, refl, sym, ap, subst, ◌∙◌, arith, append-nil}
 use Rattle.std.specs.Prelude.{if◌then◌else◌, ◌==◌}
 use Rattle.std.specs.Char.{IsScalar, encode_utf8}
 use Rattle.std.specs.Fmt.{decimal}
-use Rattle.std.specs.Int.{IsInRange}
 use Rattle.std.specs.Str.{all_scalars, bytes_eq, chars}
 use Rattle.std.specs.Str.Parse.{digits_value}
-use Rattle.std.proofs.lemmas.Bool.{cases_lt, cases_Bool, both_ways, and_parts, and_from, eq-eqb, ne_eqb, cond-true, cond-false}
+use Rattle.std.proofs.lemmas.Bool.{cases_lt, cases_Bool, both_ways, and_parts, and_from, ne_eqb, cond-false}
 use Rattle.std.proofs.lemmas.Slice.Eq.{bytes_eq-Decides}
 use Rattle.std.proofs.lemmas.Str.{chars-nil, chars-append, chars-encodes}
 use Rattle.ew_model.specs.Edits.{Edit}
 use Rattle.ew_model.specs.Edits.Edit.{Insert, Delete}
-use Rattle.ew_model.specs.Scripts.{escaped_char, escaped_text, edit_line, IsSoundEdit, lines_of, MeansEdit, IsReadable, IsScript, IsFirstBadLine}
+use Rattle.ew_model.specs.Scripts.{escaped_char, escaped_text, edit_line, IsSoundEdit, lines_of, MeansEdit, IsReadable}
 use Rattle.ew_model.specs.ScriptLaws.{LinesMeanOneEdit, ScriptsAreUnique, FirstBadLinesAreUnique, ScriptsHaveNoBadLine, BytesAreJudged}
 use Rattle.ew_model.proofs.Decimals.{decimal_lacks, digits_value_is}
 use Rattle.ew_model.proofs.EscapedText.{Written, written, escaped_char-IsUtf8}

@@ -1,12 +1,11 @@
 -- A text has at most as many characters as its history has events.
-use Rattle.std.proofs.Common.{◌≡◌, ℕ, ◌+◌, ◌≤◌, suc, List, [], ◌∷◌, ◌++◌, length, take, drop, insert, remove, refl, sym, ap, ◌∙◌, subst, arith, length-append, length-take, length-drop}
+use Rattle.std.proofs.Common.{◌≡◌, ℕ, ◌+◌, ◌≤◌, suc, List, [], ◌∷◌, length, take, drop, ap, ◌∙◌, arith, length-append, length-drop}
 use Rattle.std.proofs.lemmas.List.{take-append-drop}
 use Rattle.ew_model.specs.declared.event.Event.{Event}
 use Rattle.ew_model.specs.declared.text_op.TextOp.{TextOp}
 use Rattle.ew_model.specs.declared.text_op.TextOp.TheVariants.{Ins, Del, Nothing}
-use Rattle.ew_model.specs.Operations.{operations_after, operations_of, operations, changed_by, changed_by_all}
+use Rattle.ew_model.specs.Operations.{operations_of, operations, changed_by, changed_by_all}
 use Rattle.ew_model.specs.Tree.{applied_after}
-use Rattle.ew_model.specs.Ids.{id_eq}
 use Rattle.ew_model.specs.Texts.{text_of}
 use Rattle.ew_model.specs.Verdicts.{IsGood}
 use Rattle.ew_model.proofs.ClearingLaw.{length-operations, length-applied}

@@ -1,14 +1,13 @@
 -- A good history may be written as a file.
-use Rattle.std.proofs.Common.{◌≡◌, ℕ, ◌≤◌, ◌<◌, ◌^◌, Bool, true, false, not, ◌&&◌, List, [], ◌∷◌, ◌++◌, length, nat_le, refl, ap, ◌∙◌}
+use Rattle.std.proofs.Common.{◌≡◌, ◌<◌, ◌^◌, true, not, List, [], ◌∷◌, ◌++◌, length, refl, ap}
 use Rattle.std.specs.List.{list_all, AllByRecursion}
 use Rattle.std.proofs.lemmas.Bool.{and_from, le-leb}
 use Rattle.ew_model.specs.declared.id.Id.{Id}
 use Rattle.ew_model.specs.declared.event.Event.{Event}
-use Rattle.ew_model.specs.Ids.{ids_ascend}
 use Rattle.ew_model.specs.Ancestors.{is_held}
 use Rattle.ew_model.specs.Verdicts.{IsGoodAfter, IsGood}
 use Rattle.ew_model.specs.File.{are_writable_after, IsWritable}
-use Rattle.ew_model.proofs.GoodLaws.{IsNext, next_from_good}
+use Rattle.ew_model.proofs.GoodLaws.{next_from_good}
 
 all_held : (held : List Event) (ps : List Id) → AllByRecursion (λ p. is_held held p ≡ true) ps → list_all (is_held held) ps ≡ true
 all_held held [] h = refl

@@ -1,9 +1,9 @@
 -- What is proved of the orders and of the tests of sameness.
-use Rattle.std.specs.Prelude.{◌≡◌, true, ◌↔◌, List}
+use Rattle.std.specs.Prelude.{◌≡◌, true, ◌↔◌}
 use Rattle.std.specs.Cmp.{IsTotalOrder}
 use Rattle.ew_model.specs.declared.id.Id.{Id}
 use Rattle.ew_model.specs.Ids.{id_cmp, id_eq}
-use Rattle.ew_model.specs.Paths.{Step, path_cmp}
+use Rattle.ew_model.specs.Paths.{path_cmp}
 
 -- ids are totally ordered, and the test of ids tells whether two are one
 pub record IdsAreOrdered : Type 0 where

@@ -1,5 +1,5 @@
 -- Runs: characters that follow one another and are alike.
-use Rattle.std.specs.Prelude.{ℕ, nat_eq, nat_lt, Bool, List, count_by}
+use Rattle.std.specs.Prelude.{ℕ, nat_eq, nat_lt, Bool}
 use Rattle.ew_model.specs.declared.node.Node.{Node}
 
 -- A character in a run: its node, its prepared number (0 not inserted yet, 1 inserted, n + 1 deleted n times), and whether

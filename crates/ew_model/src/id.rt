@@ -1,6 +1,7 @@
 //! The ids of events: an agent's name and a sequence number.
 
-ghost use Rattle.std.specs.Prelude.{◌≡◌, ◌↔◌, IsTrue};
+ghost use Rattle.std.specs.Prelude.{◌≡◌, ◌↔◌, IsTrue, Some};
+ghost use Rattle.ew_model.specs.Scripts.{id_text};
 
 use crate::name::Name;
 use std::cmp::Ordering;
@@ -35,6 +36,8 @@ impl Id {
 }
 
 impl fmt::Display for Id {
+    ghost output = { λ x. Some (id_text x) };
+
     fn fmt<W: fmt::Write>(&self, f: &mut fmt::Formatter<W>) -> fmt::Result {
         let agent = self.agent;
         let seq = self.seq;
@@ -43,6 +46,8 @@ impl fmt::Display for Id {
 }
 
 impl fmt::Debug for Id {
+    ghost debug_output = { λ x. Some (id_text x) };
+
     fn fmt<W: fmt::Write>(&self, f: &mut fmt::Formatter<W>) -> fmt::Result {
         fmt::Display::fmt(self, f)
     }

@@ -123,15 +123,17 @@ fn is_name_byte(x: u8) -> bool
 }
 
 impl fmt::Display for Name {
+    ghost output = { λ x. Some x };
+
     fn fmt<W: fmt::Write>(&self, f: &mut fmt::Formatter<W>) -> fmt::Result {
-        for b in self.as_slice() {
-            write!(f, "{}", *b as char)?;
-        }
-        Ok(())
+        let text = str::from_utf8(self.as_slice()).map_err(|_| fmt::Error)?;
+        f.write_str(text)
     }
 }
 
 impl fmt::Debug for Name {
+    ghost debug_output = { λ x. Some x };
+
     fn fmt<W: fmt::Write>(&self, f: &mut fmt::Formatter<W>) -> fmt::Result {
         fmt::Display::fmt(self, f)
     }

@@ -1,5 +1,5 @@
 -- Rows on scripts, ids and versions.
-use Rattle.std.proofs.Common.{◌≡◌, ◌<◌, inl, inr, [], ◌∷◌, refl, codes, arith, lit<}
+use Rattle.std.proofs.Common.{◌≡◌, [], ◌∷◌, refl, codes, arith, lit<}
 use Rattle.std.specs.Char.{encode_utf8}
 use Rattle.std.specs.Fmt.{digits}
 use Rattle.std.specs.Str.{chars}
