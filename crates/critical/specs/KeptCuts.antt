@@ -1,0 +1,37 @@
+-- What is kept of the critical cuts of a history.
+use Rattle.std.specs.Prelude.{◌≡◌, ℕ, ◌+◌, ◌<◌, List, [], ◌∷◌, ◌++◌, map, filter, take, length, nat_lt}
+use Rattle.std.specs.List.{All}
+use Rattle.std.specs.List.Sorted.{IsStrictlyIncreasing}
+use Rattle.ew_model.specs.Positions.{frontier_of, cuts_at}
+
+-- critical cuts, the heads of the events below each, and how many events there are
+pub record KeptCuts : Type 0 where
+  pub cuts : List ℕ
+  pub heads : List (List ℕ)
+  pub count : ℕ
+
+-- the critical cuts of a history but for its whole length
+abbrev pub inner_cuts : List (List ℕ) → List ℕ
+inner_cuts history = filter (λ k. nat_lt k (length history)) (cuts_at history)
+
+-- the heads of the events below each of these cuts
+abbrev pub heads_below : List (List ℕ) → List ℕ → List (List ℕ)
+heads_below history cuts = map (λ k. frontier_of (take k history)) cuts
+
+-- what is kept for a history
+abbrev pub kept_for : List (List ℕ) → KeptCuts
+kept_for history = record { cuts = inner_cuts history; heads = heads_below history (inner_cuts history); count = length history }
+
+-- one more event, which keeps all cuts: the whole length so far has these heads
+abbrev pub with_whole : KeptCuts → List ℕ → KeptCuts
+with_whole kept heads = record { cuts = kept.cuts ++ kept.count ∷ []; heads = kept.heads ++ heads ∷ []; count = kept.count + 1 }
+
+-- one more event, which keeps the first n cuts, and not the whole length so far
+abbrev pub with_first : KeptCuts → ℕ → KeptCuts
+with_first kept n = record { cuts = take n kept.cuts; heads = take n kept.heads; count = kept.count + 1 }
+
+-- the cuts rise up to below the count, and each has its heads
+pub record AreOrdered (cuts : List ℕ) (heads : List (List ℕ)) (count : ℕ) : Type 0 where
+  pub rising : IsStrictlyIncreasing cuts
+  pub below : All (λ k. k < count) cuts
+  pub alike : length heads ≡ length cuts

@@ -1,0 +1,2 @@
+pub mod KeptCuts
+pub mod Searches
