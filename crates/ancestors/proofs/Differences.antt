@@ -1,0 +1,159 @@
+-- Two walks side by side, down to a floor.
+use Rattle.std.proofs.Common.{◌≡◌, ℕ, ◌+◌, ◌<◌, ◌≤◌, Bool, true, false, not, cond, ◌&&◌, ◌||◌, if◌then◌else◌, inl, ⊎_elim, nat_lt, nat_le, nat_eq, List, [], ◌∷◌, ◌++◌, length, reverse, All, refl, sym, ap, ◌∙◌, subst, arith, append-nil, ne_eqb}
+use Rattle.std.proofs.lemmas.Bool.{false≢true, ltb-true, ltb-false, leb-true, leb-false, or_cases}
+use Rattle.std.proofs.lemmas.List.{reverse-reverse, reverse-append}
+use Rattle.std.proofs.lemmas.List.Elements.{All-cons, recursion_from_All}
+use Rattle.ew_model.specs.Sets.{Among}
+use Rattle.ew_model.specs.Graph.{is_named}
+use Rattle.ew_model.specs.Positions.{parents_at, IsHistoryOfParents, known_positions, is_known_at, known_alone}
+use Rattle.ew_model.proofs.RisingLists.{number_among, among_named}
+use Rattle.ew_model.proofs.SetLaws.{joined_right, among_filter}
+use Rattle.ew_model.proofs.SortingLaws.{all_at}
+use Rattle.ew_model.proofs.PositionVersions.{known_within}
+use Rattle.ew_model.proofs.PositionWalk.{taken, taken_agree, after_taking}
+use Rattle.ew_model.proofs.PositionSides.{only, any_reversed, walk_alone, IsTop, TurnsBoth, turn_both, turn_keeps, turn_lessens}
+use Rattle.ancestors.specs.Floors.{HasAllBelow}
+use Rattle.ancestors.specs.Sides.{AgreeFrom, IsHighest}
+use Rattle.ancestors.proofs.Walks.{start_within}
+
+-- What was found on each side and what the two walks still take there alone are what is there alone; all that is pending
+-- lies below what was found.
+pub record Parting (history : List (List ℕ)) (a b : List ℕ) (left right : ℕ → Bool) (found_left found_right : List ℕ) : Type 0 where
+  pub on_left : reverse found_left ++ only (taken (reverse history) left) (taken (reverse history) right) ≡ reverse (known_alone history a b)
+  pub on_right : reverse found_right ++ only (taken (reverse history) right) (taken (reverse history) left) ≡ reverse (known_alone history b a)
+  pub left_within : (q : ℕ) → left q ≡ true → q < length history
+  pub right_within : (q : ℕ) → right q ≡ true → q < length history
+  pub left_lower : (q : ℕ) → (left q || right q) ≡ true → All (λ p. q < p) found_left
+  pub right_lower : (q : ℕ) → (left q || right q) ≡ true → All (λ p. q < p) found_right
+
+pub parting_starts : (history : List (List ℕ)) (a b : List ℕ) (left right : ℕ → Bool) → All (λ v. v < length history) a → All (λ v. v < length history) b
+    → ((q : ℕ) → left q ≡ is_named nat_eq a q) → ((q : ℕ) → right q ≡ is_named nat_eq b q) → Parting history a b left right [] []
+parting_starts history a b left right low_a low_b same_a same_b =
+    let xs = taken_agree (reverse history) left (is_named nat_eq a) (λ m l. same_a m) in
+    let ys = taken_agree (reverse history) right (is_named nat_eq b) (λ m l. same_b m) in
+    record {
+      on_left = (λ i. only (xs i) (ys i)) ∙ walk_alone history a b;
+      on_right = (λ i. only (ys i) (xs i)) ∙ walk_alone history b a;
+      left_within = start_within history a left low_a same_a;
+      right_within = start_within history b right low_b same_b;
+      left_lower = λ q e k d l. absurd (omega (arith, l));
+      right_lower = λ q e k d l. absurd (omega (arith, l));
+    }
+
+-- one turn of both walks, where the highest position is taken off each that has it
+pub record Pair (history : List (List ℕ)) (n : ℕ) (left right new_left new_right : ℕ → Bool) : Type 0 where
+  pub top : IsHighest left right n
+  pub next_left : (q : ℕ) → new_left q ≡ after_taking left (parents_at history n) n q
+  pub next_right : (q : ℕ) → new_right q ≡ after_taking right (parents_at history n) n q
+
+is_top : (left right : ℕ → Bool) (n : ℕ) → IsHighest left right n → IsTop left right n
+is_top left right n t = record { either = t.either; left_above = t.left_above; right_above = t.right_above }
+
+pub highest_within : (history : List (List ℕ)) (a b : List ℕ) (left right : ℕ → Bool) (xs ys : List ℕ) (n : ℕ) → Parting history a b left right xs ys → IsHighest left right n → n < length history
+highest_within history a b left right xs ys n h t = ⊎_elim (λ e. h.left_within n e) (λ e. h.right_within n e) (or_cases (left n) (right n) t.either)
+
+turns_both : (history : List (List ℕ)) → IsHistoryOfParents history → (a b : List ℕ) (left right new_left new_right : ℕ → Bool) (xs ys : List ℕ) (n : ℕ) → Parting history a b left right xs ys → Pair history n left right new_left new_right
+    → TurnsBoth history n left right new_left new_right
+turns_both history good a b left right new_left new_right xs ys n h p =
+    turn_both history good n left right new_left new_right (is_top left right n p.top) (highest_within history a b left right xs ys n h p.top) p.next_left p.next_right
+
+put_first : (n : ℕ) (found : List ℕ) (b : Bool) → reverse (cond b (n ∷ found) found) ≡ reverse found ++ cond b (n ∷ []) []
+put_first n found true = reverse-append (n ∷ []) found
+put_first n found false = sym (append-nil (reverse found))
+
+put_lower : (n q : ℕ) (found : List ℕ) (b : Bool) → q < n → All (λ p. n < p) found → All (λ p. q < p) (cond b (n ∷ found) found)
+put_lower n q found true l h = All-cons (λ p. q < p) n found l (λ k d m. let high = h k d m in omega (arith, high, l))
+put_lower n q found false l h = λ k d m. let high = h k d m in omega (arith, high, l)
+
+pub parting_turns : (history : List (List ℕ)) → IsHistoryOfParents history → (a b : List ℕ) (left right new_left new_right : ℕ → Bool) (xs ys : List ℕ) (n : ℕ) → Parting history a b left right xs ys → Pair history n left right new_left new_right
+    → Parting history a b new_left new_right (if left n && not (right n) then n ∷ xs else xs) (if right n && not (left n) then n ∷ ys else ys)
+parting_turns history good a b left right new_left new_right xs ys n h p =
+    let t = turns_both history good a b left right new_left new_right xs ys n h p in
+    let r = reverse history in
+    let top = highest_within history a b left right xs ys n h p.top in
+    let low : (q : ℕ) → (new_left q || new_right q) ≡ true → q < n = λ q e. ⊎_elim (λ k. t.left_low q k) (λ k. t.right_low q k) (or_cases (new_left q) (new_right q) e) in
+    record {
+      on_left = turn_keeps (reverse xs) (reverse (if left n && not (right n) then n ∷ xs else xs)) (reverse (known_alone history a b)) (taken r left) (taken r new_left) (taken r right) (taken r new_right) n (left n) (right n)
+          t.xs t.ys t.no_x t.no_y (put_first n xs (left n && not (right n))) h.on_left;
+      on_right = turn_keeps (reverse ys) (reverse (if right n && not (left n) then n ∷ ys else ys)) (reverse (known_alone history b a)) (taken r right) (taken r new_right) (taken r left) (taken r new_left) n (right n) (left n)
+          t.ys t.xs t.no_y t.no_x (put_first n ys (right n && not (left n))) h.on_right;
+      left_within = λ q e. let less = t.left_low q e in omega (arith, less, top);
+      right_within = λ q e. let less = t.right_low q e in omega (arith, less, top);
+      left_lower = λ q e. put_lower n q xs (left n && not (right n)) (low q e) (h.left_lower n p.top.either);
+      right_lower = λ q e. put_lower n q ys (right n && not (left n)) (low q e) (h.right_lower n p.top.either);
+    }
+
+pub parting_lessens : (history : List (List ℕ)) → IsHistoryOfParents history → (a b : List ℕ) (left right new_left new_right : ℕ → Bool) (xs ys : List ℕ) (n : ℕ) → Parting history a b left right xs ys → Pair history n left right new_left new_right
+    → length (taken (reverse history) new_left) + length (taken (reverse history) new_right) < length (taken (reverse history) left) + length (taken (reverse history) right)
+parting_lessens history good a b left right new_left new_right xs ys n h p =
+    let t = turns_both history good a b left right new_left new_right xs ys n h p in
+    let r = reverse history in
+    turn_lessens (taken r left) (taken r new_left) (taken r right) (taken r new_right) n (left n) (right n) p.top.either t.xs t.ys
+
+-- nothing is taken that isn't a position there
+taken_short : (r : List (List ℕ)) (pending : ℕ → Bool) (p : ℕ) → length r ≤ p → is_named nat_eq (taken r pending) p ≡ false
+taken_short [] pending p l = refl
+taken_short (ps ∷ r) pending p l = at (pending (length r)) (λ S. taken_short r S p (omega (arith, l)))
+  where
+    at : (b : Bool) → ((S : ℕ → Bool) → is_named nat_eq (taken r S) p ≡ false) → is_named nat_eq (cond b (length r ∷ taken r (λ q. pending q || is_named nat_eq ps q)) (taken r pending)) p ≡ false
+    at true later = ap (λ b. b || is_named nat_eq (taken r (λ q. pending q || is_named nat_eq ps q)) p) (ne_eqb p (length r) (λ e. omega (arith, l, e))) ∙ later (λ q. pending q || is_named nat_eq ps q)
+    at false later = later pending
+
+-- tests that agree from the floor on take the same from there on
+taken_from : (r : List (List ℕ)) (floor : ℕ) (S T : ℕ → Bool) → AgreeFrom floor S T → (p : ℕ) → floor ≤ p → is_named nat_eq (taken r S) p ≡ is_named nat_eq (taken r T) p
+taken_from [] floor S T h p l = refl
+taken_from (ps ∷ r) floor S T h p l = by (nat_le floor (length r)) refl (λ S T k. taken_from r floor S T k p l)
+  where
+    by : (b : Bool) → nat_le floor (length r) ≡ b → ((S T : ℕ → Bool) → AgreeFrom floor S T → is_named nat_eq (taken r S) p ≡ is_named nat_eq (taken r T) p) → is_named nat_eq (taken (ps ∷ r) S) p ≡ is_named nat_eq (taken (ps ∷ r) T) p
+    by true q later = at (S (length r)) (T (length r)) (h (length r) (leb-true floor (length r) q))
+      where
+        at : (b c : Bool) → b ≡ c → is_named nat_eq (cond b (length r ∷ taken r (λ q. S q || is_named nat_eq ps q)) (taken r S)) p ≡ is_named nat_eq (cond c (length r ∷ taken r (λ q. T q || is_named nat_eq ps q)) (taken r T)) p
+        at true true e = ap (λ b. nat_eq p (length r) || b) (later (λ q. S q || is_named nat_eq ps q) (λ q. T q || is_named nat_eq ps q) (λ q k. ap (λ b. b || is_named nat_eq ps q) (h q k)))
+        at true false e = absurd (false≢true (sym e))
+        at false true e = absurd (false≢true e)
+        at false false e = later S T h
+    by false q later =
+        let low = leb-false floor (length r) q in
+        let short : length (ps ∷ r) ≤ p = omega (arith, low, l) in
+        taken_short (ps ∷ r) S p short ∙ sym (taken_short (ps ∷ r) T p short)
+
+none_among : (xs : List ℕ) → ((p : ℕ) → Among p xs → ⊥) → xs ≡ []
+none_among [] h = refl
+none_among (x ∷ xs) h = absurd (h x (inl refl))
+
+not_true : (b : Bool) → b ≡ true → not b ≡ true → ⊥
+not_true b e f = false≢true (sym (ap not e) ∙ f)
+
+-- Where the walks agree from the floor on, all is found that one version has alone, where the other has all below the
+-- floor.
+side_ends : (history : List (List ℕ)) (one other : List ℕ) (here there : ℕ → Bool) (found : List ℕ) (floor : ℕ) → HasAllBelow history other floor → AgreeFrom floor here there
+    → reverse found ++ only (taken (reverse history) here) (taken (reverse history) there) ≡ reverse (known_alone history one other) → found ≡ known_alone history one other
+side_ends history one other here there found floor all agree whole =
+    sym (reverse-reverse found)
+    ∙ ap reverse (sym (append-nil (reverse found)) ∙ ap (λ ps. reverse found ++ ps) (sym none) ∙ whole)
+    ∙ reverse-reverse (known_alone history one other)
+  where
+    r : List (List ℕ)
+    r = reverse history
+
+    found_late : (p : ℕ) → Among p (only (taken r here) (taken r there)) → Among p (known_alone history one other)
+    found_late p m =
+        let late : Among p (reverse (known_alone history one other)) = subst (Among p) whole (joined_right (reverse found) (only (taken r here) (taken r there)) p m) in
+        number_among (known_alone history one other) p (sym (any_reversed (nat_eq p) (known_alone history one other)) ∙ among_named (reverse (known_alone history one other)) p late)
+
+    no_more : (p : ℕ) → Among p (only (taken r here) (taken r there)) → (b : Bool) → nat_lt p floor ≡ b → ⊥
+    no_more p m true q =
+        let parts = among_filter (λ p. not (is_known_at history other p)) (known_positions history one) p (found_late p m) in
+        let within : p < length history = all_at (λ p. p < length history) (known_positions history one) p (recursion_from_All (λ p. p < length history) (known_positions history one) (known_within history one)) parts.0 in
+        not_true (is_known_at history other p) (all p (ltb-true p floor q) within) parts.1
+    no_more p m false q =
+        let parts = among_filter (λ p. not (is_named nat_eq (taken r there) p)) (taken r here) p m in
+        not_true (is_named nat_eq (taken r there) p) (sym (taken_from r floor here there agree p (ltb-false p floor q)) ∙ among_named (taken r here) p parts.0) parts.1
+
+    none : only (taken r here) (taken r there) ≡ []
+    none = none_among (only (taken r here) (taken r there)) (λ p m. no_more p m (nat_lt p floor) refl)
+
+pub parting_ends : (history : List (List ℕ)) (a b : List ℕ) (left right : ℕ → Bool) (xs ys : List ℕ) (floor : ℕ) → HasAllBelow history a floor → HasAllBelow history b floor → AgreeFrom floor left right → Parting history a b left right xs ys
+    → (xs ≡ known_alone history a b) × (ys ≡ known_alone history b a)
+parting_ends history a b left right xs ys floor all_a all_b agree h =
+    (side_ends history a b left right xs floor all_b agree h.on_left, side_ends history b a right left ys floor all_a (λ p l. sym (agree p l)) h.on_right)

@@ -1,0 +1,3 @@
+pub mod SpanLists
+pub mod Walks
+pub mod Differences

@@ -1,0 +1,75 @@
+//! What either of two versions knows alone.
+
+ghost use Rattle.std.specs.Prelude.{◌≡◌, ℕ, ◌+◌, ◌<◌, ◌^◌, ◌&&◌, ◌||◌, not, nat_eq, if◌then◌else◌, ◌∷◌, length, IfOk, OnOk};
+ghost use Rattle.std.specs.List.{All};
+ghost use Rattle.ew_model.specs.Graph.{is_named};
+ghost use Rattle.ew_model.specs.Positions.{parents_at, known_alone};
+ghost use Rattle.ancestors.specs.Spans.{positions_of, AreDescending};
+ghost use Rattle.ancestors.specs.Floors.{HasAllBelow};
+ghost use Rattle.ancestors.specs.Sides.{has_left, has_right, on_left, on_right};
+
+use crate::sides::{Side, Sides};
+use crate::spans::Spans;
+use ew_model::NoMem;
+use frontier::Parentage;
+use std::alloc::Global;
+
+/// The events that version `a` knows and `b` doesn't, and those that `b` knows and `a` doesn't. Both know all events
+/// below the floor. The walk ends where nothing is pending for one of the two alone, and goes no lower than the floor.
+pub fn diff<G: Parentage>(
+    alloc: Global,
+    g: &G,
+    a: &[u32],
+    b: &[u32],
+    floor: u32,
+) -> Result<(Spans, Spans), NoMem>
+    requires a { All (λ v. v < length (G.parents g.now)) a.now }
+    requires b { All (λ v. v < length (G.parents g.now)) b.now }
+    requires floor_a { HasAllBelow (G.parents g.now) a.now floor }
+    requires floor_b { HasAllBelow (G.parents g.now) b.now floor }
+    ensures left { IfOk result (λ sides. positions_of sides.0 ≡ known_alone (G.parents g.now) a.now b.now) }
+    ensures right { IfOk result (λ sides. positions_of sides.1 ≡ known_alone (G.parents g.now) b.now a.now) }
+    ensures left_order { IfOk result (λ sides. AreDescending sides.0) }
+    ensures right_order { IfOk result (λ sides. AreDescending sides.1) }
+{
+    let _count = g.count();
+    let mut sides = Sides::new(alloc);
+    sides.put_all(Side::Left, a)?;
+    sides.put_all(Side::Right, b)?;
+    let mut left = Spans::new(alloc);
+    let mut right = Spans::new(alloc);
+    while let Some((n, side)) = sides.pop_from(floor) {
+        put_alone(&mut left, &mut right, side, n)?;
+        put_parents(g, n, &mut sides, side)?;
+    }
+    Ok((left, right))
+}
+
+/// Puts a position below all others into the spans of the one version that has it alone, if one does.
+fn put_alone(left: &mut Spans, right: &mut Spans, side: Side, lv: u32) -> Result<(), NoMem>
+    requires left { All (λ p. lv < p) (positions_of left.old) }
+    requires right { All (λ p. lv < p) (positions_of right.old) }
+    requires left_order { AreDescending left.old }
+    requires right_order { AreDescending right.old }
+    requires room { lv + 1 < 2 ^ 32 }
+    ensures left { OnOk result (positions_of left.new ≡ (if has_left side && not (has_right side) then lv ∷ positions_of left.old else positions_of left.old)) }
+    ensures right { OnOk result (positions_of right.new ≡ (if has_right side && not (has_left side) then lv ∷ positions_of right.old else positions_of right.old)) }
+    ensures left_order { AreDescending left.new }
+    ensures right_order { AreDescending right.new }
+{
+    match side {
+        Side::Left => left.push_lower(lv),
+        Side::Right => right.push_lower(lv),
+        Side::Both => Ok(()),
+    }
+}
+
+/// Puts in the parents of an event.
+fn put_parents<G: Parentage>(g: &G, lv: u32, sides: &mut Sides, side: Side) -> Result<(), NoMem>
+    requires { lv < length (G.parents g.now) }
+    ensures left { OnOk result ((q : ℕ) → on_left sides.new q ≡ (on_left sides.old q || (has_left side && is_named nat_eq (parents_at (G.parents g.now) lv) q))) }
+    ensures right { OnOk result ((q : ℕ) → on_right sides.new q ≡ (on_right sides.old q || (has_right side && is_named nat_eq (parents_at (G.parents g.now) lv) q))) }
+{
+    let parents = g.parents_of(lv);
+    sides.put_all(side, parents.as_slice())
+}
