@@ -1,5 +1,5 @@
 -- The neighbour that the children of a node tell is the right one, among all nodes of the tree and so among any of them.
-use Rattle.std.proofs.Common.{◌≡◌, ℕ, true, false, cond, List, [], length, take, Option, Some, None, refl, sym, ap, ◌∙◌, subst}
+use Rattle.std.proofs.Common.{◌≡◌, ℕ, true, false, cond, inl, inr, List, [], length, take, Option, Some, None, refl, sym, ap, ◌∙◌, subst}
 use Rattle.std.specs.List.{list_any}
 use Rattle.std.specs.Ordering.{is_lt, is_gt}
 use Rattle.std.specs.declared.cmp.Ordering.TheVariants.{Less, Greater}
@@ -165,6 +165,7 @@ module _ (attached : List Attached) (all : AreAttached [] attached) (v : Node) (
     higher = λ none found. absurd (false≢true (sym none ∙ lower_found attached v s x Right k best));
     alone = λ none. absurd (false≢true (sym none ∙ child_found attached v s (Some x) Right k best));
     there = there_of w here;
+    near = inr here;
     stands = right_behind_lower k best w end;
   }
 
@@ -176,6 +177,7 @@ module _ (attached : List Attached) (all : AreAttached [] attached) (v : Node) (
     higher = λ low found. refl;
     alone = λ no. absurd (false≢true (sym no ∙ child_found attached v s None Left k best));
     there = there_of w here;
+    near = inr here;
     stands = right_ahead_of_higher k best (no_lower attached v s x none) w end;
   }
 
@@ -198,5 +200,6 @@ place_beside attached all v s x there unused no_low none = record {
   higher = λ low found. absurd (false≢true (sym (no_child attached v s none) ∙ found));
   alone = λ no. refl;
   there = ap (is_there attached) (neighbour_beside s v) ∙ there;
+  near = inl (neighbour_beside s v);
   stands = right_beside attached all v s x there unused (no_child attached v s none);
 }

@@ -15,7 +15,7 @@ use Rattle.fugue_place.specs.declared.child.Side.TheVariants.{Left, Right}
 use Rattle.fugue_place.specs.declared.child.Attached.{Attached}
 use Rattle.fugue_place.specs.declared.neighbour.Place.{Place}
 use Rattle.fugue_place.specs.declared.neighbour.Place.TheVariants.{After, Before}
-use Rattle.fugue_place.specs.Attachments.{side_of, node_eq, is_there, path_of}
+use Rattle.fugue_place.specs.Attachments.{side_of, node_eq, is_attached, is_there, path_of}
 use Rattle.fugue_place.specs.Subtrees.{HasBase}
 
 -- the two are one side
@@ -95,11 +95,12 @@ beside Left v = Before v
 beside Right v = After v
 
 -- The place of a new child with this id: behind a node where a sibling with a lower id is attached, ahead of one where only
--- higher ones are, beside the parent where none is. And in every tree that the children stand for, it is right behind that
+-- higher ones are, beside the parent where none is. That node is the parent, or attached. And in every tree that the children stand for, it is right behind that
 -- node, or right ahead of it.
 pub record IsPlaceOfNew (attached : List Attached) (parent : Node) (side : Side) (x : Id) (place : Place) : Type 0 where
   pub lower : has_lower attached parent side x ≡ true → is_after place ≡ true
   pub higher : has_lower attached parent side x ≡ false → has_child attached parent side ≡ true → is_after place ≡ false
   pub alone : has_child attached parent side ≡ false → place ≡ beside side parent
   pub there : is_there attached (neighbour_of place) ≡ true
+  pub near : (neighbour_of place ≡ parent) ⊎ (is_attached attached (neighbour_of place) ≡ true)
   pub stands : (b : ℕ) (nodes : List Inserted) → AreNodesOf attached b nodes → BaseEndsAt parent side b → StandsAt attached nodes (step_down (path_of attached parent) (side_of side) x) place

@@ -1,0 +1,61 @@
+-- What stands after any apply.
+use Rattle.std.proofs.Common.{◌≡◌, ℕ, suc, ◌<◌, ◌≤◌, true, inl, ⊎_elim, List, [], ◌∷◌, ◌++◌, map, filter, length, Some, nat_eq, refl, sym, ap, ◌∙◌, arith}
+use Rattle.std.proofs.lemmas.Bool.{or_cases, eq-eqb, eqb-true}
+use Rattle.std.proofs.lemmas.List.{map-append}
+use Rattle.ew_model.specs.Entries.{Entry, visible}
+use Rattle.ew_model.specs.Places.{Act}
+use Rattle.ew_model.specs.Tree.{Applied, Noted, next_entry, noted_as, tree_of}
+use Rattle.ew_model.specs.Records.{Record, IsRun, IsClosed, MayApply, holds, next_of, walker_records, applied_entries}
+use Rattle.ew_model.proofs.SetLaws.{joined_left, joined_right}
+use Rattle.ew_model.proofs.ListTests.{any_from, found_by}
+use Rattle.ew_model.proofs.TreeLaws.{tree_of-push}
+use Rattle.ew_model.proofs.RecordLaws.{records_tell}
+use Rattle.ew_model.proofs.StateLaws.{node_of as record_node, applies_keep}
+use Rattle.advance_retreat.specs.Kept.{Kept}
+use Rattle.advance_retreat.specs.Standing.{most, is_applied, StandsFor}
+use Rattle.advance_retreat.proofs.Lists.{count}
+use Rattle.advance_retreat.proofs.Cuts.{length-mapped}
+
+length-push : {X : Type 0} (xs : List X) (x : X) → length (xs ++ x ∷ []) ≡ suc (length xs)
+length-push [] x = refl
+length-push (y ∷ xs) x = ap suc (length-push xs x)
+
+-- as many records have effect as the text has characters
+pub text_told : (b : ℕ) (events : List (Applied ℕ)) (prepared : List ℕ) → IsRun [] events → count (λ (r : Record). r.effect) (walker_records b events prepared) ≡ length (visible (applied_entries b events))
+text_told b events prepared run =
+    sym (length-mapped record_node (filter (λ (r : Record). r.effect) (walker_records b events prepared))) ∙ ap length (records_tell b events prepared run).effect_nodes
+
+module _ (s : Kept) (b : ℕ) (events : List (Applied ℕ)) (prepared : List ℕ) (st : StandsFor s b events prepared) (lv : ℕ) (act : Act) (e : Entry) (may : MayApply events (next_of lv act prepared))
+    (entry : next_entry nat_eq b (tree_of nat_eq b events) (next_of lv act prepared) ≡ Some e) (room : length events < most) where
+  abbrev pub event : Applied ℕ
+  event = next_of lv act prepared
+
+  abbrev pub later : List (Applied ℕ)
+  later = events ++ event ∷ []
+
+  abbrev pub note : Noted ℕ
+  note = record { name = lv; entry = e }
+
+  pub grows : tree_of nat_eq b later ≡ tree_of nat_eq b events ++ note ∷ []
+  grows = tree_of-push nat_eq b events event ∙ ap (λ o. tree_of nat_eq b events ++ noted_as lv o) entry
+
+  pub run_kept : IsRun [] later
+  run_kept = (applies_keep events prepared lv act st.run may).0
+
+  pub closed_kept : IsClosed later (lv ∷ prepared)
+  closed_kept = (applies_keep events prepared lv act st.run may).1
+
+  pub part_kept : (n : ℕ) → holds (lv ∷ prepared) n ≡ true → is_applied later n
+  part_kept n h =
+      ⊎_elim
+      (λ own. any_from (λ (c : Applied ℕ). nat_eq c.name n) later event (joined_right events (event ∷ []) event (inl refl)) (eq-eqb lv n (sym (eqb-true n lv own))))
+      (λ old. let c = found_by (λ (c : Applied ℕ). nat_eq c.name n) events (st.part n old) in any_from (λ (c : Applied ℕ). nat_eq c.name n) later c.0 (joined_left events (event ∷ []) c.0 c.1) c.2)
+      (or_cases (nat_eq n lv) (holds prepared n) h)
+
+  pub placed_kept : map (λ (n : Noted ℕ). n.name) (tree_of nat_eq b later) ≡ map (λ (c : Applied ℕ). c.name) later
+  placed_kept =
+      ap (map (λ (n : Noted ℕ). n.name)) grows ∙ map-append (λ (n : Noted ℕ). n.name) (tree_of nat_eq b events) (note ∷ []) ∙ (λ i. st.placed i ++ lv ∷ [])
+      ∙ sym (map-append (λ (c : Applied ℕ). c.name) events (event ∷ []))
+
+  pub short_kept : length later ≤ most
+  short_kept = let long = length-push events event in omega (arith, long, room)

@@ -1,0 +1,17 @@
+pub mod Answering
+pub mod Applying
+pub mod BaseStates
+pub mod Characters
+pub mod Children
+pub mod Cuts
+pub mod Deleting
+pub mod FewCalls
+pub mod Holding
+pub mod Inserting
+pub mod Keeping
+pub mod Lists
+pub mod ManyDeletions
+pub mod Moving
+pub mod Nodes
+pub mod RightChildren
+pub mod Room

@@ -1,0 +1,5 @@
+pub mod Conditions
+pub mod Kept
+pub mod Repeated
+pub mod Spots
+pub mod Standing

@@ -1,0 +1,59 @@
+//! Changes of one record.
+
+ghost use Rattle.std.specs.Prelude.{◌≡◌, ◌<◌, ◌^◌, map};
+ghost use Rattle.std.specs.List.{AllByRecursion};
+ghost use Rattle.advance_retreat.specs.Kept.{changed, changed_at, is_of, HasRoom};
+
+use ew_model::node::Node;
+use walker_record::Record;
+
+/// What an event does to the record of its character.
+#[derive(Clone, Copy)]
+pub enum Change {
+    /// It comes into what is prepared.
+    Raise,
+    /// It is taken out of it.
+    Lower,
+    /// It deletes the character, in what is prepared and in the text.
+    Strike,
+}
+
+/// Changes the record of a node.
+pub fn change_at(records: &mut [Record], node: Node, change: Change)
+    requires { AllByRecursion HasRoom records.old }
+    ensures { records.new ≡ map (changed_at node change) records.old }
+{
+    for k in 0..records.len() {
+        let record = records[k];
+        if is_of(&record, node) {
+            records[k] = changed(record, change);
+        }
+    }
+}
+
+fn is_of(record: &Record, node: Node) -> bool
+    ensures { result ≡ is_of node «record».now }
+{
+    record.from == node
+}
+
+fn changed(before: Record, change: Change) -> Record
+    requires { HasRoom before }
+    ensures { result ≡ changed change before }
+{
+    match change {
+        Change::Raise => Record {
+            prepared: before.prepared + 1,
+            ..before
+        },
+        Change::Lower => Record {
+            prepared: before.prepared.saturating_sub(1),
+            ..before
+        },
+        Change::Strike => Record {
+            prepared: before.prepared + 1,
+            effect: false,
+            ..before
+        },
+    }
+}

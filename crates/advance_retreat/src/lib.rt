@@ -1,0 +1,15 @@
+//! The state of a walker: what applying one event does to the text, and how events are taken out of what is prepared and put
+//! in again.
+#![tactic(auto)]
+
+mod change;
+mod fault;
+mod records;
+mod spot;
+mod state;
+mod target;
+#[cfg(test)]
+mod tests;
+
+pub use fault::ApplyFault;
+pub use state::State;

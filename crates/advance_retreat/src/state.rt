@@ -1,0 +1,240 @@
+//! The state of a walker.
+
+ghost use Rattle.std.specs.Prelude.{◌≡◌, ℕ, ◌+◌, ◌<◌, ◌≤◌, ◌^◌, ◌↔◌, nat_eq, nat_lt, ◌&&◌, true, false, List, [], ◌∷◌, ◌++◌, length, Err, IfOk, OnOk, OnErr};
+ghost use Rattle.ew_model.specs.Operations.{next_operation};
+ghost use Rattle.ew_model.specs.Entries.{visible};
+ghost use Rattle.ew_model.specs.Places.Act.{InsertAs, DeleteAt};
+ghost use Rattle.ew_model.specs.Tree.{Applied, tree_of};
+ghost use Rattle.ew_model.specs.Records.{next_of, without, prepared_entries, applied_entries};
+ghost use Rattle.advance_retreat.specs.declared.fault.ApplyFault.TheVariants as apply;
+ghost use Rattle.advance_retreat.specs.Standing.{most, StandsFor};
+ghost use Rattle.advance_retreat.specs.Conditions.{MayInsert, MayDelete, MayAdvanceTo, MayRetreatFrom, AllPrepared};
+ghost use Rattle.advance_retreat.specs.Spots.{MayHang, Puts};
+
+use crate::change::{Change, change_at};
+use crate::fault::ApplyFault;
+use crate::records::{
+    base_records, count_visible, deletion_at, effects_before, find_visible, node_at,
+};
+use crate::spot::{Hold, hold_of, index_of, left_of};
+use crate::target::{Target, target_of};
+use ew_model::NoMem;
+use ew_model::id::Id;
+use ew_model::node::Node;
+use ew_model::steps::Steps;
+use ew_model::text_op::TextOp;
+use fugue_place::Siblings;
+use std::alloc::{AllocError, Global};
+use std::marker::Model;
+use std::sync::ledger::Ledger;
+use walker_record::Record;
+
+/// No base, history or text has more.
+const MOST: u32 = 1 << 24;
+
+/// What a walker knows of the events that it applied over a base: the text that they leave, and the version that is prepared.
+#[derive(Drop)]
+pub struct State {
+    base: u32,
+    records: Vec<Record>,
+    siblings: Siblings,
+    targets: Vec<Target>,
+}
+
+impl Model for State {
+    ghost use Rattle.std.specs.Prelude.{length, ◌≤◌, ◌^◌};
+    ghost use Rattle.advance_retreat.specs.Kept.{Kept};
+
+    ghost Value = { Kept };
+
+    ghost view = { λ s. record { base = s.base; records = s.records.items; attached = s.siblings; targets = s.targets.items } };
+
+    ghost invariant = { λ s. length s.records.items ≤ 2 ^ 25 };
+}
+
+impl State {
+    /// The state over a text of `len` characters, where no event was applied.
+    ///
+    /// An error for want of memory, which is also the answer to a text of more than 2^24 characters.
+    pub fn base(alloc: Global, len: u32) -> Result<State, NoMem>
+        ensures { IfOk result (λ s. StandsFor s len [] []) }
+    {
+        if len > MOST {
+            return Err(AllocError);
+        }
+        Ok(State {
+            base: len,
+            records: base_records(alloc, len)?,
+            siblings: Siblings::new(alloc)?,
+            targets: Vec::new(alloc),
+        })
+    }
+
+    /// How many characters the prepared version's text has.
+    pub fn prepared_len(&self) -> u32
+        ensures { (b : ℕ) (events : List (Applied ℕ)) (prepared : List ℕ) → StandsFor self.now b events prepared → result ≡ length (visible (prepared_entries b events prepared)) }
+    {
+        count_visible(&self.records)
+    }
+
+    /// How many characters the text of all applied events has.
+    pub fn effect_len(&self) -> u32
+        ensures { (b : ℕ) (events : List (Applied ℕ)) (prepared : List ℕ) → StandsFor self.now b events prepared → result ≡ length (visible (applied_entries b events)) }
+    {
+        effects_before(&self.records, self.records.len())
+    }
+
+    /// Whether the history may have one more event.
+    fn has_room_for_event(&self) -> bool
+        ensures { (b : ℕ) (events : List (Applied ℕ)) (prepared : List ℕ) → StandsFor self.now b events prepared → result ≡ nat_lt (length events) most }
+    {
+        self.targets.len() < MOST as usize
+    }
+
+    /// Whether the history may have one more event, and the text one more character.
+    fn has_room_for_character(&self) -> bool
+        ensures { (b : ℕ) (events : List (Applied ℕ)) (prepared : List ℕ) → StandsFor self.now b events prepared → result ≡ (nat_lt (length events) most && nat_lt (length (visible (applied_entries b events))) most) }
+    {
+        self.has_room_for_event() && self.effect_len() < MOST
+    }
+
+    /// Applies the insertion of a character at an index of the prepared version, and prepares it too. Answers what that does to
+    /// the text.
+    ///
+    /// `OutOfRange` where the index is greater than the length of the prepared text. Else `OutOfMemory` for want of memory, or
+    /// where the state holds 2^24 events or its text as many characters. After each of them the state is as it was before.
+    pub fn apply_ins<L: Ledger>(
+        &mut self,
+        lv: u32,
+        id: Id,
+        at: u32,
+        ch: char,
+        steps: &mut Steps<L>,
+    ) -> Result<TextOp, ApplyFault>
+        requires { (b : ℕ) × (events : List (Applied ℕ)) × (prepared : List ℕ) × StandsFor self.old b events prepared × MayInsert events lv id }
+        ensures op { (b : ℕ) (events : List (Applied ℕ)) (prepared : List ℕ) → StandsFor self.old b events prepared → MayInsert events lv id → IfOk result (λ op. op ≡ next_operation nat_eq b (tree_of nat_eq b events) (next_of lv (InsertAs id at ch) prepared)) }
+        ensures ok { (b : ℕ) (events : List (Applied ℕ)) (prepared : List ℕ) → StandsFor self.old b events prepared → MayInsert events lv id → OnOk result (StandsFor self.new b (events ++ next_of lv (InsertAs id at ch) prepared ∷ []) (lv ∷ prepared)) }
+        ensures out_of_range { (b : ℕ) (events : List (Applied ℕ)) (prepared : List ℕ) → StandsFor self.old b events prepared → (len : ℕ) → (result ≡ Err (apply.OutOfRange len)) ↔ ((len ≡ length (visible (prepared_entries b events prepared))) × (len < at)) }
+        ensures err { OnErr result (self.new ≡ self.old) }
+        ensures steps { steps.new ≡ steps.old + 1 }
+    {
+        steps.tick();
+        // A name has at least one byte.
+        let _agent = id.agent.as_slice();
+        let Some(left) = left_of(&self.records, at) else {
+            return Err(ApplyFault::OutOfRange {
+                len: self.prepared_len(),
+            });
+        };
+        if !self.has_room_for_character() {
+            return Err(ApplyFault::OutOfMemory);
+        }
+        let hold = hold_of(self.base, &self.records, &self.siblings, left);
+        let at = self.put(lv, id, hold)?;
+        Ok(TextOp::Ins { at, ch })
+    }
+
+    /// Puts the character of a new event into the tree. Answers its index in the text.
+    fn put(&mut self, lv: u32, id: Id, hold: Hold) -> Result<u32, NoMem>
+        requires { MayHang self.old lv id hold }
+        ensures ok { IfOk result (λ at. Puts self.old self.new lv id hold at) }
+        ensures err { OnErr result (self.new ≡ self.old) }
+    {
+        let own = Id {
+            agent: id.agent,
+            seq: id.seq,
+        };
+        let place = self.siblings.position(hold.parent, hold.side, own);
+        let index = index_of(&self.records, place);
+        let at = effects_before(&self.records, index);
+        let node = Node::Event(lv);
+        self.records.reserve(1)?;
+        self.targets.reserve(1)?;
+        self.siblings.attach(hold.parent, hold.side, id, node)?;
+        let record = Record {
+            from: node,
+            len: 1,
+            prepared: 1,
+            effect: true,
+        };
+        let Ok(()) = self.records.insert(index, record) else {
+            unreachable!()
+        };
+        self.targets.push_reserved(Target { lv, node });
+        Ok(at)
+    }
+
+    /// Applies the deletion of the character at an index of the prepared version, and prepares it too. Answers what that does to
+    /// the text.
+    ///
+    /// `OutOfRange` where the prepared text has no character at the index. Else `OutOfMemory` for want of memory, or where the
+    /// state holds 2^24 events. After each of them the state is as it was before.
+    pub fn apply_del<L: Ledger>(
+        &mut self,
+        lv: u32,
+        at: u32,
+        steps: &mut Steps<L>,
+    ) -> Result<TextOp, ApplyFault>
+        requires { (b : ℕ) × (events : List (Applied ℕ)) × (prepared : List ℕ) × StandsFor self.old b events prepared × MayDelete events lv }
+        ensures op { (b : ℕ) (events : List (Applied ℕ)) (prepared : List ℕ) → StandsFor self.old b events prepared → MayDelete events lv → IfOk result (λ op. op ≡ next_operation nat_eq b (tree_of nat_eq b events) (next_of lv (DeleteAt at) prepared)) }
+        ensures ok { (b : ℕ) (events : List (Applied ℕ)) (prepared : List ℕ) → StandsFor self.old b events prepared → MayDelete events lv → OnOk result (StandsFor self.new b (events ++ next_of lv (DeleteAt at) prepared ∷ []) (lv ∷ prepared)) }
+        ensures out_of_range { (b : ℕ) (events : List (Applied ℕ)) (prepared : List ℕ) → StandsFor self.old b events prepared → (len : ℕ) → (result ≡ Err (apply.OutOfRange len)) ↔ ((len ≡ length (visible (prepared_entries b events prepared))) × (len ≤ at)) }
+        ensures err { OnErr result (self.new ≡ self.old) }
+        ensures steps { steps.new ≡ steps.old + 1 }
+    {
+        steps.tick();
+        let Some(k) = find_visible(&self.records, at) else {
+            return Err(ApplyFault::OutOfRange {
+                len: self.prepared_len(),
+            });
+        };
+        if !self.has_room_for_event() {
+            return Err(ApplyFault::OutOfMemory);
+        }
+        self.targets.reserve(1)?;
+        let op = deletion_at(&self.records, k);
+        let node = node_at(&self.records, k);
+        change_at(&mut self.records, node, Change::Strike);
+        self.targets.push_reserved(Target { lv, node });
+        Ok(op)
+    }
+
+    /// Puts an applied event into the prepared version.
+    pub fn advance<L: Ledger>(&mut self, lv: u32, steps: &mut Steps<L>) -> Result<(), NoMem>
+        requires { (b : ℕ) × (events : List (Applied ℕ)) × (prepared : List ℕ) × StandsFor self.old b events prepared × MayAdvanceTo events prepared lv }
+        ensures ok { (b : ℕ) (events : List (Applied ℕ)) (prepared : List ℕ) → StandsFor self.old b events prepared → MayAdvanceTo events prepared lv → OnOk result (StandsFor self.new b events (lv ∷ prepared)) }
+        ensures err { OnErr result (self.new ≡ self.old) }
+        ensures steps { steps.new ≡ steps.old + 1 }
+    {
+        steps.tick();
+        if let Some(node) = target_of(&self.targets, lv) {
+            change_at(&mut self.records, node, Change::Raise);
+        }
+        Ok(())
+    }
+
+    /// Takes an event out of the prepared version.
+    pub fn retreat<L: Ledger>(&mut self, lv: u32, steps: &mut Steps<L>) -> Result<(), NoMem>
+        requires { (b : ℕ) × (events : List (Applied ℕ)) × (prepared : List ℕ) × StandsFor self.old b events prepared × MayRetreatFrom events prepared lv }
+        ensures ok { (b : ℕ) (events : List (Applied ℕ)) (prepared : List ℕ) → StandsFor self.old b events prepared → MayRetreatFrom events prepared lv → OnOk result (StandsFor self.new b events (without lv prepared)) }
+        ensures err { OnErr result (self.new ≡ self.old) }
+        ensures steps { steps.new ≡ steps.old + 1 }
+    {
+        steps.tick();
+        if let Some(node) = target_of(&self.targets, lv) {
+            change_at(&mut self.records, node, Change::Lower);
+        }
+        Ok(())
+    }
+
+    /// Forgets all events: what they leave of the text is the base from now on.
+    pub fn clear(&mut self) -> Result<(), NoMem>
+        requires { (b : ℕ) × (events : List (Applied ℕ)) × (prepared : List ℕ) × StandsFor self.old b events prepared × AllPrepared events prepared }
+        ensures ok { (b : ℕ) (events : List (Applied ℕ)) (prepared : List ℕ) → StandsFor self.old b events prepared → OnOk result (StandsFor self.new (length (visible (applied_entries b events))) [] []) }
+        ensures err { OnErr result (self.new ≡ self.old) }
+    {
+        let alloc = *self.records.allocator();
+        *self = State::base(alloc, self.effect_len())?;
+        Ok(())
+    }
+}
