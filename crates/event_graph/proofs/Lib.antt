@@ -1,0 +1,13 @@
+pub mod Admitted
+pub mod Ascending
+pub mod Places
+pub mod Found
+pub mod Rebuilt
+pub mod Grown
+pub mod Numbers
+pub mod IdRows
+pub mod Lists
+pub mod Kept
+pub mod RowLaws
+pub mod Summing
+mod Tails

@@ -1,0 +1,60 @@
+-- What is kept of the front of a history.
+use Rattle.std.proofs.Common.{◌≡◌, ℕ, List, [], ◌∷◌, ◌++◌, take, drop, length, sym, ap, ◌∙◌, subst, append-nil, append_assoc}
+use Rattle.std.proofs.Math.Seq.{take-append_seam}
+use Rattle.std.proofs.lemmas.List.{length-map, take-map, take-append-drop}
+use Rattle.ew_model.specs.declared.event.Event.{Event}
+use Rattle.ew_model.specs.declared.id.Id.{Id}
+use Rattle.ew_model.specs.Positions.{positions_in}
+use Rattle.critical.specs.KeptCuts.{KeptCuts}
+use Rattle.event_runs.specs.BareEvents.{BareEvent, bare}
+use Rattle.event_graph.specs.Keeping.{AreAdmittedAfter, IsAdmitted, bare_events, IsKeptOf}
+use Rattle.event_graph.specs.Tails.{TailMark, mark_of}
+use Rattle.event_graph.proofs.Admitted.{laid}
+use Rattle.event_graph.proofs.Grown.{bare_grown}
+
+front_after : (before front later : List Event) → AreAdmittedAfter before (front ++ later) → AreAdmittedAfter before front
+front_after before [] later h = tt
+front_after before (e ∷ front) later h = (h.0, front_after (before ++ e ∷ []) front later h.1)
+
+-- later events add to the events without their ids, and change none
+bare_more : (front later : List Event) → IsAdmitted (front ++ later) → (rest : List BareEvent) × (bare_events (front ++ later) ≡ bare_events front ++ rest)
+bare_more front [] h = ([], ap bare_events (append-nil front) ∙ sym (append-nil (bare_events front)))
+bare_more front (e ∷ later) h =
+    let b : BareEvent = bare e.op (positions_in front e.parents) in
+    let shifted : (front ++ e ∷ []) ++ later ≡ front ++ e ∷ later = append_assoc front (e ∷ []) later in
+    let whole : IsAdmitted ((front ++ e ∷ []) ++ later) = subst IsAdmitted (sym shifted) h in
+    let more = bare_more (front ++ e ∷ []) later whole in (
+      b ∷ more.0,
+      ap bare_events (sym shifted) ∙ more.1 ∙ ap (λ bs. bs ++ more.0) (bare_grown front e (laid (front ++ e ∷ []) (front_after [] (front ++ e ∷ []) later whole)))
+          ∙ append_assoc (bare_events front) (b ∷ []) more.0,
+    )
+
+bare_front : (front later : List Event) → IsAdmitted (front ++ later) → take (length front) (bare_events (front ++ later)) ≡ bare_events front
+bare_front front later h =
+    let more = bare_more front later h in
+    (λ i. take (sym (length-map front (λ (e : Event). bare e.op (positions_in front e.parents))) i) (more.1 i)) ∙ take-append_seam (bare_events front) more.0
+
+-- what is kept of the first n events
+pub kept_front : (now : List Event) (ids : List Id) (events : List BareEvent) (heads : List ℕ) (cuts : KeptCuts) (tail : TailMark) → IsKeptOf now ids events heads cuts → tail ≡ mark_of (take tail.count now)
+    → IsKeptOf (take tail.count now) (take tail.count ids) (take tail.count events) tail.heads tail.cuts
+kept_front now ids events heads cuts tail kept marked =
+    let n = tail.count in
+    let front = take n now in
+    let whole : front ++ drop n now ≡ now = take-append-drop n now in
+    let admitted : IsAdmitted (front ++ drop n now) = subst IsAdmitted (sym whole) kept.admitted in
+    record {
+      admitted = front_after [] front (drop n now) admitted;
+      ids_are = ap (take n) kept.ids_are ∙ take-map (λ (e : Event). e.id) n now;
+      events_are = ap (take n) (kept.events_are ∙ ap bare_events (sym whole)) ∙ ap (λ k. take k (bare_events (front ++ drop n now))) (ap (λ (t : TailMark). t.count) marked) ∙ bare_front front (drop n now) admitted;
+      heads_are = ap (λ (t : TailMark). t.heads) marked;
+      cuts_are = ap (λ (t : TailMark). t.cuts) marked;
+    }
+
+-- the parts of a graph that came back
+pub cut_back : (now : List Event) (ids : List Id) (events : List BareEvent) (heads : List ℕ) (cuts : KeptCuts) (tail inside : TailMark) (new_ids : List Id) (new_events : List BareEvent) → IsKeptOf now ids events heads cuts → inside ≡ tail
+    → tail ≡ mark_of (take tail.count now) → new_ids ≡ take inside.count ids → new_events ≡ take inside.count events → IsKeptOf (take tail.count now) new_ids new_events inside.heads inside.cuts
+cut_back now ids events heads cuts tail inside new_ids new_events kept same marked is are =
+    let front = kept_front now ids events heads cuts inside kept (subst (λ (t : TailMark). t ≡ mark_of (take t.count now)) (sym same) marked) in
+    subst (λ (n : ℕ). IsKeptOf (take n now) new_ids new_events inside.heads inside.cuts) (ap (λ (t : TailMark). t.count) same)
+    (subst (λ (xs : List Id). IsKeptOf (take inside.count now) xs new_events inside.heads inside.cuts) (sym is)
+    (subst (λ (es : List BareEvent). IsKeptOf (take inside.count now) (take inside.count ids) es inside.heads inside.cuts) (sym are) front))

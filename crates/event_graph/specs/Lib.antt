@@ -1,0 +1,5 @@
+pub mod Finding
+pub mod Keeping
+pub mod Rows
+pub mod Summary
+pub mod Tails

@@ -1,0 +1,440 @@
+//! The graph.
+
+ghost use Rattle.std.specs.Prelude.{◌≡◌, ◌≢◌, ℕ, ◌+◌, ◌<◌, ◌≤◌, ◌^◌, List, [], ◌∷◌, ◌++◌, map, length, true, Some, slice_get, position, find, not, option_map, IfOk, IfSome, IsOkAnd, OnOk, OnErr};
+ghost use Rattle.std.specs.List.{All};
+ghost use Rattle.std.specs.Option.{option_copied};
+ghost use Rattle.ew_model.specs.declared.event.Event.{Event};
+ghost use Rattle.ew_model.specs.Ancestors as model;
+ghost use Rattle.ew_model.specs.Answers.{ruling_of};
+ghost use Rattle.ew_model.specs.Cuts.{is_critical, latest_cut};
+ghost use Rattle.ew_model.specs.Ids.{id_eq, is_among, ids_ascend};
+ghost use Rattle.ew_model.specs.Positions.{AreParents, IsHistoryOfParents, parents_at, known_alone, positions_in, parent_positions};
+ghost use Rattle.ew_model.specs.Verdicts.{id_rows, parent_rows, first_unknown, follows_its_agent, graph_verdict};
+ghost use Rattle.ew_model.specs.Verdicts.Ruling.{Good};
+ghost use Rattle.ancestors.specs.Floors.{HasAllBelow};
+ghost use Rattle.ancestors.specs.Spans as spans;
+ghost use Rattle.event_graph.specs.Keeping.{IsAdmitted};
+ghost use Rattle.event_graph.specs.Finding.{found_in};
+ghost use Rattle.event_graph.specs.Rows.{row_in};
+ghost use Rattle.event_graph.specs.Summary.{summary_of};
+
+use crate::ids::{agents, ascend, counts, ids_at, is_among};
+use crate::parts::{append, append_apart};
+use agent_ids::AgentTable;
+use ancestors::{Spans, contains, diff, is_reduced};
+use critical::Cuts;
+use event_runs::EventRuns;
+use ew_model::NoMem;
+use ew_model::event::{Event, Op};
+use ew_model::id::Id;
+use ew_model::name::Name;
+use ew_model::parents::Parents;
+use ew_model::verdict::Verdict;
+use frontier::{Frontier, Parentage};
+use smallvec::SmallVec;
+use std::alloc::Global;
+use std::marker::Model;
+
+const MOST_PARENTS: usize = 16;
+
+/// A history of events, each of which was judged good when it came. Contracts see the list of its events, the oldest
+/// first. A position is a place in that list, from 0.
+#[derive(Drop)]
+pub struct Graph {
+    alloc: Global,
+    ids: AgentTable,
+    events: EventRuns,
+    heads: Frontier,
+    cuts: Cuts,
+}
+
+impl Model for Graph {
+    ghost use Rattle.std.specs.Prelude.{List};
+    ghost use Rattle.ew_model.specs.declared.event.Event.{Event};
+    ghost use Rattle.event_graph.specs.Keeping.{history_of, IsKeptOf};
+
+    ghost Value = { List Event };
+
+    ghost view = { λ g. history_of g.ids g.events };
+
+    ghost invariant = { λ g. IsKeptOf (history_of g.ids g.events) g.ids g.events g.heads g.cuts };
+}
+
+impl Graph {
+    /// The graph of no events. It takes no memory, and never fails.
+    pub fn new(alloc: Global) -> Result<Graph, NoMem>
+        ensures { IsOkAnd result (λ g. g ≡ []) }
+    {
+        Ok(Graph {
+            alloc,
+            ids: AgentTable::new(alloc)?,
+            events: EventRuns::new(alloc)?,
+            heads: Frontier::new(alloc)?,
+            cuts: Cuts::new(alloc)?,
+        })
+    }
+
+    /// How many events there are.
+    pub fn count(&self) -> u32
+        ensures count { result ≡ length self.now }
+        ensures admitted { IsAdmitted self.now }
+    {
+        let _heads = &self.heads;
+        self.events.count()
+    }
+
+    /// The positions of the events that have no child, rising.
+    pub fn frontier(&self) -> &Frontier
+        ensures { result.now ≡ positions_in self.now (model.heads self.now) }
+    {
+        &self.heads
+    }
+
+    /// The position of the event with this id, if it is held.
+    pub fn find(&self, id: &Id) -> Option<u32>
+        ensures value { result ≡ position (id_eq id.now) (model.ids_of self.now) }
+        ensures within { IfSome result (λ lv. lv < length self.now) }
+    {
+        self.ids.position(id)
+    }
+
+    /// The first of these ids that isn't held.
+    pub fn has(&self, ids: &[Id]) -> Option<Id>
+        ensures { result ≡ first_unknown self.now ids.now }
+    {
+        self.first_unknown(ids).copied()
+    }
+
+    fn first_unknown<'a>(&self, ids: &'a [Id]) -> Option<&'a Id>
+        ensures { option_copied result ≡ find (λ x. not (model.is_held self.now x)) ids.now }
+    {
+        ids.iter().find(|x| !self.holds(*x))
+    }
+
+    /// Whether an event with this id is held.
+    fn holds(&self, id: &Id) -> bool
+        ensures { result ≡ model.is_held self.now id.now }
+    {
+        self.find(id).is_some()
+    }
+
+    /// The id of the event at a position.
+    pub fn id_at(&self, lv: u32) -> Id
+        requires { lv < length self.now }
+        ensures { slice_get (model.ids_of self.now) lv ≡ Some result }
+    {
+        self.ids.id_at(lv)
+    }
+
+    /// The operation of the event at a position.
+    pub fn op_at(&self, lv: u32) -> Op
+        requires { lv < length self.now }
+        ensures { slice_get (map (λ (e : Event). e.op) self.now) lv ≡ Some result }
+    {
+        self.events.op_at(lv)
+    }
+
+    /// The event at a position.
+    pub fn event_at(&self, lv: u32) -> Result<Event, NoMem>
+        requires { lv < length self.now }
+        ensures { IfOk result (λ e. slice_get self.now lv ≡ Some e) }
+    {
+        let positions = self.events.parents_at(lv);
+        let mut parents = ids_at(self.alloc, &self.ids, positions.as_slice())?;
+        parents.sort_unstable();
+        Ok(Event {
+            id: self.ids.id_at(lv),
+            parents: Parents::from_vec(parents),
+            op: self.events.op_at(lv),
+        })
+    }
+
+    /// The positions of the events with these ascending ids, rising.
+    fn positions_of(&self, ids: &[Id]) -> Result<Vec<u32>, NoMem>
+        requires { ids_ascend ids.now ≡ true }
+        ensures { IfOk result (λ v. v.items ≡ positions_in self.now ids.now) }
+    {
+        let _count = self.count();
+        let mut positions = self.find_all(ids)?;
+        positions.sort_unstable();
+        Ok(positions)
+    }
+
+    /// The positions of those of the ids that are held, in the order of the ids.
+    fn find_all(&self, ids: &[Id]) -> Result<Vec<u32>, NoMem>
+        ensures { IfOk result (λ v. v.items ≡ found_in self.now ids.now) }
+    {
+        let mut positions = Vec::new(self.alloc);
+        for id in ids {
+            if let Some(lv) = self.find(id) {
+                positions.push(lv)?;
+            }
+        }
+        Ok(positions)
+    }
+
+    /// What is in version `a` alone, and what is in version `b` alone. Both contain all events below the floor.
+    pub fn diff(&self, a: &[u32], b: &[u32], floor: u32) -> Result<(Spans, Spans), NoMem>
+        requires a { All (λ p. p < length self.now) a.now }
+        requires b { All (λ p. p < length self.now) b.now }
+        requires floor_a { HasAllBelow (parent_positions self.now) a.now floor }
+        requires floor_b { HasAllBelow (parent_positions self.now) b.now floor }
+        ensures left { IfOk result (λ sides. spans.positions_of sides.0 ≡ known_alone (parent_positions self.now) a.now b.now) }
+        ensures right { IfOk result (λ sides. spans.positions_of sides.1 ≡ known_alone (parent_positions self.now) b.now a.now) }
+        ensures left_order { IfOk result (λ sides. spans.AreDescending sides.0) }
+        ensures right_order { IfOk result (λ sides. spans.AreDescending sides.1) }
+    {
+        diff(self.alloc, self, a, b, floor)
+    }
+
+    /// The greatest critical cut that is at most n.
+    pub fn latest_cut(&self, n: u32) -> u32
+        ensures { result ≡ latest_cut self.now n }
+    {
+        self.cuts.latest(n)
+    }
+
+    /// Whether the cut at k is critical: each event from position k on has all events below k among its ancestors.
+    pub fn is_cut(&self, k: u32) -> bool
+        ensures { result ≡ is_critical self.now k }
+    {
+        self.cuts.is_cut(k)
+    }
+
+    /// How the event stands to the events held: the first row that holds, whatever its index. It is never OutOfRange.
+    pub fn judge(&self, e: &Event) -> Result<Verdict, NoMem>
+        ensures { IfOk result (λ v. ruling_of v ≡ graph_verdict self.now e.now) }
+    {
+        match self.judge_form(e)? {
+            Some(verdict) => Ok(verdict),
+            None => Ok(Verdict::Good),
+        }
+    }
+
+    /// By the id and the parents. None where no such row holds.
+    fn judge_form(&self, e: &Event) -> Result<Option<Verdict>, NoMem>
+        ensures { IfOk result (λ v. option_map ruling_of v ≡ row_in (id_rows self.now [] e.now ++ parent_rows self.now e.now)) }
+    {
+        match self.judge_id(e)? {
+            Some(verdict) => Ok(Some(verdict)),
+            None => self.judge_parents(e),
+        }
+    }
+
+    /// By the id.
+    fn judge_id(&self, e: &Event) -> Result<Option<Verdict>, NoMem>
+        ensures { IfOk result (λ v. option_map ruling_of v ≡ row_in (id_rows self.now [] e.now)) }
+    {
+        let _count = self.count();
+        let Some(lv) = self.find(&e.id) else {
+            return Ok(None);
+        };
+        let held = self.event_at(lv)?;
+        if e.same(&held) {
+            Ok(Some(Verdict::Repeat))
+        } else {
+            Ok(Some(Verdict::Clash))
+        }
+    }
+
+    /// By the parents.
+    #[tactic(auto, unfolding(ew_model::specs::Verdicts::parent_rows))]
+    fn judge_parents(&self, e: &Event) -> Result<Option<Verdict>, NoMem>
+        ensures { IfOk result (λ v. option_map ruling_of v ≡ row_in (parent_rows self.now e.now)) }
+    {
+        let parents = e.parents.as_slice();
+        if is_among(parents, &e.id) {
+            return Ok(Some(Verdict::SelfParent));
+        }
+        if parents.len() > MOST_PARENTS {
+            return Ok(Some(Verdict::TooManyParents));
+        }
+        if !ascend(parents) {
+            return Ok(Some(Verdict::ParentsUnsorted));
+        }
+        if let Some(p) = self.has(parents) {
+            return Ok(Some(Verdict::Unknown(p)));
+        }
+        let positions = self.positions_of(parents)?;
+        if !self.are_reduced(parents, &positions)? {
+            return Ok(Some(Verdict::NotReduced));
+        }
+        if !self.follows_its_agent(e, &positions)? {
+            return Ok(Some(Verdict::Skipped));
+        }
+        Ok(None)
+    }
+
+    /// Whether no parent is an ancestor of another.
+    fn are_reduced(&self, parents: &[Id], positions: &[u32]) -> Result<bool, NoMem>
+        requires { positions.now ≡ positions_in self.now parents.now }
+        ensures { IfOk result (λ b. b ≡ model.is_reduced self.now parents.now) }
+    {
+        let _count = self.count();
+        is_reduced(self.alloc, self, positions)
+    }
+
+    /// Whether the agent's event before this one is among its ancestors.
+    #[tactic(auto, unfolding(ew_model::specs::Verdicts::follows_its_agent))]
+    fn follows_its_agent(&self, e: &Event, positions: &[u32]) -> Result<bool, NoMem>
+        requires { positions.now ≡ positions_in self.now e.now.parents }
+        ensures { IfOk result (λ b. b ≡ follows_its_agent self.now e.now) }
+    {
+        if e.id.seq == 0 {
+            return Ok(true);
+        }
+        let before = Id {
+            agent: e.id.agent,
+            seq: e.id.seq - 1,
+        };
+        self.knows(e.parents.as_slice(), positions, &before)
+    }
+
+    /// Whether an id is held, and is among the ancestors of these.
+    fn knows(&self, named: &[Id], positions: &[u32], id: &Id) -> Result<bool, NoMem>
+        requires { positions.now ≡ positions_in self.now named.now }
+        ensures { IfOk result (λ b. b ≡ is_among (model.ancestors self.now named.now) id.now) }
+    {
+        let _count = self.count();
+        match self.find(id) {
+            Some(lv) => contains(self.alloc, self, positions, lv),
+            None => Ok(false),
+        }
+    }
+
+    /// Puts an event behind the others that was judged good.
+    pub fn admit(&mut self, e: &Event) -> Result<(), NoMem>
+        requires good { graph_verdict self.old e.now ≡ Good }
+        requires room { length self.old + 1 < 2 ^ 32 }
+        ensures ok { OnOk result (self.new ≡ self.old ++ e.now ∷ []) }
+        ensures err { OnErr result (self.new ≡ self.old) }
+    {
+        let parents = self.positions_of(e.parents.as_slice())?;
+        let positions = parents.as_slice();
+        if self.heads.equals(positions) {
+            self.put_on_heads(e, positions)
+        } else {
+            self.put_apart(e, positions)
+        }
+    }
+
+    /// Puts an event behind the others whose parents are all the heads.
+    fn put_on_heads(&mut self, e: &Event, positions: &[u32]) -> Result<(), NoMem>
+        requires good { graph_verdict self.old e.now ≡ Good }
+        requires room { length self.old + 1 < 2 ^ 32 }
+        requires parents { positions.now ≡ positions_in self.old e.now.parents }
+        ensures ok { OnOk result (self.new ≡ self.old ++ e.now ∷ []) }
+        ensures err { OnErr result (self.new ≡ self.old) }
+    {
+        let mut heads = self.heads.copy()?;
+        heads.insert_event(self.events.count(), positions)?;
+        append(
+            &mut self.ids,
+            &mut self.events,
+            &mut self.cuts,
+            &self.heads,
+            e,
+            positions,
+        )?;
+        self.heads = heads;
+        Ok(())
+    }
+
+    /// Puts an event behind the others whose parents aren't the heads. The heads, which may be many, aren't copied.
+    fn put_apart(&mut self, e: &Event, positions: &[u32]) -> Result<(), NoMem>
+        requires good { graph_verdict self.old e.now ≡ Good }
+        requires room { length self.old + 1 < 2 ^ 32 }
+        requires parents { positions.now ≡ positions_in self.old e.now.parents }
+        requires apart { positions.now ≢ positions_in self.old (model.heads self.old) }
+        ensures ok { OnOk result (self.new ≡ self.old ++ e.now ∷ []) }
+        ensures err { OnErr result (self.new ≡ self.old) }
+    {
+        append_apart(
+            &mut self.ids,
+            &mut self.events,
+            &mut self.heads,
+            e,
+            positions,
+        )?;
+        self.cuts.push_apart(positions);
+        Ok(())
+    }
+
+    /// Each agent with how many events it has, which is at least 1, ascending by name.
+    pub fn summary(&self) -> Result<Vec<(Name, u32)>, NoMem>
+        ensures value { IfOk result (λ v. v.items ≡ summary_of self.now) }
+        ensures some { IfOk result (λ v. All (λ a. 1 ≤ a.1) v.items) }
+    {
+        let mut names = agents(self.alloc, &self.ids)?;
+        names.sort_unstable();
+        counts(self.alloc, &self.ids, &names)
+    }
+}
+
+impl Parentage for Graph {
+    ghost use Rattle.ew_model.specs.Positions.{parent_positions};
+
+    ghost parents = { λ history. parent_positions history };
+
+    fn count(&self) -> u32 {
+        Graph::count(self)
+    }
+
+    fn parents_of(&self, lv: u32) -> SmallVec<u32, 16> {
+        self.events.parents_at(lv)
+    }
+}
+
+/// Where a graph stood once: the events that came since are its tail. Contracts see how many events there were, the
+/// positions of the heads, and the critical cuts.
+#[derive(Drop)]
+pub struct Tail {
+    count: u32,
+    heads: Frontier,
+    cuts: Cuts,
+}
+
+impl Model for Tail {
+    ghost use Rattle.event_graph.specs.Tails.{TailMark};
+
+    ghost Value = { TailMark };
+
+    ghost view = { λ t. record { count = t.count; heads = t.heads; cuts = t.cuts } };
+}
+
+impl Graph {
+    ghost use Rattle.std.specs.Prelude.{take};
+    ghost use Rattle.ew_model.specs.Edits.{count_of};
+    ghost use Rattle.event_graph.specs.Tails.{mark_of};
+
+    /// How many events of the agent there are, which is the number of its next one.
+    pub fn count_of(&self, agent: &Name) -> u32
+        ensures count { result ≡ count_of self.now agent.now }
+        ensures few { result ≤ length self.now }
+    {
+        let _heads = &self.heads;
+        self.ids.count_of(agent)
+    }
+
+    /// Remembers where the graph stands, so that it can come back.
+    pub fn mark(&self) -> Result<Tail, NoMem>
+        ensures { IfOk result (λ t. t ≡ mark_of self.now) }
+    {
+        Ok(Tail {
+            count: self.events.count(),
+            heads: self.heads.copy()?,
+            cuts: self.cuts.copy()?,
+        })
+    }
+
+    /// Takes out all events that came since the tail was marked. It takes no memory.
+    pub fn drop_tail(&mut self, tail: Tail)
+        requires { tail ≡ mark_of (take tail.count self.old) }
+        ensures { self.new ≡ take tail.count self.old }
+    {
+        self.ids.truncate(tail.count);
+        self.events.truncate(tail.count);
+        self.heads = tail.heads;
+        self.cuts = tail.cuts;
+    }
+}

@@ -1,0 +1,10 @@
+//! The history of a replica as a graph of events: found by id and by position, judged, and made longer.
+#![tactic(auto)]
+
+pub mod graph;
+mod ids;
+mod parts;
+#[cfg(test)]
+mod tests;
+
+pub use graph::{Graph, Tail};

@@ -1,0 +1,123 @@
+//! The parts of a graph, changed together.
+
+ghost use Rattle.std.specs.Prelude.{◌≡◌, ◌+◌, ◌<◌, ◌^◌, List, ℕ, [], ◌∷◌, ◌++◌, length, true, OnOk, OnErr};
+ghost use Rattle.std.specs.List.{All};
+ghost use Rattle.ew_model.specs.Positions.{AreParents, IsHistoryOfParents, frontier_of, is_reduced_at};
+ghost use Rattle.agent_ids.specs.Agents.{count_of};
+ghost use Rattle.critical.specs.KeptCuts.{kept_for};
+ghost use Rattle.event_runs.specs.BareEvents.{bare};
+
+use agent_ids::AgentTable;
+use critical::Cuts;
+use event_runs::EventRuns;
+use ew_model::NoMem;
+use ew_model::event::Event;
+use frontier::Frontier;
+
+/// Puts one more event behind the others, in each of the parts or in none. `heads` is the frontier so far.
+pub fn append(
+    ids: &mut AgentTable,
+    runs: &mut EventRuns,
+    cuts: &mut Cuts,
+    heads: &Frontier,
+    e: &Event,
+    parents: &[u32],
+) -> Result<(), NoMem>
+    requires next { e.now.id.seq ≡ count_of ids.old e.now.id.agent }
+    requires alike { length ids.old ≡ length runs.old }
+    requires cut_count { cuts.old.count ≡ length runs.old }
+    requires parents { AreParents (length runs.old) parents.now }
+    requires room { length runs.old + 1 < 2 ^ 32 }
+    ensures ids { OnOk result (ids.new ≡ ids.old ++ e.now.id ∷ []) }
+    ensures runs { OnOk result (runs.new ≡ runs.old ++ bare e.now.op parents.now ∷ []) }
+    ensures cuts { OnOk result ((history : List (List ℕ)) → IsHistoryOfParents history → cuts.old ≡ kept_for history → heads.now ≡ frontier_of history → is_reduced_at history parents.now ≡ true → cuts.new ≡ kept_for (history ++ parents.now ∷ [])) }
+    ensures same_ids { OnErr result (ids.new ≡ ids.old) }
+    ensures same_runs { OnErr result (runs.new ≡ runs.old) }
+    ensures same_cuts { OnErr result (cuts.new ≡ cuts.old) }
+{
+    let count = runs.count();
+    ids.append(e.id)?;
+    if let Err(fault) = append_bare(runs, cuts, heads, e, parents) {
+        ids.truncate(count);
+        return Err(fault);
+    }
+    Ok(())
+}
+
+/// The same for the parts that don't know ids.
+fn append_bare(
+    runs: &mut EventRuns,
+    cuts: &mut Cuts,
+    heads: &Frontier,
+    e: &Event,
+    parents: &[u32],
+) -> Result<(), NoMem>
+    requires cut_count { cuts.old.count ≡ length runs.old }
+    requires parents { AreParents (length runs.old) parents.now }
+    requires room { length runs.old + 1 < 2 ^ 32 }
+    ensures runs { OnOk result (runs.new ≡ runs.old ++ bare e.now.op parents.now ∷ []) }
+    ensures cuts { OnOk result ((history : List (List ℕ)) → IsHistoryOfParents history → cuts.old ≡ kept_for history → heads.now ≡ frontier_of history → is_reduced_at history parents.now ≡ true → cuts.new ≡ kept_for (history ++ parents.now ∷ [])) }
+    ensures same_runs { OnErr result (runs.new ≡ runs.old) }
+    ensures same_cuts { OnErr result (cuts.new ≡ cuts.old) }
+{
+    let count = runs.count();
+    runs.append(e.op, parents)?;
+    if let Err(fault) = cuts.push(parents, heads) {
+        runs.truncate(count);
+        return Err(fault);
+    }
+    Ok(())
+}
+
+/// Puts one more event behind the others, in each of these parts or in none.
+pub fn append_apart(
+    ids: &mut AgentTable,
+    runs: &mut EventRuns,
+    heads: &mut Frontier,
+    e: &Event,
+    parents: &[u32],
+) -> Result<(), NoMem>
+    requires next { e.now.id.seq ≡ count_of ids.old e.now.id.agent }
+    requires alike { length ids.old ≡ length runs.old }
+    requires below { All (λ h. h < length runs.old) heads.old }
+    requires parents { AreParents (length runs.old) parents.now }
+    requires room { length runs.old + 1 < 2 ^ 32 }
+    ensures ids { OnOk result (ids.new ≡ ids.old ++ e.now.id ∷ []) }
+    ensures runs { OnOk result (runs.new ≡ runs.old ++ bare e.now.op parents.now ∷ []) }
+    ensures heads { OnOk result ((history : List (List ℕ)) → IsHistoryOfParents history → length runs.old ≡ length history → heads.old ≡ frontier_of history → heads.new ≡ frontier_of (history ++ parents.now ∷ [])) }
+    ensures same_ids { OnErr result (ids.new ≡ ids.old) }
+    ensures same_runs { OnErr result (runs.new ≡ runs.old) }
+    ensures same_heads { OnErr result (heads.new ≡ heads.old) }
+{
+    let count = runs.count();
+    ids.append(e.id)?;
+    if let Err(fault) = append_heads(runs, heads, e, parents) {
+        ids.truncate(count);
+        return Err(fault);
+    }
+    Ok(())
+}
+
+/// The same for the parts that don't know ids.
+fn append_heads(
+    runs: &mut EventRuns,
+    heads: &mut Frontier,
+    e: &Event,
+    parents: &[u32],
+) -> Result<(), NoMem>
+    requires below { All (λ h. h < length runs.old) heads.old }
+    requires parents { AreParents (length runs.old) parents.now }
+    requires room { length runs.old + 1 < 2 ^ 32 }
+    ensures runs { OnOk result (runs.new ≡ runs.old ++ bare e.now.op parents.now ∷ []) }
+    ensures heads { OnOk result ((history : List (List ℕ)) → IsHistoryOfParents history → length runs.old ≡ length history → heads.old ≡ frontier_of history → heads.new ≡ frontier_of (history ++ parents.now ∷ [])) }
+    ensures same_runs { OnErr result (runs.new ≡ runs.old) }
+    ensures same_heads { OnErr result (heads.new ≡ heads.old) }
+{
+    let count = runs.count();
+    runs.append(e.op, parents)?;
+    if let Err(fault) = heads.insert_event(count, parents) {
+        runs.truncate(count);
+        return Err(fault);
+    }
+    Ok(())
+}
