@@ -11,7 +11,8 @@ use Rattle.egw.specs.declared.reply.Plan.{Plan}
 use Rattle.egw.specs.declared.reply.Stop.{Stop}
 use Rattle.egw.specs.Edits.{EditsTo, PlansScript, PlansInput}
 use Rattle.egw.specs.Scripts.{Reading, script, bad_line, Means}
-use Rattle.egw.specs.Table.{refuses, script_reply, input_reply, edited_reply, made_reply, opened, open_file, over_events}
+use Rattle.ew_model.specs.declared.event.Event.{Event}
+use Rattle.egw.specs.Table.{Reply, refuses, script_reply, input_reply, edited_reply, made_reply, opened, open_file, over_events}
 use Rattle.egw.specs.Text.{bad_line as bad_line_text}
 use Rattle.egw.specs.Views.{plan_view, PlansBy}
 
@@ -52,3 +53,9 @@ plans_opened name agent limits r (Some m) (Some xs) (Ok p) same view plans =
 plans_opened name agent limits r (Some m) (Some xs) (Err e) same view plans = tt
 plans_opened name agent limits r (Some m) None result same view plans = tt
 plans_opened name agent limits r None left result same view plans = tt
+
+-- what is shown of a file that was opened
+pub shown_opened : (reply : List Event → Reply) (name : List ℕ) (limits : LimitNumbers) (held : List Event) (files : Option Files) (p : Plan) → IfSome files (λ m. opened held ≡ open_file name limits m) → plan_view p ≡ reply held
+    → IfSome files (λ m. plan_view p ≡ over_events reply (open_file name limits m))
+shown_opened reply name limits held (Some m) p view is = is ∙ ap (over_events reply) view
+shown_opened reply name limits held None p view is = tt

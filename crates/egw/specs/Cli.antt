@@ -1,5 +1,5 @@
 -- The command line as `clap` knows it: words without the program's name, of which the first names a subcommand.
-use Rattle.std.specs.Prelude.{true, Some, codes}
+use Rattle.std.specs.Prelude.{true, ℕ, List, Some, codes}
 use Rattle.clap.specs.Words.{App, Rule, new_app, new_rule, with_rule, with_subcommand}
 use Rattle.clap.specs.Simple.{on_top}
 
@@ -7,8 +7,9 @@ use Rattle.clap.specs.Simple.{on_top}
 abbrev pub file_rule : Rule
 file_rule = record (new_rule (codes "file")) { required = true }
 
-unfoldable pub create_app : App
-create_app = with_rule (new_app (codes "new")) file_rule
+-- a command of one file
+abbrev pub file_app : List ℕ → App
+file_app name = with_rule (new_app name) file_rule
 
 -- the agent's name, which has to be given
 abbrev pub agent_rule : Rule
@@ -17,13 +18,15 @@ agent_rule = record (new_rule (codes "agent")) { long = Some (codes "agent"); re
 unfoldable pub edit_app : App
 edit_app = with_rule (with_rule (new_app (codes "edit")) file_rule) agent_rule
 
-unfoldable pub cat_app : App
-cat_app = with_rule (new_app (codes "cat")) file_rule
+-- the command without its subcommands
+abbrev pub bare_app : App
+bare_app = on_top (λ s. record s { no_binary_name = true; subcommand_required = true }) (new_app (codes "egw"))
 
-unfoldable pub heads_app : App
-heads_app = with_rule (new_app (codes "heads")) file_rule
+-- with a subcommand more
+abbrev pub then_app : App → App → App
+then_app app more = with_subcommand app more.top
 
 unfoldable pub egw_app : App
-egw_app = with_subcommand (with_subcommand (with_subcommand (with_subcommand
-    (on_top (λ s. record s { no_binary_name = true; subcommand_required = true }) (new_app (codes "egw")))
-    create_app.top) edit_app.top) cat_app.top) heads_app.top
+egw_app =
+    then_app (then_app (then_app (then_app (then_app (then_app bare_app
+    (file_app (codes "new"))) edit_app) (file_app (codes "cat"))) (file_app (codes "heads"))) (file_app (codes "log"))) (file_app (codes "check"))

@@ -1,14 +1,10 @@
 -- The command table: what a command line answers over a map of files and an input.
-use Rattle.std.specs.Prelude.{ℕ, ◌-◌, Bool, true, false, List, [], ◌∷◌, ◌++◌, length, Option, None, Some, option_and_then, if◌then◌else◌, nat_lt, codes, encode_utf8_all, flat_map}
+use Rattle.std.specs.Prelude.{ℕ, ◌-◌, Bool, true, false, List, [], ◌∷◌, length, Option, None, Some, option_and_then, if◌then◌else◌, nat_lt, codes, encode_utf8_all}
 use Rattle.std.specs.Option.{option_map}
 use Rattle.std.specs.Str.{bytes_eq}
 use Rattle.std.specs.FinMap.{get, insert}
 use Rattle.clap.specs.Words.{Row, Kinds, first_of, fault_of, subcommand_of}
-use Rattle.ew_model.specs.declared.id.Id.{Id}
 use Rattle.ew_model.specs.declared.event.Event.{Event}
-use Rattle.ew_model.specs.Ids.{id_cmp}
-use Rattle.ew_model.specs.Sorting.{sort_by}
-use Rattle.ew_model.specs.Ancestors.{heads}
 use Rattle.ew_model.specs.Limits.{LimitNumbers, most_file_bytes}
 use Rattle.ew_model.specs.Names.{is_name}
 use Rattle.ew_model.specs.Texts.{text_of}
@@ -16,10 +12,10 @@ use Rattle.ew_model.specs.Edits.{EditRefusal}
 use Rattle.ew_model.specs.Edits.EditRefusal.{OutOfRange, TooManyHeads, Full}
 use Rattle.ew_model.specs.Verdicts.{BadEvent, first_bad}
 use Rattle.ew_model.specs.File.{file_of}
-use Rattle.ew_model.specs.Scripts.{id_text}
 use Rattle.ew_model.specs.FileFaults.{FileFinding, file_finding}
 use Rattle.ew_model.specs.FileFaults.FileFinding.{IsFile, Short, BadMagic, BadVersion, BadDigest, BadRecord, TooMany}
 use Rattle.ew_outside.specs.Files.{Files}
+use Rattle.history_view.specs.Listings.{check_text, heads_text, log_text}
 use Rattle.egw.specs.Cli.{egw_app}
 use Rattle.egw.specs.Loads.{File, missing, too_long, whole, whole_of}
 use Rattle.egw.specs.Scripts.{Reading, script, bad_line, Edited, ran, stopped_at, edited_by}
@@ -28,12 +24,18 @@ use Rattle.egw.specs.Text.{bad_line as bad_line_text, line_out_of_range, too_man
 abbrev pub Text : Type 0
 Text = List ℕ
 
+-- what is shown of a file
+pub data Listing : Type 0 where
+  content : Listing
+  head_ids : Listing
+  log : Listing
+  numbers : Listing
+
 -- a command line that is taken
 pub data Command : Type 0 where
   create : (file : Text) → Command
   edit : (file agent : Text) → Command
-  cat : (file : Text) → Command
-  head_list : (file : Text) → Command
+  show : (listing : Listing) (file : Text) → Command
 
 abbrev pub file_line : (Text → Command) → List Row → Option Command
 file_line command rows = option_map command (first_of (codes "file") rows)
@@ -51,8 +53,10 @@ line_in None = None
 line_in (Some p) =
     if bytes_eq p.0 (codes "new") then file_line create p.1
     else (if bytes_eq p.0 (codes "edit") then edit_line p.1
-    else (if bytes_eq p.0 (codes "cat") then file_line cat p.1
-    else (if bytes_eq p.0 (codes "heads") then file_line head_list p.1 else None)))
+    else (if bytes_eq p.0 (codes "cat") then file_line (show content) p.1
+    else (if bytes_eq p.0 (codes "heads") then file_line (show head_ids) p.1
+    else (if bytes_eq p.0 (codes "log") then file_line (show log) p.1
+    else (if bytes_eq p.0 (codes "check") then file_line (show numbers) p.1 else None)))))
 
 abbrev pub where_none : Kinds → Option Command → Option Command
 where_none [] l = l
@@ -101,19 +105,15 @@ abbrev pub over_events : (List Event → Reply) → Opened → Reply
 over_events reply (opened events) = reply events
 over_events reply (refused status text) = refuses status text
 
--- an id as it is written, and a newline
-abbrev pub id_line : Id → List ℕ
-id_line x = id_text x ++ codes "\n"
+-- what is shown of events
+abbrev pub listing_text : Listing → List Event → List ℕ
+listing_text content events = encode_utf8_all (text_of events)
+listing_text head_ids events = heads_text events
+listing_text log events = log_text events
+listing_text numbers events = check_text events
 
--- ids, each on a line
-abbrev pub id_lines : List Id → List ℕ
-id_lines ids = flat_map id_line ids
-
-abbrev pub cat_reply : List Event → Reply
-cat_reply events = prints (encode_utf8_all (text_of events))
-
-abbrev pub heads_reply : List Event → Reply
-heads_reply events = prints (id_lines (sort_by id_cmp (heads events)))
+abbrev pub show_reply : Listing → List Event → Reply
+show_reply listing events = prints (listing_text listing events)
 
 abbrev pub create_reply : Text → File → Reply
 create_reply name missing = stores [] name (file_of [])
@@ -150,23 +150,20 @@ input_reply name agent limits input reading events =
 abbrev pub reply_to : Command → LimitNumbers → Files → List ℕ → Reading → Reply
 reply_to (create name) limits files input reading = create_reply name (whole_of 0 (get files name))
 reply_to (edit name agent) limits files input reading = over_events (input_reply name agent limits input reading) (open_file name limits files)
-reply_to (cat name) limits files input reading = over_events cat_reply (open_file name limits files)
-reply_to (head_list name) limits files input reading = over_events heads_reply (open_file name limits files)
+reply_to (show listing name) limits files input reading = over_events (show_reply listing) (open_file name limits files)
 
 -- the commands that read the input
 abbrev pub reads_input : Option Command → Bool
 reads_input (Some (create name)) = false
 reads_input (Some (edit name agent)) = true
-reads_input (Some (cat name)) = false
-reads_input (Some (head_list name)) = false
+reads_input (Some (show listing name)) = false
 reads_input None = false
 
 -- the commands whose status 3 says that a file is missing
 abbrev pub needs_file : Option Command → Bool
 needs_file (Some (create name)) = false
 needs_file (Some (edit name agent)) = true
-needs_file (Some (cat name)) = true
-needs_file (Some (head_list name)) = true
+needs_file (Some (show listing name)) = true
 needs_file None = false
 
 -- what a run answers: its status, what it prints, what it says on the error output, and the files after it

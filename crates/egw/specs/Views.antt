@@ -5,9 +5,11 @@ use Rattle.ew_outside.specs.Counts.{Rose}
 use Rattle.ew_model.specs.Limits.{LimitNumbers}
 use Rattle.ew_model.specs.Names.{is_name}
 use Rattle.egw.specs.Scripts.{Reading, Means}
-use Rattle.egw.specs.Table.{Command, cat, create, edit, head_list, Reply, prints, stores, refuses, Opened, opened, refused}
+use Rattle.egw.specs.Table.{Listing, content, head_ids, log, numbers, Command, create, edit, show, Reply, prints, stores, refuses, Opened, opened, refused}
 use Rattle.ew_outside.specs.declared.fault.ShelfFault.{ShelfFault}
 use Rattle.ew_outside.specs.declared.fault.ShelfFault.TheVariants as shelf_fault
+use Rattle.egw.specs.declared.words as words
+use Rattle.egw.specs.declared.words.Listing.TheVariants as shown
 use Rattle.egw.specs.declared.words.Taken.{Taken}
 use Rattle.egw.specs.declared.words.Taken.TheVariants as taken
 use Rattle.egw.specs.declared.reply.Plan.{Plan}
@@ -17,12 +19,17 @@ use Rattle.egw.specs.declared.open.Found.TheVariants as found
 use Rattle.egw.specs.declared.reply.Stop.{Stop}
 use Rattle.egw.specs.declared.reply.Stop.TheVariants.{ShelfFailed, SourceFailed, OutOfMemory}
 
+abbrev pub listing_view : words.Listing.Listing → Listing
+listing_view shown.Content = content
+listing_view shown.Heads = head_ids
+listing_view shown.Log = log
+listing_view shown.Numbers = numbers
+
 -- the command that the words were read as
 abbrev pub line_view : Taken → Command
 line_view (taken.New name) = create name.now
 line_view (taken.Edit name agent) = edit name.now agent.now
-line_view (taken.Cat name) = cat name.now
-line_view (taken.Heads name) = head_list name.now
+line_view (taken.Show listing name) = show (listing_view listing) name.now
 
 -- the agent of an edit is a name
 abbrev pub IsNamed : Option Command → Type 0

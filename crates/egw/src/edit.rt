@@ -93,18 +93,19 @@ fn made_plan<'a>(
     alloc: Global,
     name: &'a str,
     replica: &Replica,
-    before: usize,
+    before: u32,
 ) -> Result<Plan<'a>, AllocError>
     ensures told { IfOk result (λ p. plan_view p ≡ made_reply name.now before replica.now.held) }
     ensures plan { IfOk result IsCommandPlan }
 {
-    let events = replica.events();
-    if before < events.len() {
-        let out = made_text(alloc, (events.len() - before) as u64)?;
+    let count = replica.count();
+    if before < count {
+        let out = made_text(alloc, u64::from(count - before))?;
+        let events = replica.events()?;
         Ok(Plan::Stores {
             out,
             name,
-            bytes: encode(alloc, events)?,
+            bytes: encode(alloc, &events)?,
         })
     } else {
         Ok(Plan::Prints(made_text(alloc, 0)?))
@@ -126,7 +127,7 @@ fn run_script<'a, L: Ledger>(
     ensures plan { IfOk result IsCommandPlan }
     ensures found { IfOk result (λ p. status_of p ≢ 3) }
 {
-    let before = replica.events().len();
+    let before = replica.count();
     let edits = match read_script(alloc, script) {
         Ok(edits) => edits,
         Err(ScriptFault::OutOfMemory) => return Err(AllocError),

@@ -13,6 +13,8 @@ mod output;
 mod plan;
 mod reply;
 mod start;
+#[cfg(test)]
+mod tests;
 mod texts;
 mod top;
 mod words;

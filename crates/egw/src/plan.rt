@@ -5,7 +5,7 @@ ghost use Rattle.ew_model.specs.Names.{is_name};
 ghost use Rattle.egw.specs.Table.{needs_file, reads_input, reply_of};
 ghost use Rattle.egw.specs.Views.{Causes, IsNamed, MissesFor, PlansBy, PlansLine, ReadsFor, line_view};
 
-use crate::commands::{cat, create, heads};
+use crate::commands::{create, show};
 use crate::edit::edit;
 use crate::reply::{Plan, Stop};
 use crate::texts::usage_text;
@@ -52,8 +52,7 @@ pub fn make_plan<'a, H: Shelf, S: Source, L: Ledger>(
             input,
             steps,
         ),
-        Taken::Cat(name) => cat(alloc, name, limits, shelf, steps),
-        Taken::Heads(name) => heads(alloc, name, limits, shelf, steps),
+        Taken::Show { listing, file } => show(alloc, listing, file, limits, shelf, steps),
     }
 }
 

@@ -2,8 +2,8 @@
 ghost use Rattle.std.specs.Prelude.{◌≡◌, IfOk, map, string_bytes};
 ghost use Rattle.std.specs.Option.{option_map};
 ghost use Rattle.clap.specs.Words.{first_of, found_of, rows_of, subcommand_rows_of};
-ghost use Rattle.egw.specs.Table.{cat, create, edit_line, file_line, head_list, line_in, line_of};
-ghost use Rattle.egw.specs.Views.{IsNamed, line_view};
+ghost use Rattle.egw.specs.Table.{create, edit_line, file_line, line_in, line_of, show};
+ghost use Rattle.egw.specs.Views.{IsNamed, line_view, listing_view};
 
 use crate::cli::egw_command;
 use clap::ArgMatches;
@@ -11,14 +11,26 @@ use clap::error::ErrorKind;
 use ew_model::name::Name;
 use std::alloc::{AllocError, Global};
 
+/// What is shown of a file.
+#[derive(Clone, Copy, Debug)]
+pub enum Listing {
+    /// The text.
+    Content,
+    /// The ids of the heads.
+    Heads,
+    /// The events.
+    Log,
+    /// How many events, agents, heads, cuts and characters there are.
+    Numbers,
+}
+
 /// A command line that is taken.
 #[derive(Clone, Copy, Debug)]
 pub enum Taken<'a> {
     New(&'a str),
     /// The agent is a name.
     Edit { file: &'a str, agent: &'a str },
-    Cat(&'a str),
-    Heads(&'a str),
+    Show { listing: Listing, file: &'a str },
 }
 
 /// The first value of an argument.
@@ -48,18 +60,12 @@ fn read_edit<'a>(values: &ArgMatches<'a>) -> Option<Taken<'a>>
     }
 }
 
-fn read_cat<'a>(values: &ArgMatches<'a>) -> Option<Taken<'a>>
-    ensures { option_map line_view result ≡ file_line cat (rows_of (found_of values.now)) }
+fn read_show<'a>(listing: Listing, values: &ArgMatches<'a>) -> Option<Taken<'a>>
+    ensures line { option_map line_view result ≡ file_line (show (listing_view listing)) (rows_of (found_of values.now)) }
+    ensures named { IsNamed (option_map line_view result) }
 {
     let file = value(values, "file")?;
-    Some(Taken::Cat(file))
-}
-
-fn read_heads<'a>(values: &ArgMatches<'a>) -> Option<Taken<'a>>
-    ensures { option_map line_view result ≡ file_line head_list (rows_of (found_of values.now)) }
-{
-    let file = value(values, "file")?;
-    Some(Taken::Heads(file))
+    Some(Taken::Show { listing, file })
 }
 
 fn read_matches<'a>(matches: &ArgMatches<'a>) -> Option<Taken<'a>>
@@ -74,10 +80,16 @@ fn read_matches<'a>(matches: &ArgMatches<'a>) -> Option<Taken<'a>>
         return read_edit(values);
     }
     if name == "cat" {
-        return read_cat(values);
+        return read_show(Listing::Content, values);
     }
     if name == "heads" {
-        return read_heads(values);
+        return read_show(Listing::Heads, values);
+    }
+    if name == "log" {
+        return read_show(Listing::Log, values);
+    }
+    if name == "check" {
+        return read_show(Listing::Numbers, values);
     }
     None
 }

@@ -1,10 +1,9 @@
 -- What an edit makes may be appended, and what is kept after it.
-use Rattle.std.proofs.Common.{◌≡◌, ℕ, suc, ◌+◌, ◌-◌, ◌<◌, ◌≤◌, nat_lt, Bool, true, false, cond, List, [], ◌∷◌, ◌++◌, map, length, Option, Some, None, refl, sym, ap, ◌∙◌, subst, append_assoc, length-append, arith}
+use Rattle.std.proofs.Common.{◌≡◌, ℕ, ◌+◌, ◌≤◌, nat_lt, Bool, true, false, cond, List, [], ◌∷◌, ◌++◌, map, length, Option, Some, None, refl, sym, ap, ◌∙◌, arith}
 use Rattle.std.proofs.lemmas.Bool.{ltb-false}
 use Rattle.std.proofs.lemmas.List.{length-map}
 use Rattle.ew_model.specs.declared.event.Event.{Event}
 use Rattle.ew_model.specs.declared.text_op.TextOp.{TextOp}
-use Rattle.ew_model.specs.Ancestors.{heads}
 use Rattle.ew_model.specs.Limits.{LimitNumbers}
 use Rattle.ew_model.specs.Operations.{changed_by, changed_by_all}
 use Rattle.ew_model.specs.Texts.{text_of}
@@ -13,13 +12,13 @@ use Rattle.ew_model.specs.Verdicts.{IsGood}
 use Rattle.ew_model.specs.Kept.{IsKept, ReplicaState}
 use Rattle.ew_model.specs.Edits.{Edit, EditRefusal, ops_of, events_of_edit, needed_length, edit_refusal}
 use Rattle.ew_model.specs.EditLaws.{size_of}
-use Rattle.ew_model.proofs.EditLaws.{edits_are_good, edits_keep, edits_change_text, heads_after_edit}
+use Rattle.ew_model.proofs.EditLaws.{edits_are_good, edits_keep, edits_change_text}
 use Rattle.ew_model.proofs.EditTexts.{edit_fits, edit_changes, edit_long}
 use Rattle.ew_model.proofs.TextLengths.{length_changed, text_is_short}
 use Rattle.rope.specs.Lengths.{AllStayShort}
 use Rattle.replica.specs.Appending.{CanAppend}
-use Rattle.replica.specs.Keeping.{IsUpToDate, head_positions}
-use Rattle.replica.proofs.HeadCounts.{position_of_last}
+use Rattle.replica.specs.Keeping.{IsUpToDate}
+use Rattle.replica.proofs.Fronts.{made_admitted}
 
 first_none : (b : Bool) (x : EditRefusal) (more : Option EditRefusal) → cond b (Some x) more ≡ None → b ≡ false
 first_none true x more e = let no : ⊥ = cc in absurd no
@@ -35,26 +34,9 @@ stay_short : (t : List ℕ) (changes : List TextOp) → length t + length change
 stay_short t [] h = omega (arith, h)
 stay_short t (op ∷ changes) h = (omega (arith, h), stay_short (changed_by op t) changes (omega (arith, h, length_changed op t)))
 
-split_last : (x : Event) (xs : List Event) → (front : List Event) × (last : Event) × (x ∷ xs ≡ front ++ last ∷ [])
-split_last x [] = ([], x, refl)
-split_last x (y ∷ ys) = let more = split_last y ys in (x ∷ more.0, more.1, ap (λ zs. x ∷ zs) more.2)
-
--- the last event made is the only head
-one_head : (held made : List Event) → 0 < length made → IsGood (held ++ made) → ((front : List Event) (last : Event) → made ≡ front ++ last ∷ [] → heads (held ++ made) ≡ last.id ∷ [])
-    → head_positions (held ++ made) ≡ (length held + length made - 1) ∷ []
-one_head held [] some good one = absurd (omega arith)
-one_head held (x ∷ xs) some good one =
-    let made = x ∷ xs in
-    let parts = split_last x xs in
-    let split : held ++ made ≡ (held ++ parts.0) ++ parts.1 ∷ [] = ap (λ zs. held ++ zs) parts.2 ∙ sym (append_assoc held parts.0 (parts.1 ∷ [])) in
-    let place : length (held ++ parts.0) ≡ length held + length made - 1 = omega (arith, length-append held parts.0, ap length parts.2, length-append parts.0 (parts.1 ∷ [])) in
-    ap head_positions split
-    ∙ position_of_last (held ++ parts.0) parts.1 (subst IsGood split good) (ap heads (sym split) ∙ one parts.0 parts.1 parts.2)
-    ∙ ap (λ k. k ∷ []) place
-
-pub can_append : (limits : LimitNumbers) (held : List Event) (agent : List ℕ) (edit : Edit) → IsKept limits held [] → limits.events ≤ 16777216 → edit_refusal limits held agent edit ≡ None → 0 < size_of edit
+pub can_append : (limits : LimitNumbers) (held : List Event) (agent : List ℕ) (edit : Edit) → IsKept limits held [] → limits.events ≤ 16777216 → edit_refusal limits held agent edit ≡ None
     → CanAppend limits held (events_of_edit held agent edit) (map own_change (ops_of edit))
-can_append limits held agent edit kept few none some =
+can_append limits held agent edit kept few none =
     let made = events_of_edit held agent edit in
     let good : IsGood held = kept.orderly.good in
     let inside = in_range limits held agent edit none in
@@ -62,17 +44,15 @@ can_append limits held agent edit kept few none some =
     let after : IsKept limits (held ++ made) [] = edits_keep limits held [] agent edit kept refl none in
     record {
       kept = after;
-      one_head = one_head held made (omega (arith, changed.1, some)) after.orderly.good (heads_after_edit limits held agent edit good none);
+      admitted = made_admitted held made after.orderly.good;
       fit = edit_fits edit (text_of held) inside;
       short = stay_short (text_of held) (map own_change (ops_of edit)) (omega (arith, length-map (ops_of edit) own_change, edit_long edit, text_is_short held good, changed.1, (edits_are_good limits held agent edit good kept.few none).1, few));
       text = edit_changes edit (text_of held) inside ∙ sym changed.0;
     }
 
 -- what was appended is up to date
-pub appended : (limits : LimitNumbers) (held made : List Event) (changes : List TextOp) (text hs : List ℕ) → IsUpToDate limits held text hs → CanAppend limits held made changes
-    → IsUpToDate limits (held ++ made) (changed_by_all changes text) ((length held + length made - 1) ∷ [])
-appended limits held made changes text hs now can =
-    record { kept = can.kept; text_is = ap (changed_by_all changes) now.text_is ∙ can.text; heads_are = sym can.one_head }
+pub appended : (limits : LimitNumbers) (held made : List Event) (changes : List TextOp) (text : List ℕ) → IsUpToDate limits held text → CanAppend limits held made changes → IsUpToDate limits (held ++ made) (changed_by_all changes text)
+appended limits held made changes text now can = record { kept = can.kept; text_is = ap (changed_by_all changes) now.text_is ∙ can.text }
 
 -- numbers in the bounds of their types
 pub edit_is_small : (limits : LimitNumbers) (held : List Event) (agent : List ℕ) (edit : Edit) → IsKept limits held [] → limits.events ≤ 16777216 → edit_refusal limits held agent edit ≡ None

@@ -1,14 +1,14 @@
 -- What a replica keeps as it begins.
-use Rattle.std.proofs.Common.{◌≡◌, ℕ, ◌≤◌, List, [], None, length, refl, sym, arith, lit≤, ◌∙◌}
+use Rattle.std.proofs.Common.{◌≡◌, ℕ, ◌≤◌, List, [], None, length, sym, ap, subst, arith, ◌∙◌}
 use Rattle.ew_model.specs.declared.event.Event.{Event}
 use Rattle.ew_model.specs.Limits.{LimitNumbers}
-use Rattle.ew_model.specs.Operations.{operations, operations_of, changed_by_all}
+use Rattle.ew_model.specs.Operations.{operations, operations_of}
 use Rattle.ew_model.specs.Texts.{text_of}
 use Rattle.ew_model.specs.Verdicts.{IsGood, first_bad}
 use Rattle.ew_model.specs.Kept.{IsKept}
 use Rattle.ew_model.proofs.GoodLaws.{operations_make_text}
 use Rattle.ew_model.proofs.FirstBadLaws.{good_has_no_bad}
-use Rattle.replica.specs.Keeping.{IsUpToDate, head_positions}
+use Rattle.replica.specs.Keeping.{IsUpToDate}
 
 no_event_is_good : IsGood []
 unfolding IsGood
@@ -22,8 +22,15 @@ no_text = operations_make_text [] no_event_is_good
 pub good_is_kept : (limits : LimitNumbers) (events : List Event) → IsGood events → length events ≤ limits.events → IsKept limits events []
 good_is_kept limits events good few = record { orderly = record { good = good; fresh = tt; apart = tt }; few = few; few_wait = omega arith }
 
-pub none_up_to_date : (limits : LimitNumbers) → IsUpToDate limits [] [] []
-none_up_to_date limits = record { kept = good_is_kept limits [] no_event_is_good (omega arith); text_is = sym no_text; heads_are = refl }
+pub none_up_to_date : (limits : LimitNumbers) → IsUpToDate limits [] []
+none_up_to_date limits = record { kept = good_is_kept limits [] no_event_is_good (omega arith); text_is = sym no_text }
 
 pub good_from_none_bad : (events : List Event) → first_bad events ≡ None → IsGood events
 good_from_none_bad events e = (good_has_no_bad events).1 e
+
+-- what is kept of events of which none is bad
+pub loaded : (limits : LimitNumbers) (events graph first second : List Event) (text : List ℕ) → first ≡ events → second ≡ events → graph ≡ first → first_bad first ≡ None → length events ≤ limits.events → text ≡ text_of second → IsUpToDate limits graph text
+loaded limits events graph first second text one two same none few made =
+    let good : IsGood events = good_from_none_bad events (ap first_bad (sym one) ∙ none) in
+    let kept : IsKept limits graph [] = subst (λ (es : List Event). IsKept limits es []) (sym (same ∙ one)) (good_is_kept limits events good few) in
+    record { kept = kept; text_is = made ∙ ap text_of (two ∙ sym (same ∙ one)) }

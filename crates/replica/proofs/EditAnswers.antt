@@ -1,5 +1,5 @@
 -- What is answered to an edit.
-use Rattle.std.proofs.Common.{◌≡◌, ℕ, ◌+◌, ◌==◌, nat_lt, Bool, cond, ◌&&◌, List, [], ◌∷◌, ◌++◌, length, Option, Some, None, Result, Ok, Err, refl, sym, ap, ◌∙◌, append-nil}
+use Rattle.std.proofs.Common.{◌≡◌, ℕ, ◌+◌, ◌==◌, nat_lt, Bool, cond, ◌&&◌, List, ◌++◌, length, Some, None, Result, Ok, Err, refl, sym, ap, ◌∙◌, append-nil}
 use Rattle.std.proofs.lemmas.List.{nil_from_length}
 use Rattle.ew_model.specs.declared.event.Event.{Event}
 use Rattle.ew_model.specs.Ancestors.{heads}
@@ -7,7 +7,7 @@ use Rattle.ew_model.specs.Limits.{LimitNumbers}
 use Rattle.ew_model.specs.Texts.{text_of}
 use Rattle.ew_model.specs.Verdicts.{IsGood}
 use Rattle.ew_model.specs.Kept.{ReplicaState}
-use Rattle.ew_model.specs.Edits.{Edit, EditRefusal, ops_of, events_of_edit, needed_length, needs_few_heads, edit_refusal}
+use Rattle.ew_model.specs.Edits.{Edit, ops_of, events_of_edit, needed_length, needs_few_heads, edit_refusal}
 use Rattle.ew_model.specs.Edits.Edit.{Insert, Delete}
 use Rattle.ew_model.specs.Edits.EditRefusal.{OutOfRange, TooManyHeads, Full}
 use Rattle.ew_model.specs.EditLaws.{edited, size_of}

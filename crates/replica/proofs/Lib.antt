@@ -3,6 +3,5 @@ pub mod Beginnings
 pub mod Chains
 pub mod EditAnswers
 pub mod EditOps
-pub mod HeadCounts
-pub mod HeadIds
-pub mod HeadPlaces
+pub mod Fronts
+pub mod HeadLaws

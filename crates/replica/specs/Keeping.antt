@@ -1,4 +1,4 @@
--- What a replica keeps beside its events: their text, and where their heads stand.
+-- What a replica keeps beside its events: their text.
 use Rattle.std.specs.Prelude.{◌≡◌, ℕ, List, []}
 use Rattle.ew_model.specs.declared.event.Event.{Event}
 use Rattle.ew_model.specs.Limits.{LimitNumbers}
@@ -11,8 +11,7 @@ use Rattle.ew_model.specs.Kept.{IsKept}
 abbrev pub head_positions : List Event → List ℕ
 head_positions history = positions_in history (heads history)
 
--- the events may be held, and the text and the positions are theirs
-pub record IsUpToDate (limits : LimitNumbers) (held : List Event) (text heads : List ℕ) : Type 0 where
+-- the events may be held, and the text is theirs
+pub record IsUpToDate (limits : LimitNumbers) (held : List Event) (text : List ℕ) : Type 0 where
   pub kept : IsKept limits held []
   pub text_is : text ≡ text_of held
-  pub heads_are : heads ≡ head_positions held

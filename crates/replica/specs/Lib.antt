@@ -1,5 +1,6 @@
 pub mod Answers
 pub mod Appending
 pub mod Editing
+pub mod Fronts
 pub mod Keeping
 pub mod Refusing

@@ -1,55 +1,36 @@
-//! Where the heads stand, and their ids in order.
+//! The ids of the heads, in order.
 
-ghost use Rattle.std.specs.Prelude.{◌≡◌, ◌<◌, ◌^◌, length, IfOk};
-ghost use Rattle.ew_model.specs.Ancestors.{heads};
-ghost use Rattle.ew_model.specs.Ids.{id_cmp, is_among};
-ghost use Rattle.ew_model.specs.Positions.{positions_in};
+ghost use Rattle.std.specs.Prelude.{◌≡◌, ◌<◌, length, map, IfOk};
+ghost use Rattle.std.specs.List.{All};
+ghost use Rattle.ew_model.specs.Ancestors.{heads, ids_of};
+ghost use Rattle.ew_model.specs.Ids.{id_cmp};
 ghost use Rattle.ew_model.specs.Sorting.{sort_by};
 ghost use Rattle.ew_model.specs.Verdicts.{IsGood};
-ghost use Rattle.replica.specs.Keeping.{head_positions};
+ghost use Rattle.event_graph.specs.Keeping.{id_of};
 
+use event_graph::Graph;
 use ew_model::NoMem;
-use ew_model::event::Event;
 use ew_model::id::Id;
-use plain_history::heads;
 use std::alloc::Global;
 
-/// The positions of the events with these ids, rising.
-fn positions(alloc: Global, events: &[Event], ids: &[Id]) -> Result<Vec<u32>, NoMem>
-    requires { length events.now < 2 ^ 32 }
-    ensures { IfOk result (λ v. v.items ≡ positions_in events.now ids.now) }
+/// The ids of the heads of a graph, ascending.
+pub fn head_ids(alloc: Global, graph: &Graph) -> Result<Vec<Id>, NoMem>
+    requires { IsGood graph.now }
+    ensures { IfOk result (λ v. v.items ≡ sort_by id_cmp (heads graph.now)) }
 {
-    let mut found = Vec::new(alloc);
-    for (i, e) in events.iter().enumerate() {
-        if is_among(ids, &e.id) {
-            found.push(i as u32)?;
-        }
+    let mut ids = ids_at(alloc, graph, graph.frontier().as_slice())?;
+    ids.sort_unstable();
+    Ok(ids)
+}
+
+/// The ids of the events at these positions.
+fn ids_at(alloc: Global, graph: &Graph, positions: &[u32]) -> Result<Vec<Id>, NoMem>
+    requires { All (λ p. p < length graph.now) positions.now }
+    ensures { IfOk result (λ v. v.items ≡ map (id_of (ids_of graph.now)) positions.now) }
+{
+    let mut ids = Vec::with_capacity(alloc, positions.len())?;
+    for position in positions {
+        ids.push(graph.id_at(*position))?;
     }
-    Ok(found)
-}
-
-/// Whether the id is among these.
-fn is_among(ids: &[Id], x: &Id) -> bool
-    ensures { result ≡ is_among ids.now x.now }
-{
-    ids.iter().any(|y| x.is(y))
-}
-
-/// The positions of the heads of the events, rising.
-pub fn head_positions(alloc: Global, events: &[Event]) -> Result<Vec<u32>, NoMem>
-    requires { length events.now < 2 ^ 32 }
-    ensures { IfOk result (λ v. v.items ≡ head_positions events.now) }
-{
-    let ids = heads(alloc, events)?;
-    positions(alloc, events, &ids)
-}
-
-/// The ids of the heads of the events, ascending.
-pub fn head_ids(alloc: Global, events: &[Event]) -> Result<Vec<Id>, NoMem>
-    requires { IsGood events.now }
-    ensures { IfOk result (λ v. v.items ≡ sort_by id_cmp (heads events.now)) }
-{
-    let mut ids = heads(alloc, events)?;
-    ids.sort()?;
     Ok(ids)
 }

@@ -1,4 +1,4 @@
-//! From a list of events to what a replica keeps of them.
+//! What the plain program tells of a list of events: the first bad one by its index, and the text.
 
 ghost use Rattle.std.specs.Prelude.{◌≡◌, ◌≤◌, ◌<◌, ◌^◌, length, None, IfOk, OnOk, IfErr};
 ghost use Rattle.ew_model.specs.Texts.{text_of};

@@ -1,11 +1,11 @@
 //! The events that an agent makes.
 
-ghost use Rattle.std.specs.Prelude.{◌≡◌, ◌+◌, ◌<◌, ◌≤◌, ◌^◌, [], ◌∷◌, ◌++◌, length, IfOk, vec_len, vec_capacity};
+ghost use Rattle.std.specs.Prelude.{◌≡◌, ◌+◌, ◌<◌, ◌^◌, [], ◌∷◌, length, IfOk};
 ghost use Rattle.ew_model.specs.Edits as model;
-ghost use Rattle.ew_model.specs.Ids.{name_eq};
 ghost use Rattle.ew_model.specs.Verdicts.{IsGood};
 
 use crate::heads::head_ids;
+use event_graph::Graph;
 use ew_model::NoMem;
 use ew_model::event::{Event, Op};
 use ew_model::id::Id;
@@ -15,34 +15,14 @@ use std::alloc::Global;
 
 /// The events of operations that an agent does in a row: the first has all heads as parents.
 #[tactic(auto, unfolding(ew_model::specs::Edits::events_of_ops))]
-pub fn events_by(
-    alloc: Global,
-    held: &[Event],
-    agent: Name,
-    ops: &[Op],
-) -> Result<Vec<Event>, NoMem>
-    requires good { IsGood held.now }
-    requires few { length held.now + length ops.now < 2 ^ 32 }
-    ensures { IfOk result (λ v. v.items ≡ model.events_of_ops held.now agent ops.now) }
+pub fn events_by(alloc: Global, graph: &Graph, agent: Name, ops: &[Op]) -> Result<Vec<Event>, NoMem>
+    requires good { IsGood graph.now }
+    requires few { length graph.now + length ops.now < 2 ^ 32 }
+    ensures { IfOk result (λ v. v.items ≡ model.events_of_ops graph.now agent ops.now) }
 {
-    let first = count_of(held, &agent);
-    let heads = head_ids(alloc, held)?;
+    let first = graph.count_of(&agent);
+    let heads = head_ids(alloc, graph)?;
     chain(alloc, agent, first, heads, ops)
-}
-
-/// How many of the events are the agent's.
-fn count_of(held: &[Event], agent: &Name) -> u32
-    requires { length held.now < 2 ^ 32 }
-    ensures count { result ≡ model.count_of held.now agent.now }
-    ensures few { result ≤ length held.now }
-{
-    held.iter().filter(|e| is_by(*e, agent)).count() as u32
-}
-
-fn is_by(e: &Event, agent: &Name) -> bool
-    ensures { result ≡ name_eq e.now.id.agent agent.now }
-{
-    e.id.agent.cmp(agent).is_eq()
 }
 
 /// Events of an agent from a number on: the first has these parents, and each other the one before it.
@@ -78,14 +58,4 @@ fn only_parent(alloc: Global, id: &Id) -> Result<Parents, NoMem>
 {
     let ids = Vec::from_slice(alloc, &[*id])?;
     Ok(Parents::from_vec(ids))
-}
-
-/// Puts the events behind those of a vector that has room for them.
-pub fn put_behind(held: &mut Vec<Event>, mut made: Vec<Event>)
-    requires { vec_len held.old + vec_len made ≤ vec_capacity held.old }
-    ensures { held.new.items ≡ held.old.items ++ made.items }
-{
-    let Ok(()) = held.append(&mut made) else {
-        unreachable!();
-    };
 }

@@ -19,11 +19,14 @@ ghost use Rattle.replica.specs.Editing.{edit_view};
 ghost use Rattle.replica.specs.Keeping.{head_positions};
 ghost use Rattle.replica.specs.Refusing.{refusal_by};
 
+use crate::admit::{extend, load_graph};
 use crate::edit::{Edit, changes, characters};
 use crate::fault::{EditFault, LoadFault};
-use crate::heads;
-use crate::load::{check, load_text};
-use crate::made::{events_by, put_behind};
+use crate::heads::head_ids;
+use crate::listed::listed;
+use crate::load::load_text;
+use crate::made::events_by;
+use event_graph::Graph;
 use ew_model::NoMem;
 use ew_model::event::Event;
 use ew_model::id::Id;
@@ -42,10 +45,10 @@ const MOST_PARENTS: u32 = 16;
 /// The events that one person holds, with their text. Contracts see its limits, the events held and those that wait.
 #[derive(Drop)]
 pub struct Replica {
+    alloc: Global,
     limits: Limits,
-    events: Vec<Event>,
+    graph: Graph,
     text: Rope,
-    heads: Vec<u32>,
 }
 
 impl Model for Replica {
@@ -55,9 +58,9 @@ impl Model for Replica {
 
     ghost Value = { ReplicaState };
 
-    ghost view = { λ r. record { limits = r.limits; held = r.events.items; waiting = [] } };
+    ghost view = { λ r. record { limits = r.limits; held = r.graph; waiting = [] } };
 
-    ghost invariant = { λ r. IsUpToDate r.limits r.events.items r.text r.heads.items };
+    ghost invariant = { λ r. IsUpToDate r.limits r.graph r.text };
 }
 
 impl Replica {
@@ -65,14 +68,13 @@ impl Replica {
     pub fn new(alloc: Global, limits: Limits) -> Result<Replica, NoMem>
         ensures { IfOk result (λ r. r ≡ record { limits = limits; held = []; waiting = [] }) }
     {
-        let events = Vec::new(alloc);
+        let graph = Graph::new(alloc)?;
         let text = Rope::new(alloc)?;
-        let heads = Vec::new(alloc);
         Ok(Replica {
+            alloc,
             limits,
-            events,
+            graph,
             text,
-            heads,
         })
     }
 
@@ -89,16 +91,21 @@ impl Replica {
     {
         let _ = steps;
         let _most = limits.events();
-        check(alloc, events.as_slice())?;
-        let replica = of_good(alloc, events, limits)?;
-        Ok(replica)
+        let graph = load_graph(alloc, events.as_slice())?;
+        let text = load_text(alloc, events.as_slice())?;
+        Ok(Replica {
+            alloc,
+            limits,
+            graph,
+            text,
+        })
     }
 
     /// The text, in UTF-8.
     pub fn text(&self) -> Result<Vec<u8>, NoMem>
         ensures { IfOk result (λ v. v.items ≡ encode_utf8_all (text_of self.now.held)) }
     {
-        let mut bytes = Vec::new(*self.events.allocator());
+        let mut bytes = Vec::new(self.alloc);
         self.text.write_to(&mut bytes)?;
         Ok(bytes)
     }
@@ -114,14 +121,14 @@ impl Replica {
     pub fn heads(&self) -> &[u32]
         ensures { result.now ≡ head_positions self.now.held }
     {
-        self.heads.as_slice()
+        self.graph.frontier().as_slice()
     }
 
     /// The ids of the heads, ascending.
     pub fn head_ids(&self) -> Result<Vec<Id>, NoMem>
         ensures { IfOk result (λ v. v.items ≡ sort_by id_cmp (heads self.now.held)) }
     {
-        heads::head_ids(*self.events.allocator(), self.events.as_slice())
+        head_ids(self.alloc, &self.graph)
     }
 
     /// The limits that it was made with. They hold for what it keeps.
@@ -132,13 +139,28 @@ impl Replica {
         self.limits
     }
 
+    /// The events held, as a graph.
+    pub fn graph(&self) -> &Graph
+        ensures graph { result.now ≡ self.now.held }
+        ensures kept { IsKept self.now.limits self.now.held self.now.waiting }
+    {
+        &self.graph
+    }
+
+    /// How many events are held.
+    pub fn count(&self) -> u32
+        ensures { result ≡ length self.now.held }
+    {
+        self.graph.count()
+    }
+
     /// The events held, in order. They may be written as a file.
-    pub fn events(&self) -> &[Event]
-        ensures events { result.now ≡ self.now.held }
+    pub fn events(&self) -> Result<Vec<Event>, NoMem>
+        ensures events { IfOk result (λ v. v.items ≡ self.now.held) }
         ensures writable { IsWritable self.now.held }
     {
         let _most = self.limits.events();
-        self.events.as_slice()
+        listed(self.alloc, &self.graph)
     }
 
     /// Inserts the characters of a text at an index: one event for each. Answers how many events were made.
@@ -155,7 +177,7 @@ impl Replica {
         ensures steps { steps.new ≡ steps.old }
     {
         let _ = steps;
-        let text = characters(*self.events.allocator(), text)?;
+        let text = characters(self.alloc, text)?;
         self.edit(agent, &Edit::Insert { at, text })
     }
 
@@ -181,15 +203,14 @@ impl Replica {
         ensures edits { EditsBy agent (edit_view edit.now) self.old self.new result }
         ensures text { OnOk result (text_of self.new.held ≡ edited (edit_view edit.now) (text_of self.old.held)) }
     {
-        let alloc = *self.events.allocator();
         if let Some(fault) = self.refusal(edit) {
             return Err(fault);
         }
         if edit.size() == 0 {
             return Ok(0);
         }
-        let (made, changes) = self.make(alloc, agent, edit)?;
-        let n = self.append(made, changes.as_slice())?;
+        let (made, changes) = self.make(self.alloc, agent, edit)?;
+        let n = self.append(made.as_slice(), changes.as_slice())?;
         Ok(n)
     }
 
@@ -215,27 +236,19 @@ impl Replica {
         None
     }
 
-    /// How many events are held.
-    fn count(&self) -> u32
-        ensures { result ≡ length self.now.held }
-    {
-        let _most = self.limits.events();
-        self.events.len() as u32
-    }
-
     /// How many more events may be held.
     fn room(&self) -> u32
         ensures { result + length self.now.held ≡ self.now.limits.events }
     {
         let most = self.limits.events();
-        most - self.events.len() as u32
+        most - self.graph.count()
     }
 
     fn head_count(&self) -> u32
         ensures { result ≡ length (heads self.now.held) }
     {
         let _most = self.limits.events();
-        self.heads.len() as u32
+        self.graph.frontier().as_slice().len() as u32
     }
 
     /// The events of an edit that isn't refused, and what they do to the text.
@@ -246,50 +259,25 @@ impl Replica {
         edit: &Edit,
     ) -> Result<(Vec<Event>, Vec<TextOp>), NoMem>
         requires allowed { model.edit_refusal self.now.limits self.now.held agent (edit_view edit.now) ≡ None }
-        requires some { 0 < size_of (edit_view edit.now) }
         ensures events { IfOk result (λ made. made.0.items ≡ model.events_of_edit self.now.held agent (edit_view edit.now)) }
         ensures can { IfOk result (λ made. CanAppend self.now.limits self.now.held made.0.items made.1.items) }
     {
         let _most = self.limits.events();
         let ops = edit.ops(alloc)?;
-        let made = events_by(alloc, self.events.as_slice(), agent, ops.as_slice())?;
+        let made = events_by(alloc, &self.graph, agent, ops.as_slice())?;
         let changes = changes(alloc, ops.as_slice())?;
         Ok((made, changes))
     }
 
-    /// Holds some more events, and changes the text. Answers how many they are. All room is made first.
-    fn append(&mut self, made: Vec<Event>, changes: &[TextOp]) -> Result<u32, NoMem>
-        requires some { 0 < length made.items }
-        requires can { CanAppend self.old.limits self.old.held made.items changes.now }
-        ensures count { IfOk result (λ n. n ≡ length made.items) }
-        ensures ok { OnOk result (self.new ≡ record { limits = self.old.limits; held = self.old.held ++ made.items; waiting = self.old.waiting }) }
+    /// Holds some more events, and changes the text. Answers how many they are. It does all of it or nothing.
+    fn append(&mut self, made: &[Event], changes: &[TextOp]) -> Result<u32, NoMem>
+        requires { CanAppend self.old.limits self.old.held made.now changes.now }
+        ensures count { IfOk result (λ n. n ≡ length made.now) }
+        ensures ok { OnOk result (self.new ≡ record { limits = self.old.limits; held = self.old.held ++ made.now; waiting = self.old.waiting }) }
         ensures err { OnErr result (self.new ≡ self.old) }
     {
         let _most = self.limits.events();
-        let n = made.len() as u32;
-        let last = self.events.len() as u32 + n - 1;
-        let heads = Vec::from_slice(*self.events.allocator(), &[last])?;
-        self.events.reserve(made.len())?;
-        self.text.apply(changes)?;
-        self.heads = heads;
-        put_behind(&mut self.events, made);
-        Ok(n)
+        extend(&mut self.graph, &mut self.text, made, changes)?;
+        Ok(made.len() as u32)
     }
-}
-
-/// What is kept of events that are good.
-fn of_good(alloc: Global, events: Vec<Event>, limits: Limits) -> Result<Replica, NoMem>
-    requires good { IsGood events.items }
-    requires few { length events.items ≤ limits.events }
-    ensures { IfOk result (λ r. r ≡ record { limits = limits; held = events.items; waiting = [] }) }
-{
-    let _most = limits.events();
-    let text = load_text(alloc, events.as_slice())?;
-    let heads = heads::head_positions(alloc, events.as_slice())?;
-    Ok(Replica {
-        limits,
-        events,
-        text,
-        heads,
-    })
 }

@@ -1,4 +1,4 @@
-use Rattle.std.proofs.Common.{◌≡◌, ◌∙◌, vec_len}
+use Rattle.std.proofs.Common.{◌∙◌, vec_len}
 use Rattle.replica.proofs.EditOps.{deletions_filled}
 use Rattle.replica.proofs.edit.deletions.Goals as goal
 

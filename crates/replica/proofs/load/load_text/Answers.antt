@@ -1,4 +1,4 @@
-use Rattle.std.proofs.Common.{◌≡◌, ◌≤◌, length, arith}
+use Rattle.std.proofs.Common.{◌≡◌, arith}
 use Rattle.ew_model.specs.Texts.{text_of}
 use Rattle.ew_model.proofs.TextLengths.{text_is_short}
 use Rattle.replica.proofs.load.load_text.Goals as goal

@@ -1,9 +1,12 @@
-use Rattle.std.proofs.Common.{◌≡◌, ◌∙◌, ap, length, sym, subst, None, arith}
+use Rattle.std.proofs.Common.{◌≡◌, ◌∙◌, List, sym, subst, None}
+use Rattle.ew_model.specs.declared.event.Event.{Event}
+use Rattle.ew_model.specs.declared.text_op.TextOp.{TextOp}
 use Rattle.ew_model.specs.Edits.{edit_refusal}
 use Rattle.ew_model.specs.Kept.{ReplicaState}
 use Rattle.ew_model.specs.Verdicts.{IsGood}
+use Rattle.replica.specs.Appending.{CanAppend}
 use Rattle.replica.specs.Editing.{edit_view}
-use Rattle.replica.proofs.EditAnswers.{made_long, refusal_is, refused, nothing_made, some_made, text_after}
+use Rattle.replica.proofs.EditAnswers.{refusal_is, refused, nothing_made, some_made, text_after}
 use Rattle.replica.proofs.state.Replica.edit.Goals as goal
 
 pub returns-in-Some-clause-edits : goal.returns-in-Some-clause-edits
@@ -26,20 +29,21 @@ returns-then-size-eq0-clause-text c =
     text_after c.args.agent edit now now 0 good
     (nothing_made c.args.agent edit now (refusal_is now.limits now.held c.args.agent edit ∙ sym c.in_default.ensures) (sym c.size.ensures ∙ c.if-size-eq0.true))
 
-pub make-requires-clause-allowed : goal.make-requires-clause-allowed
-make-requires-clause-allowed c = refusal_is c.args.self.now.limits c.args.self.now.held c.args.agent (edit_view c.args.edit.now) ∙ sym c.in_default.ensures
+pub make-requires : goal.make-requires
+make-requires c = record { allowed = refusal_is c.args.self.now.limits c.args.self.now.held c.args.agent (edit_view c.args.edit.now) ∙ sym c.in_default.ensures }
 
-pub append-requires-clause-some : goal.append-requires-clause-some
-append-requires-clause-some c =
-    let made = ap length c.in_ok-made.ensures.events in
-    omega (arith, made, made_long c.args.self.now.held c.args.agent (edit_view c.args.edit.now), c.size.ensures, c.if-size-eq0.false)
+pub append-requires : goal.append-requires
+append-requires c =
+    let now = c.args.self.now in
+    subst (λ (es : List Event). CanAppend now.limits now.held es c.as_slice-2.result.now) (sym c.as_slice.ensures.value)
+    (subst (λ (ops : List TextOp). CanAppend now.limits now.held c.in_ok-made.made.items ops) (sym c.as_slice-2.ensures.value) c.in_ok-made.ensures.can)
 
 pub returns-clause-edits : goal.returns-clause-edits
 returns-clause-edits c =
     let edit = edit_view c.args.edit.now in
     let now = c.args.self.now in
     let none : edit_refusal now.limits now.held c.args.agent edit ≡ None = refusal_is now.limits now.held c.args.agent edit ∙ sym c.in_default.ensures in
-    some_made c.args.agent edit now c.append.new.self c.in_ok-made.made.items c.in_ok-n.n none c.in_ok-made.ensures.events c.in_ok-n.ensures.ok c.in_ok-n.ensures.count
+    some_made c.args.agent edit now c.append.new.self c.as_slice.result.now c.in_ok-n.n none (c.as_slice.ensures.value ∙ c.in_ok-made.ensures.events) c.in_ok-n.ensures.ok c.in_ok-n.ensures.count
 
 pub returns-clause-text : goal.returns-clause-text
 returns-clause-text c =
@@ -48,4 +52,4 @@ returns-clause-text c =
     let none : edit_refusal now.limits now.held c.args.agent edit ≡ None = refusal_is now.limits now.held c.args.agent edit ∙ sym c.in_default.ensures in
     let good : IsGood now.held = subst (λ (s : ReplicaState). IsGood s.held) c.self.view_is c.self.invariant.kept.orderly.good in
     text_after c.args.agent edit now c.append.new.self c.in_ok-n.n good
-    (some_made c.args.agent edit now c.append.new.self c.in_ok-made.made.items c.in_ok-n.n none c.in_ok-made.ensures.events c.in_ok-n.ensures.ok c.in_ok-n.ensures.count)
+    (some_made c.args.agent edit now c.append.new.self c.as_slice.result.now c.in_ok-n.n none (c.as_slice.ensures.value ∙ c.in_ok-made.ensures.events) c.in_ok-n.ensures.ok c.in_ok-n.ensures.count)

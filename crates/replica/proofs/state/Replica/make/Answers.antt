@@ -12,29 +12,29 @@ pub ops-requires : goal.ops-requires
 ops-requires c =
     let edit = edit_view c.args.edit.now in
     let none = not_refused c.args.agent edit _ c.args.self.now c.self.view_is c.requires.allowed in
-    let small = edit_is_small c.self.inside.limits c.self.inside.events.items c.args.agent edit c.self.invariant.kept c.events-most.ensures.range.few_events none in
+    let small = edit_is_small c.self.inside.limits c.self.inside.graph c.args.agent edit c.self.invariant.kept c.events-most.ensures.range.few_events none in
     omega (arith, small.0, small.1)
 
 pub events_by-requires-clause-few : goal.events_by-requires-clause-few
 events_by-requires-clause-few c =
     let edit = edit_view c.args.edit.now in
     let none = not_refused c.args.agent edit _ c.args.self.now c.self.view_is c.requires.allowed in
-    let small = edit_is_small c.self.inside.limits c.self.inside.events.items c.args.agent edit c.self.invariant.kept c.events-most.ensures.range.few_events none in
+    let small = edit_is_small c.self.inside.limits c.self.inside.graph c.args.agent edit c.self.invariant.kept c.events-most.ensures.range.few_events none in
     let ops : c.in_ok-ops.ops.items ≡ ops_of edit = c.in_ok-ops.ensures in
-    omega (arith, ap length c.as_slice.ensures.value, ap length c.as_slice-2.ensures.value, ap length ops, edit_long edit, small.1)
+    omega (arith, ap length c.as_slice.ensures.value, ap length ops, edit_long edit, small.1)
 
 -- the events and the changes are those of the edit
 pub returns-clause-can : goal.returns-clause-can
 returns-clause-can c =
     let edit = edit_view c.args.edit.now in
-    let held = c.self.inside.events.items in
+    let held = c.self.inside.graph in
     let none = not_refused c.args.agent edit _ c.args.self.now c.self.view_is c.requires.allowed in
     let ops : c.in_ok-ops.ops.items ≡ ops_of edit = c.in_ok-ops.ensures in
-    let made : c.in_ok-made.made.items ≡ events_of_ops c.as_slice.result.now c.args.agent c.as_slice-2.result.now = c.in_ok-made.ensures in
-    let events : c.in_ok-made.made.items ≡ events_of_edit held c.args.agent edit = made ∙ (λ i. events_of_ops (c.as_slice.ensures.value i) c.args.agent ((c.as_slice-2.ensures.value ∙ ops) i)) in
-    let done : c.in_ok-changes.changes.items ≡ map own_change c.as_slice-3.result.now = c.in_ok-changes.ensures in
-    let changes : c.in_ok-changes.changes.items ≡ map own_change (ops_of edit) = done ∙ ap (map own_change) (c.as_slice-3.ensures.value ∙ ops) in
+    let made : c.in_ok-made.made.items ≡ events_of_ops held c.args.agent c.as_slice.result.now = c.in_ok-made.ensures in
+    let events : c.in_ok-made.made.items ≡ events_of_edit held c.args.agent edit = made ∙ ap (λ os. events_of_ops held c.args.agent os) (c.as_slice.ensures.value ∙ ops) in
+    let done : c.in_ok-changes.changes.items ≡ map own_change c.as_slice-2.result.now = c.in_ok-changes.ensures in
+    let changes : c.in_ok-changes.changes.items ≡ map own_change (ops_of edit) = done ∙ ap (map own_change) (c.as_slice-2.ensures.value ∙ ops) in
     let can : CanAppend c.self.inside.limits held (events_of_edit held c.args.agent edit) (map own_change (ops_of edit)) =
-    can_append c.self.inside.limits held c.args.agent edit c.self.invariant.kept c.events-most.ensures.range.few_events none c.requires.some in
+    can_append c.self.inside.limits held c.args.agent edit c.self.invariant.kept c.events-most.ensures.range.few_events none in
     let all : CanAppend c.self.inside.limits held c.in_ok-made.made.items c.in_ok-changes.changes.items = rw (events, changes) can in
     subst (λ (s : ReplicaState). CanAppend s.limits s.held c.in_ok-made.made.items c.in_ok-changes.changes.items) c.self.view_is all

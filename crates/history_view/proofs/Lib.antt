@@ -1,0 +1,4 @@
+pub mod LogReading
+pub mod Pieces
+pub mod Counts
+pub mod Logs

@@ -1,0 +1,20 @@
+//! The events of a graph as a list.
+
+ghost use Rattle.std.specs.Prelude.{◌≡◌, IfOk};
+
+use event_graph::Graph;
+use ew_model::NoMem;
+use ew_model::event::Event;
+use std::alloc::Global;
+
+/// All events of a graph, in order.
+pub fn listed(alloc: Global, graph: &Graph) -> Result<Vec<Event>, NoMem>
+    ensures { IfOk result (λ v. v.items ≡ graph.now) }
+{
+    let count = graph.count();
+    let mut events = Vec::with_capacity(alloc, count as usize)?;
+    for lv in 0..count {
+        events.push(graph.event_at(lv)?)?;
+    }
+    Ok(events)
+}
