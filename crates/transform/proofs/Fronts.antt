@@ -1,0 +1,179 @@
+-- What the versions of a history know of its first events.
+use Rattle.std.proofs.Common.{◌≡◌, ℕ, zero, suc, ◌+◌, Bool, true, false, cond, ◌||◌, List, [], ◌∷◌, ◌++◌, length, refl, sym, ap, ◌∙◌, subst, arith, append_assoc, append-nil}
+use Rattle.std.proofs.lemmas.Bool.{false≢true, false_from_ne_true, or_left}
+use Rattle.ew_model.specs.declared.id.Id.{Id}
+use Rattle.ew_model.specs.declared.event.Event.{Event}
+use Rattle.ew_model.specs.Ids.{id_eq, is_among}
+use Rattle.ew_model.specs.Ancestors.{ids_of, is_held, is_parent, version_events, ancestors}
+use Rattle.ew_model.specs.Walks.{positions_among}
+use Rattle.ew_model.specs.Positions.{known_positions, positions_in, parent_positions}
+use Rattle.ew_model.specs.PositionLaws.{AgreesByPositions}
+use Rattle.ew_model.specs.TouchLaws.{prepared_after, prepared_from}
+use Rattle.ew_model.proofs.AncestorLaws.{NoneNamed, ancestors_before, version_events_of_last}
+use Rattle.ew_model.proofs.EntryLaws.{LaidOut, NoneHeld, none_held, ancestors_held, all_mapped}
+use Rattle.ew_model.proofs.ClearingLaw.{laid_rest}
+use Rattle.ew_model.proofs.CoverLaws.{ids_alike}
+use Rattle.ew_model.proofs.SortingLaws.{all_from}
+use Rattle.ew_model.proofs.GraphOrder.{other_name}
+use Rattle.transform.specs.Reaching.{prepared_behind}
+
+-- POSITIONS OF IDS
+kept-append : (b : Bool) (n : ℕ) (ps qs : List ℕ) → cond b (n ∷ (ps ++ qs)) (ps ++ qs) ≡ cond b (n ∷ ps) ps ++ qs
+kept-append true n ps qs = refl
+kept-append false n ps qs = refl
+
+positions-append : (ids : List Id) (n : ℕ) (xs ys : List Event) → positions_among ids n (xs ++ ys) ≡ positions_among ids n xs ++ positions_among ids (n + length xs) ys
+positions-append ids n [] ys = let same : n ≡ n + 0 = omega arith in ap (λ m. positions_among ids m ys) same
+positions-append ids n (x ∷ xs) ys =
+    let same : suc n + length xs ≡ n + suc (length xs) = omega arith in
+    ap (λ ps. cond (is_among ids x.id) (n ∷ ps) ps) (positions-append ids (suc n) xs ys ∙ ap (λ m. positions_among ids (suc n) xs ++ positions_among ids m ys) same)
+    ∙ kept-append (is_among ids x.id) n (positions_among ids (suc n) xs) (positions_among ids (n + suc (length xs)) ys)
+
+positions_none : (ids : List Id) (n : ℕ) (events : List Event) → NoneNamed events ids → positions_among ids n events ≡ []
+positions_none ids n [] h = refl
+positions_none ids n (e ∷ events) h = ap (λ b. cond b (n ∷ positions_among ids (suc n) events) (positions_among ids (suc n) events)) h.0 ∙ positions_none ids (suc n) events h.1
+
+-- events that come later and aren't named add no position
+positions_front : (ids : List Id) (front later : List Event) → NoneNamed later ids → positions_in (front ++ later) ids ≡ positions_in front ids
+positions_front ids front later h = positions-append ids 0 front later ∙ ap (λ ps. positions_in front ids ++ ps) (positions_none ids (0 + length front) later h) ∙ append-nil (positions_in front ids)
+
+-- the position of the last event, where it is named
+positions_last : (ids : List Id) (front : List Event) (e : Event) → is_among ids e.id ≡ true → positions_in (front ++ e ∷ []) ids ≡ positions_in front ids ++ length front ∷ []
+positions_last ids front e h =
+    let same : 0 + length front ≡ length front = omega arith in
+    positions-append ids 0 front (e ∷ []) ∙ (λ i. positions_in front ids ++ cond (h i) (same i ∷ []) [])
+
+both_false : (a b : Bool) → (a || b) ≡ false → (a ≡ false) × (b ≡ false)
+both_false true b h = absurd (false≢true (sym h))
+both_false false b h = (refl, h)
+
+-- ids that no event has
+unheld_named : (events : List Event) (x : Id) → is_held events x ≡ false → NoneNamed events (x ∷ [])
+unheld_named [] x h = tt
+unheld_named (e ∷ events) x h = let parts = both_false (id_eq x e.id) (is_held events x) h in (ap (λ b. b || false) (ids_alike.symm e.id x ∙ parts.0), unheld_named events x parts.1)
+
+itself_named : (x : Id) → is_among (x ∷ []) x ≡ true
+itself_named x = or_left (id_eq x x) false (ids_alike.refl x)
+
+-- VERSIONS
+-- ancestors in the front are no later events
+none_known : (front later : List Event) (version : List Id) → LaidOut [] (front ++ later) → NoneNamed later (ancestors front version)
+none_known front later version laid =
+    all_mapped (λ (f : Event). is_held front f.id ≡ false) (λ (f : Event). is_among (ancestors front version) f.id ≡ false) later
+    (λ f new. false_from_ne_true (is_among (ancestors front version) f.id) (λ known. false≢true (sym new ∙ ancestors_held front version f.id known)))
+    (none_held front later (laid_rest [] front later laid))
+
+-- What is known of a version whose ids the later events don't have.
+pub known_front : (front later : List Event) (version : List Id) → LaidOut [] (front ++ later) → AgreesByPositions (front ++ later) → NoneNamed later version
+    → known_positions (parent_positions (front ++ later)) (positions_in (front ++ later) version) ≡ positions_in front (ancestors front version)
+known_front front later version laid agree none =
+    let whole = front ++ later in
+    agree.versions version ∙ ap (positions_in whole) (ancestors_before front later version none) ∙ positions_front (ancestors front version) front later (none_known front later version laid)
+
+-- the parents of the event behind the front aren't later events
+pub parents_before : (front : List Event) (e : Event) (later : List Event) → LaidOut [] (front ++ e ∷ later) → NoneNamed (e ∷ later) e.parents
+parents_before front e later laid = (laid_rest [] front (e ∷ later) laid).1
+
+pub over_known : (front : List Event) (e : Event) (later : List Event) → LaidOut [] (front ++ e ∷ later) → AgreesByPositions (front ++ e ∷ later)
+    → known_positions (parent_positions (front ++ e ∷ later)) (positions_in (front ++ e ∷ later) e.parents) ≡ positions_in front (ancestors front e.parents)
+over_known front e later laid agree = known_front front (e ∷ later) e.parents laid agree (parents_before front e later laid)
+
+-- WHAT IS PREPARED
+prepared_last : (before : List Event) (prepared : List Id) (front : List Event) (e : Event) → prepared_after before prepared (front ++ e ∷ []) ≡ ancestors ((before ++ front) ++ e ∷ []) (e.id ∷ [])
+prepared_last before prepared [] e = ap (λ (w : List Event). ancestors (w ++ e ∷ []) (e.id ∷ [])) (sym (append-nil before))
+prepared_last before prepared (f ∷ front) e = prepared_last (before ++ f ∷ []) _ front e ∙ ap (λ (w : List Event). ancestors (w ++ e ∷ []) (e.id ∷ [])) (append_assoc before (f ∷ []) front)
+
+-- behind an event, the ids prepared are those of its version
+pub prepared_ids : (front : List Event) (e : Event) → prepared_from (front ++ e ∷ []) 0 ≡ ancestors (front ++ e ∷ []) (e.id ∷ [])
+prepared_ids front e = prepared_last [] [] front e
+
+-- naming an id that no event has changes nothing
+version_unheld : (events : List Event) (x : Id) (named : List Id) → is_held events x ≡ false → version_events events (x ∷ named) ≡ version_events events named
+version_unheld [] x named h = refl
+version_unheld (f ∷ events) x named h =
+    let none = unheld_named (f ∷ events) x h in
+    let more : version_events events (x ∷ named) ≡ version_events events named = version_unheld events x named (rest (id_eq x f.id) (is_held events x) h) in
+    (λ i. cond (is_among (x ∷ named) f.id || is_parent (more i) f.id) (f ∷ more i) (more i))
+    ∙ ap (λ b. cond (b || is_parent (version_events events named) f.id) (f ∷ version_events events named) (version_events events named)) (first (id_eq f.id x) (is_among named f.id) none.0)
+  where
+    rest : (a b : Bool) → (a || b) ≡ false → b ≡ false
+    rest true b h = absurd (false≢true (sym h))
+    rest false b h = h
+
+    first : (a b : Bool) → (a || false) ≡ false → (a || b) ≡ b
+    first true b h = absurd (false≢true (sym h))
+    first false b h = refl
+
+-- the version of the event behind the front: what it was made over, and itself
+own_version : (front : List Event) (e : Event) → is_held front e.id ≡ false → ancestors (front ++ e ∷ []) (e.id ∷ []) ≡ ancestors front e.parents ++ e.id ∷ []
+own_version front e new =
+    ap ids_of (version_events_of_last front e (e.id ∷ []) (itself_named e.id))
+    ∙ ids-append (version_events front (e.id ∷ e.parents)) (e ∷ [])
+    ∙ ap (λ vs. ids_of vs ++ e.id ∷ []) (version_unheld front e.id e.parents new)
+  where
+    ids-append : (xs ys : List Event) → ids_of (xs ++ ys) ≡ ids_of xs ++ ids_of ys
+    ids-append [] ys = refl
+    ids-append (x ∷ xs) ys = ap (λ ids. x.id ∷ ids) (ids-append xs ys)
+
+among_more : (ids : List Id) (x : Id) → is_among (ids ++ x ∷ []) x ≡ true
+among_more [] x = itself_named x
+among_more (y ∷ ids) x = at (id_eq x y) (among_more ids x)
+  where
+    at : (b : Bool) → is_among (ids ++ x ∷ []) x ≡ true → (b || is_among (ids ++ x ∷ []) x) ≡ true
+    at true h = refl
+    at false h = h
+
+other_among : (ids : List Id) (x y : Id) → id_eq y x ≡ false → is_among (ids ++ x ∷ []) y ≡ is_among ids y
+other_among [] x y h = ap (λ b. b || false) h
+other_among (z ∷ ids) x y h = ap (λ b. id_eq y z || b) (other_among ids x y h)
+
+positions_other : (ids : List Id) (x : Id) (n : ℕ) (events : List Event) → is_held events x ≡ false → positions_among (ids ++ x ∷ []) n events ≡ positions_among ids n events
+positions_other ids x n [] h = refl
+positions_other ids x n (e ∷ events) h =
+    let parts = both_false (id_eq x e.id) (is_held events x) h in
+    (λ i. cond (other_among ids x e.id (ids_alike.symm e.id x ∙ parts.0) i) (n ∷ positions_other ids x (suc n) events parts.1 i) (positions_other ids x (suc n) events parts.1 i))
+
+-- What is prepared behind one more event: what it was made over, and itself.
+pub prepared_more : (front : List Event) (e : Event) → is_held front e.id ≡ false → prepared_behind (front ++ e ∷ []) ≡ positions_in front (ancestors front e.parents) ++ length front ∷ []
+prepared_more front e new =
+    let known = ancestors front e.parents in
+    ap (positions_in (front ++ e ∷ [])) (prepared_ids front e ∙ own_version front e new)
+    ∙ positions_last (known ++ e.id ∷ []) front e (among_more known e.id)
+    ∙ ap (λ ps. ps ++ length front ∷ []) (positions_other known e.id 0 front new)
+
+-- The version that is prepared behind the first n events: the last of them, if there is one.
+abbrev pub last_before : ℕ → List ℕ
+last_before zero = []
+last_before (suc n) = n ∷ []
+
+-- no later event has the id of one before it
+unnamed_later : (before : List Event) (f : Event) (later : List Event) → NoneHeld (before ++ f ∷ []) later → NoneNamed later (f.id ∷ [])
+unnamed_later before f later h =
+    all_mapped (λ (g : Event). is_held (before ++ f ∷ []) g.id ≡ false) (λ (g : Event). is_among (f.id ∷ []) g.id ≡ false) later
+    (λ g new. ap (λ b. b || false) (other_name (λ (e : Event). e.id) (λ (e : Event). e.parents) id_eq before f g.id new)) h
+
+last_position : (front : List Event) (f : Event) (later : List Event) → is_held front f.id ≡ false → NoneNamed later (f.id ∷ []) → positions_in ((front ++ f ∷ []) ++ later) (f.id ∷ []) ≡ length front ∷ []
+last_position front f later new none =
+    positions_front (f.id ∷ []) (front ++ f ∷ []) later none
+    ∙ positions_last (f.id ∷ []) front f (itself_named f.id)
+    ∙ ap (λ ps. ps ++ length front ∷ []) (positions_none (f.id ∷ []) 0 front (unheld_named front f.id new))
+
+-- what is known of the last event behind a front is what is prepared there
+pub last_known : (front : List Event) (f : Event) (later : List Event) → LaidOut [] ((front ++ f ∷ []) ++ later) → AgreesByPositions ((front ++ f ∷ []) ++ later)
+    → known_positions (parent_positions ((front ++ f ∷ []) ++ later)) (length front ∷ []) ≡ prepared_behind (front ++ f ∷ [])
+last_known front f later laid agree =
+    let whole = (front ++ f ∷ []) ++ later in
+    let behind : LaidOut front (f ∷ later) = laid_rest [] front (f ∷ later) (subst (LaidOut []) (append_assoc front (f ∷ []) later) laid) in
+    let none : NoneNamed later (f.id ∷ []) = unnamed_later front f later (none_held (front ++ f ∷ []) later behind.2) in
+    ap (known_positions (parent_positions whole)) (sym (last_position front f later behind.0 none))
+    ∙ known_front (front ++ f ∷ []) later (f.id ∷ []) laid agree none
+    ∙ ap (positions_in (front ++ f ∷ [])) (sym (prepared_ids front f))
+
+nothing_named : (n : ℕ) (events : List Event) → positions_among [] n events ≡ []
+nothing_named n [] = refl
+nothing_named n (e ∷ events) = nothing_named (suc n) events
+
+-- nothing is known where nothing is named
+pub none_prepared : (history : List Event) → LaidOut [] history → AgreesByPositions history → known_positions (parent_positions history) [] ≡ []
+none_prepared history laid agree =
+    ap (known_positions (parent_positions history)) (sym (nothing_named 0 history)) ∙ known_front [] history [] laid agree (all_from (λ (f : Event). is_among [] f.id ≡ false) history (λ f m. refl))

@@ -1,0 +1,12 @@
+pub mod Applies
+pub mod Counting
+pub mod Differences
+pub mod Fronts
+pub mod Judging
+pub mod Loops
+pub mod Sides
+pub mod SpanLists
+pub mod Standings
+pub mod Steps
+pub mod Turning
+pub mod WalkedEvents

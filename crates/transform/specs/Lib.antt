@@ -1,0 +1,4 @@
+pub mod Answering
+pub mod Moving
+pub mod Reaching
+pub mod Walking

@@ -1,0 +1,32 @@
+-- What a walk answers.
+use Rattle.std.specs.Prelude.{◌≡◌, ℕ, suc, ◌≤◌, true, List, take, length, Option, Some, None}
+use Rattle.ew_model.specs.declared.event.Event.{Event}
+use Rattle.ew_model.specs.Verdicts.{BadEvent}
+use Rattle.ew_model.specs.Verdicts.Ruling.{OutOfRange}
+use Rattle.ew_model.specs.Cuts.{is_critical}
+use Rattle.ew_model.specs.Walks.{base_at, walked_from}
+use Rattle.advance_retreat.specs.Kept.{Kept}
+use Rattle.advance_retreat.specs.Standing.{StandsFor}
+
+-- an event that is out of range, by its position and the length of the text at its parents
+abbrev pub bad_at : ℕ × ℕ → BadEvent
+bad_at stop = record { position = stop.0; verdict = OutOfRange stop.1 }
+
+-- the events before the stop, or all
+abbrev pub walked_of : List Event → Option (ℕ × ℕ) → List Event
+walked_of history None = history
+walked_of history (Some stop) = take stop.0 history
+
+-- and with the one that it stopped at
+abbrev pub judged_of : List Event → Option (ℕ × ℕ) → List Event
+judged_of history None = history
+judged_of history (Some stop) = take (suc stop.0) history
+
+-- The state stands for the text below a critical cut of the history as a base, and for those of these events that are
+-- behind the cut.
+pub record StandsBehind (history walked : List Event) (state : Kept) : Type 0 where
+  pub cut : ℕ
+  pub prepared : List ℕ
+  pub within : cut ≤ length walked
+  pub critical : is_critical history cut ≡ true
+  pub stands : StandsFor state (base_at history cut) (walked_from walked cut) prepared

@@ -1,0 +1,14 @@
+//! The walk over an event graph: what each event does to the text of all events before it.
+#![tactic(auto)]
+
+pub mod answer;
+mod apply;
+mod moves;
+#[cfg(test)]
+mod tests;
+mod turn;
+pub mod walking;
+
+pub use advance_retreat::State;
+pub use answer::Walk;
+pub use walking::walk;
