@@ -14,6 +14,8 @@ mod plan;
 mod reply;
 mod start;
 #[cfg(test)]
+mod test_files;
+#[cfg(test)]
 mod tests;
 mod texts;
 mod top;

@@ -1,6 +1,10 @@
 //! Runs over files, inputs and outputs in memory. Without them a program that always runs out of memory would do.
 
 use crate::start::run_uncounted;
+use crate::test_files::{
+    APART, BACKWARDS, BACKWARDS_TURNED, BESIDE, BESIDE_TURNED, GONE, GONE_TURNED, JOINED, LATE,
+    LATE_FIRST, LATE_LOWER, LATE_LOWER_FIRST, TWICE, TWICE_TURNED, WORDS, WORDS_TURNED,
+};
 use ew_model::limits::Limits;
 use ew_outside::{Failed, MemShelf, MemSink, MemSource, Shelf, Sink};
 use sha2::{Digest, Sha256};
@@ -250,6 +254,93 @@ fn a_diamond_is_checked(rt: HostRuntime) -> Result<(), Fail> {
         "events 4\nagents 4\nheads 1\ncuts 4\nlength 4\na:0 root ins 0 a\nb:0 a:0 ins 1 b\nc:0 a:0 ins 1 c\nd:0 b:0,c:0 ins 3 d\n";
     let err = "egw: G: event 2: not reduced\negw: H: event 2: skipped\n";
     expect(&rt, rt.alloc(), &files, &rows, out, err)
+}
+
+/// Two type from the empty text, at the end or at the start.
+#[test]
+fn words_typed_apart_stay_whole(rt: HostRuntime) -> Result<(), Fail> {
+    let files = [
+        ("F", WORDS.as_slice()),
+        ("G", WORDS_TURNED.as_slice()),
+        ("H", BACKWARDS.as_slice()),
+        ("I", BACKWARDS_TURNED.as_slice()),
+    ];
+    let rows = [
+        ("cat F", "", 0),
+        ("cat G", "", 0),
+        ("cat H", "", 0),
+        ("cat I", "", 0),
+        ("check F", "", 0),
+    ];
+    expect(
+        &rt,
+        rt.alloc(),
+        &files,
+        &rows,
+        "abcxyzabcxyzabcxyzabcxyzevents 6\nagents 2\nheads 2\ncuts 2\nlength 6\n",
+        "",
+    )
+}
+
+/// Two edit the same place, and a third goes on behind both.
+#[test]
+fn edits_of_one_place_meet(rt: HostRuntime) -> Result<(), Fail> {
+    let files = [
+        ("F", BESIDE.as_slice()),
+        ("G", BESIDE_TURNED.as_slice()),
+        ("H", TWICE.as_slice()),
+        ("I", TWICE_TURNED.as_slice()),
+    ];
+    let rows = [
+        ("cat F", "", 0),
+        ("cat G", "", 0),
+        ("cat H", "", 0),
+        ("cat I", "", 0),
+    ];
+    expect(&rt, rt.alloc(), &files, &rows, "aQcaQcaZcaZc", "")
+}
+
+/// Two put a character where one was deleted; and an event behind the diamond, or beside its end.
+#[test]
+fn characters_beside_a_deleted_one_stand_by_their_ids(rt: HostRuntime) -> Result<(), Fail> {
+    let files = [
+        ("F", GONE.as_slice()),
+        ("G", GONE_TURNED.as_slice()),
+        ("H", JOINED.as_slice()),
+        ("I", APART.as_slice()),
+    ];
+    let rows = [
+        ("cat F", "", 0),
+        ("cat G", "", 0),
+        ("cat H", "", 0),
+        ("cat I", "", 0),
+    ];
+    expect(&rt, rt.alloc(), &files, &rows, "XYbXYbabcdeabcdf", "")
+}
+
+/// One who knew the first character alone puts another behind it, in any order of arrival.
+#[test]
+fn an_index_is_meant_in_the_text_of_the_parents(rt: HostRuntime) -> Result<(), Fail> {
+    let files = [
+        ("F", LATE.as_slice()),
+        ("G", LATE_FIRST.as_slice()),
+        ("H", LATE_LOWER.as_slice()),
+        ("I", LATE_LOWER_FIRST.as_slice()),
+    ];
+    let rows = [
+        ("cat F", "", 0),
+        ("cat G", "", 0),
+        ("cat H", "", 0),
+        ("cat I", "", 0),
+    ];
+    expect(
+        &rt,
+        rt.alloc(),
+        &files,
+        &rows,
+        "abcdefXabcdefXaXbcdefaXbcdef",
+        "",
+    )
 }
 
 #[test]
