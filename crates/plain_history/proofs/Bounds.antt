@@ -1,5 +1,5 @@
 -- A text has at most one character for each event.
-use Rattle.std.proofs.Common.{◌≡◌, ℕ, suc, ◌+◌, ◌*◌, ◌^◌, ◌<◌, ◌≤◌, Bool, true, false, not, cond, ◌||◌, List, [], ◌∷◌, ◌++◌, filter, fold, length, Option, Some, None, refl, ap, ◌∙◌, arith, length-append}
+use Rattle.std.proofs.Common.{◌≡◌, ℕ, zero, suc, nat_eq, ◌+◌, ◌*◌, ◌^◌, ◌<◌, ◌≤◌, Bool, true, false, not, cond, ◌||◌, List, [], ◌∷◌, ◌++◌, map, filter, fold, length, Option, Some, None, refl, ap, ◌∙◌, arith, length-append}
 use Rattle.std.proofs.Math.Nat.{mul-le-mul_left}
 use Rattle.std.specs.List.{list_any}
 use Rattle.std.specs.Ordering.{is_lt}
@@ -12,7 +12,7 @@ use Rattle.ew_model.specs.Ancestors.{is_parent, version_events, ancestors}
 use Rattle.ew_model.specs.Sorting.{put_in_order, sort_by}
 use Rattle.ew_model.specs.Entries.{Inserted, Entry, inserted_cmp, insertions, is_deleted, order, visible}
 use Rattle.ew_model.specs.Entries.Entry.{Insertion, Deletion}
-use Rattle.ew_model.specs.Tree.{Applied, Noted, all_entries, entries_over, next_entry, noted_as, grow, tree_of, applied_after, tree_on, tree}
+use Rattle.ew_model.specs.Tree.{Applied, Noted, base_id, base_path, based, all_entries, entries_over, next_entry, noted_as, grow, tree_of, applied_after, tree_on, tree}
 use Rattle.ew_model.specs.Texts.{visible_at, text_at}
 
 kept_le : {X : Type 0} (b : Bool) (x : X) (xs : List X) (n : ℕ) → length xs ≤ n → length (cond b (x ∷ xs) xs) ≤ suc n
@@ -94,3 +94,13 @@ square_fits n h =
     let most : n ≤ 4294967295 = omega (arith, h) in
     let wide : n * n ≤ n * 4294967295 = mul-le-mul_left n most in
     omega (arith, wide, most)
+
+length-based : (n : ℕ) → length (based n) ≡ n
+length-based zero = refl
+length-based (suc n) =
+    length-append (based n) (Insertion (record { id = base_id n; path = base_path n; ch = 0 }) ∷ []) ∙ omega (arith, length-based n)
+
+pub length-visible_over-le : (b : ℕ) (events : List (Applied ℕ)) → length (visible (all_entries b (tree_of nat_eq b events))) ≤ b + length events
+length-visible_over-le b events =
+    let notes = tree_of nat_eq b events in
+    omega (arith, length-visible-le (all_entries b notes), length-append (based b) (map (λ (n : Noted ℕ). n.entry) notes), length-based b, length-map notes (λ (n : Noted ℕ). n.entry), length-tree_of-le nat_eq b events)

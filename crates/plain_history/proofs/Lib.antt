@@ -1,3 +1,4 @@
+pub mod BaseLaws
 pub mod Bounds
 pub mod CutTests
 pub mod EntryLaws

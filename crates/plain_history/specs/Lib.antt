@@ -1,6 +1,6 @@
 pub mod Entries
-pub mod Insertions
 pub mod Judging
+pub mod Operations
 pub mod Reduced
-pub mod SideLaws
 pub mod Sides
+pub mod Walkers

@@ -3,10 +3,7 @@ use Rattle.plain_history.specs.declared.path.Side.{Side}
 use Rattle.plain_history.specs.declared.path.Side.TheVariants.{Left, Right}
 use Rattle.ew_model.specs.Paths as paths
 
+-- the side that a side of the program is
 abbrev pub side_of : Side → paths.Side
 side_of Left = paths.Side.Left
 side_of Right = paths.Side.Right
-
-abbrev pub side_from : paths.Side → Side
-side_from paths.Side.Left = Left
-side_from paths.Side.Right = Right

@@ -5,15 +5,15 @@ ghost use Rattle.std.specs.Option.{option_copied};
 ghost use Rattle.ew_model.specs.Entries as entries;
 ghost use Rattle.plain_history.specs.Entries.{entry_of};
 
+use crate::char_id::CharId;
 use crate::path::Path;
-use ew_model::id::Id;
 use std::cmp::Ordering;
 use std::marker::Model;
 
 /// An inserted character: a node of the tree.
 #[derive(Drop)]
 pub struct Inserted {
-    id: Id,
+    id: CharId,
     path: Path,
     ch: char,
 }
@@ -27,16 +27,16 @@ impl Model for Inserted {
 }
 
 impl Inserted {
-    pub fn new(id: &Id, path: Path, ch: char) -> Inserted
-        ensures { result ≡ record { id = id.now; path = path; ch = ch } }
+    pub fn new(id: CharId, path: Path, ch: char) -> Inserted
+        ensures { result ≡ record { id = id; path = path; ch = ch } }
     {
-        Inserted { id: *id, path, ch }
+        Inserted { id, path, ch }
     }
 
-    pub fn id(&self) -> Id
-        ensures { result ≡ self.now.id }
+    pub fn id(&self) -> &CharId
+        ensures { result.now ≡ self.now.id }
     {
-        self.id
+        &self.id
     }
 
     pub fn path(&self) -> &Path
@@ -63,7 +63,7 @@ impl Inserted {
 #[derive(Drop)]
 pub enum Entry {
     Insertion(Inserted),
-    Deletion(Id),
+    Deletion(CharId),
 }
 
 impl Entry {
@@ -78,7 +78,7 @@ impl Entry {
     }
 
     /// Whether it deletes the id.
-    pub fn deletes(&self, x: &Id) -> bool
+    pub fn deletes(&self, x: &CharId) -> bool
         ensures { result ≡ entries.deletes x.now (entry_of self.now) }
     {
         match self {

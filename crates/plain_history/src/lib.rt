@@ -1,6 +1,10 @@
-//! The plain program: each definition of a history, computed in the most direct way.
+//! The plain program: ancestors, texts, verdicts, critical cuts, operations and touches of a history, and the lengths and
+//! operations of a walker, each computed from its definition in the most direct way. It is slow on purpose: a faster
+//! program is compared with it.
 #![tactic(auto)]
 
+mod base;
+mod char_id;
 mod cuts;
 mod entry;
 mod ids;
@@ -15,6 +19,7 @@ mod tree;
 mod verdicts;
 mod versions;
 mod walk;
+mod walker;
 
 pub use cuts::{critical_cuts, is_critical};
 pub use ew_model::NoMem;
@@ -23,3 +28,4 @@ pub use text_ops::operations;
 pub use touch_count::touches;
 pub use verdicts::{first_bad, graph_verdict, next_verdict, verdict, verdict_within};
 pub use versions::{ancestors, heads};
+pub use walker::{Applied, effect_len, prepared_len, walker_operation};

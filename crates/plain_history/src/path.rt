@@ -8,7 +8,7 @@ ghost use Rattle.std.specs.Ordering.{is_eq};
 ghost use Rattle.plain_history.specs.Sides.{side_of};
 
 use crate::NoMem;
-use ew_model::id::Id;
+use crate::char_id::CharId;
 use std::alloc::Global;
 use std::cmp::Ordering;
 use std::marker::Model;
@@ -21,27 +21,32 @@ pub enum Side {
 }
 
 /// One step down the tree: the side, and the id of the child that it comes to.
-#[derive(Clone, Copy)]
+#[derive(Drop)]
 pub struct Step {
     side: Side,
-    child: Id,
+    child: CharId,
 }
 
 impl Model for Step {
     ghost use Rattle.ew_model.specs.Paths.{Step};
-    ghost use Rattle.plain_history.specs.Sides.{side_of, side_from};
-    ghost use Rattle.plain_history.specs.SideLaws.{side_again};
+    ghost use Rattle.plain_history.specs.Sides.{side_of};
 
     ghost Value = { Step };
 
     ghost view = { λ s. record { side = side_of s.side; child = s.child } };
-
-    ghost inverse = { λ v. record { side = side_from v.side; child = v.child } };
-
-    ghost inverse_ok = { λ s h. λ i. record { side = side_again s.side i; child = s.child } };
 }
 
 impl Step {
+    /// The same step.
+    fn copy(&self) -> Step
+        ensures { result ≡ self.now }
+    {
+        Step {
+            side: self.side,
+            child: self.child.copy(),
+        }
+    }
+
     /// How two steps from one node stand: left before right, and on one side the lower id first.
     fn compare(&self, other: &Step) -> Ordering
         ensures { result ≡ step_cmp self.now other.now }
@@ -110,18 +115,21 @@ impl Path {
     pub fn copy(&self) -> Result<Path, NoMem>
         ensures { IfOk result (λ p. p ≡ self.now) }
     {
-        let steps = Vec::from_slice(*self.steps.allocator(), self.steps.as_slice())?;
+        let mut steps = Vec::new(*self.steps.allocator());
+        for step in &self.steps {
+            steps.push(step.copy())?;
+        }
         Ok(Path { steps })
     }
 
     /// The way to a child.
-    pub fn down(&self, side: Side, child: &Id) -> Result<Path, NoMem>
+    pub fn down(&self, side: Side, child: &CharId) -> Result<Path, NoMem>
         ensures { IfOk result (λ p. p ≡ step_down self.now (side_of side) child.now) }
     {
         let mut path = self.copy()?;
         path.steps.push(Step {
             side,
-            child: *child,
+            child: child.copy(),
         })?;
         Ok(path)
     }

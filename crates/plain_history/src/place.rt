@@ -7,9 +7,10 @@ ghost use Rattle.std.specs.Option.{option_copied};
 ghost use Rattle.ew_model.specs.Places as model;
 ghost use Rattle.ew_model.specs.Tree.{act_by};
 ghost use Rattle.plain_history.specs.Entries.{entry_of, entries_behind, nodes_behind};
-ghost use Rattle.plain_history.specs.Insertions.{insertion_in, deletion_in};
+ghost use Rattle.plain_history.specs.Operations.{insertion_in, deletion_in};
 
 use crate::NoMem;
+use crate::char_id::CharId;
 use crate::entry::{Entry, Inserted};
 use crate::path::{Path, Side};
 use crate::walk::{order, seen};
@@ -22,10 +23,18 @@ use std::alloc::Global;
 pub fn place(alloc: Global, id: &Id, op: Op, entries: &[&Entry]) -> Result<Option<Entry>, NoMem>
     ensures { IfOk result (λ entry. option_map entry_of entry ≡ model.place (act_by id.now op) (entries_behind entries.now)) }
 {
+    let id = CharId::of(id);
     let walk = order(alloc, entries)?;
     let chars = seen(alloc, walk.as_slice(), entries)?;
     match op {
-        Op::Ins { at, ch } => place_insertion(alloc, walk.as_slice(), chars.as_slice(), id, at, ch),
+        Op::Ins { at, ch } => place_insertion(
+            alloc,
+            walk.as_slice(),
+            chars.as_slice(),
+            &id,
+            at,
+            ch,
+        ),
         Op::Del { at } => Ok(place_deletion(chars.as_slice(), at)),
     }
 }
@@ -34,7 +43,7 @@ fn place_insertion(
     alloc: Global,
     walk: &[&Inserted],
     chars: &[&Inserted],
-    id: &Id,
+    id: &CharId,
     at: u32,
     ch: char,
 ) -> Result<Option<Entry>, NoMem>
@@ -44,7 +53,7 @@ fn place_insertion(
         None => Ok(None),
         Some(origin) => {
             let path = new_path(walk, &origin, id)?;
-            Ok(Some(Entry::Insertion(Inserted::new(id, path, ch))))
+            Ok(Some(Entry::Insertion(Inserted::new(id.copy(), path, ch))))
         }
     }
 }
@@ -53,7 +62,7 @@ fn place_deletion(chars: &[&Inserted], at: u32) -> Option<Entry>
     ensures { option_map entry_of result ≡ deletion_in (nodes_behind chars.now) at }
 {
     let target = chars.get(at as usize)?;
-    Some(Entry::Deletion(target.id()))
+    Some(Entry::Deletion(target.id().copy()))
 }
 
 /// The path of the visible character before the index: the root's for 0. None where the index is past the end.
@@ -71,7 +80,7 @@ fn path_before(alloc: Global, chars: &[&Inserted], at: u32) -> Result<Option<Pat
 
 /// The path of a new node whose left origin has this path. With no right child there it is a right child of that one;
 /// else it is a left child of the node that follows in the walk, tombstones counted.
-fn new_path(walk: &[&Inserted], origin: &Path, id: &Id) -> Result<Path, NoMem>
+fn new_path(walk: &[&Inserted], origin: &Path, id: &CharId) -> Result<Path, NoMem>
     ensures { IfOk result (λ path. path ≡ model.new_path (nodes_behind walk.now) origin.now id.now) }
 {
     if !has_right_child(walk, origin) {

@@ -4,8 +4,9 @@
 //! deletes.
 
 use crate::{
-    ancestors, critical_cuts, first_bad, graph_verdict, heads, is_critical, next_verdict,
-    operations, text_at, text_of, touches, verdict, verdict_within,
+    Applied, ancestors, critical_cuts, effect_len, first_bad, graph_verdict, heads, is_critical,
+    next_verdict, operations, prepared_len, text_at, text_of, touches, verdict, verdict_within,
+    walker_operation,
 };
 use ew_model::event::{Event, Op};
 use ew_model::id::Id;
@@ -335,5 +336,56 @@ fn each_event_changes_the_text_before_it(rt: HostRuntime) -> Result<(), Fail> {
         assert_eq!(rt; ops.pop(), Some(last));
         assert_eq!(rt; ops.pop(), Some(before));
     }
+    Ok(())
+}
+
+/// An agent's event at a position, applied over those from position 1 up to another.
+fn applied(alloc: Global, position: u32, text: &str, behind: u32) -> Result<Applied, Fail> {
+    let Event { id, parents: _, op } = event(alloc, text)?;
+    let mut over = Vec::new(alloc);
+    for other in 1..behind {
+        over.push(other)?;
+    }
+    Ok(Applied::new(position, id, op, over))
+}
+
+#[test]
+fn a_walker_over_base_characters_deletes_one_once(rt: HostRuntime) -> Result<(), Fail> {
+    let alloc = rt.alloc();
+    let events = [
+        applied(alloc, 2, "b:0 del@0", 0)?,
+        applied(alloc, 3, "c:0 del@0", 0)?,
+    ];
+    assert_eq!(rt; prepared_len(alloc, 2, &[], &[])?, 2);
+    assert_eq!(rt;
+        walker_operation(alloc, 2, &[], &events[0])?,
+        TextOp::Del { at: 0 }
+    );
+    assert_eq!(rt; prepared_len(alloc, 2, &events[..1], &[])?, 2);
+    assert_eq!(rt; effect_len(alloc, 2, &events[..1])?, 1);
+    assert_eq!(rt;
+        walker_operation(alloc, 2, &events[..1], &events[1])?,
+        TextOp::Nothing
+    );
+    assert_eq!(rt; prepared_len(alloc, 2, &events, &[3, 2])?, 1);
+    assert_eq!(rt; prepared_len(alloc, 2, &events, &[2])?, 1);
+    assert_eq!(rt; prepared_len(alloc, 2, &events, &[])?, 2);
+    assert_eq!(rt; effect_len(alloc, 2, &events)?, 1);
+    Ok(())
+}
+
+#[test]
+fn a_late_event_goes_behind_a_typed_run(rt: HostRuntime) -> Result<(), Fail> {
+    let alloc = rt.alloc();
+    let typed = [
+        applied(alloc, 1, "a:1 b@1", 1)?,
+        applied(alloc, 2, "a:2 c@2", 2)?,
+        applied(alloc, 3, "a:3 d@3", 3)?,
+        applied(alloc, 4, "a:4 e@4", 4)?,
+        applied(alloc, 5, "a:5 f@5", 5)?,
+    ];
+    let late = applied(alloc, 6, "b:0 X@1", 0)?;
+    let found = TextOp::Ins { at: 6, ch: 'X' };
+    assert_eq!(rt; walker_operation(alloc, 1, &typed, &late)?, found);
     Ok(())
 }

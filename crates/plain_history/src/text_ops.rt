@@ -8,11 +8,11 @@ ghost use Rattle.ew_model.specs.Tree as trees;
 ghost use Rattle.plain_history.specs.Entries.{entry_of, nodes_behind};
 
 use crate::NoMem;
+use crate::char_id::CharId;
 use crate::entry::{Entry, Inserted};
 use crate::path::Path;
 use crate::tree::Tree;
 use ew_model::event::Event;
-use ew_model::id::Id;
 use ew_model::text_op::TextOp;
 use std::alloc::Global;
 
@@ -45,7 +45,7 @@ fn next_operation(tree: &Tree, history: &[Event], e: &Event) -> Result<TextOp, N
 }
 
 /// What an entry does to a text, by its visible characters.
-fn operation_of(chars: &[&Inserted], entry: &Option<Entry>) -> TextOp
+pub fn operation_of(chars: &[&Inserted], entry: &Option<Entry>) -> TextOp
     requires { length chars.now < 2 ^ 32 }
     ensures { result ≡ model.operation_of (nodes_behind chars.now) (option_map entry_of entry.now) }
 {
@@ -81,7 +81,7 @@ fn number_before(chars: &[&Inserted], path: &Path) -> usize
 }
 
 /// Where the character with this id stands.
-fn place_of(chars: &[&Inserted], target: &Id) -> Option<usize>
+fn place_of(chars: &[&Inserted], target: &CharId) -> Option<usize>
     ensures value { result ≡ position (λ y. id_eq y.id target.now) (nodes_behind chars.now) }
     ensures within { IfSome result (λ at. at < length chars.now) }
 {

@@ -47,8 +47,8 @@ pub fn verdict(
     judge(alloc, &tree, history, waiting, e)
 }
 
-/// The verdict on a received event, where the history may hold so many events. None where it holds as many as it may, and
-/// no row by the id or the parents holds.
+/// The verdict on a received event against limits. None where neither its id nor its parents refuse it and the history
+/// holds as many events as it may.
 #[tactic(auto, using(crate::proofs::RowLaws::row_steps))]
 pub fn verdict_within(
     alloc: Global,
@@ -102,10 +102,7 @@ pub fn first_bad(alloc: Global, events: &[Event]) -> Result<Option<(u32, Verdict
 fn is_good(verdict: &Verdict) -> bool
     ensures { result ≡ model.is_verdict_good (ruling_of verdict.now) }
 {
-    match verdict {
-        Verdict::Good => true,
-        _ => false,
-    }
+    matches!(verdict, Verdict::Good)
 }
 
 /// The verdict on an event, by the tree of the history.

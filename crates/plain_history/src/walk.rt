@@ -8,8 +8,8 @@ ghost use Rattle.ew_model.specs.Sorting.{put_in_order};
 ghost use Rattle.plain_history.specs.Entries.{entries_behind, nodes_behind};
 
 use crate::NoMem;
+use crate::char_id::CharId;
 use crate::entry::{Entry, Inserted};
-use ew_model::id::Id;
 use std::alloc::Global;
 
 /// All characters in the order of the walk, tombstones too.
@@ -57,7 +57,7 @@ pub fn seen<'a>(
 {
     let mut chars = Vec::new(alloc);
     for x in walk {
-        if !is_deleted(entries, &x.id()) {
+        if !is_deleted(entries, x.id()) {
             chars.push(*x)?;
         }
     }
@@ -72,7 +72,7 @@ pub fn visible<'a>(alloc: Global, entries: &[&'a Entry]) -> Result<Vec<&'a Inser
     seen(alloc, walk.as_slice(), entries)
 }
 
-fn is_deleted(entries: &[&Entry], x: &Id) -> bool
+fn is_deleted(entries: &[&Entry], x: &CharId) -> bool
     ensures { result ≡ model.is_deleted (entries_behind entries.now) x.now }
 {
     for entry in entries {
