@@ -18,7 +18,10 @@ use Rattle.ew_model.proofs.TextLengths.{length_changed, text_is_short}
 use Rattle.rope.specs.Lengths.{AllStayShort}
 use Rattle.replica.specs.Appending.{CanAppend}
 use Rattle.replica.specs.Keeping.{IsUpToDate}
+use Rattle.replica.specs.Lengths.{prefix_lengths, lengths_through}
+use Rattle.replica.proofs.EditLengths.{edit_lengths}
 use Rattle.replica.proofs.Fronts.{made_admitted}
+use Rattle.replica.proofs.LengthLaws.{prefix_lengths-append}
 
 first_none : (b : Bool) (x : EditRefusal) (more : Option EditRefusal) → cond b (Some x) more ≡ None → b ≡ false
 first_none true x more e = let no : ⊥ = cc in absurd no
@@ -30,7 +33,7 @@ unfolding edit_refusal
 in_range limits held agent edit none = ltb-false (length (text_of held)) (needed_length edit) (first_none (nat_lt (length (text_of held)) (needed_length edit)) _ _ none)
 
 -- texts that few operations lead through are short
-stay_short : (t : List ℕ) (changes : List TextOp) → length t + length changes ≤ 16777216 → AllStayShort t changes
+pub stay_short : (t : List ℕ) (changes : List TextOp) → length t + length changes ≤ 16777216 → AllStayShort t changes
 stay_short t [] h = omega (arith, h)
 stay_short t (op ∷ changes) h = (omega (arith, h), stay_short (changed_by op t) changes (omega (arith, h, length_changed op t)))
 
@@ -47,12 +50,20 @@ can_append limits held agent edit kept few none =
       admitted = made_admitted held made after.orderly.good;
       fit = edit_fits edit (text_of held) inside;
       short = stay_short (text_of held) (map own_change (ops_of edit)) (omega (arith, length-map (ops_of edit) own_change, edit_long edit, text_is_short held good, changed.1, (edits_are_good limits held agent edit good kept.few none).1, few));
+      lengths = edit_lengths limits held agent edit good none inside;
       text = edit_changes edit (text_of held) inside ∙ sym changed.0;
     }
 
 -- what was appended is up to date
-pub appended : (limits : LimitNumbers) (held made : List Event) (changes : List TextOp) (text : List ℕ) → IsUpToDate limits held text → CanAppend limits held made changes → IsUpToDate limits (held ++ made) (changed_by_all changes text)
-appended limits held made changes text now can = record { kept = can.kept; text_is = ap (changed_by_all changes) now.text_is ∙ can.text }
+pub appended : (limits : LimitNumbers) (held made : List Event) (changes : List TextOp) (text lengths : List ℕ) → IsUpToDate limits held text lengths → CanAppend limits held made changes
+    → IsUpToDate limits (held ++ made) (changed_by_all changes text) (lengths ++ lengths_through text changes)
+appended limits held made changes text lengths now can = record {
+  kept = can.kept;
+  text_is = ap (changed_by_all changes) now.text_is ∙ can.text;
+  lengths_are =
+      ap (λ ls. ls ++ lengths_through text changes) now.lengths_are
+      ∙ (ap (λ ls. prefix_lengths held ++ ls) (ap (λ t. lengths_through t changes) now.text_is ∙ can.lengths) ∙ sym (prefix_lengths-append held made));
+}
 
 -- numbers in the bounds of their types
 pub edit_is_small : (limits : LimitNumbers) (held : List Event) (agent : List ℕ) (edit : Edit) → IsKept limits held [] → limits.events ≤ 16777216 → edit_refusal limits held agent edit ≡ None

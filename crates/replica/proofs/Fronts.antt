@@ -76,9 +76,6 @@ front_of front (Some ruling) events h = (h.0 ∷ h.1, h.2)
 front_takes : (front events : List Event) → IsFront front events → take (length front) events ≡ front
 front_takes front events h = ap (take (length front)) h.1 ∙ take-append_seam front h.0
 
-front_short : (front events : List Event) → IsFront front events → length front ≤ length events
-front_short front events h = omega (arith, ap length h.1, length-append front h.0)
-
 -- the mark of a front is that of the front taken again
 pub tail_marks : (tail : TailMark) (old new : List Event) → tail ≡ mark_of old → IsFront old new → tail ≡ mark_of (take tail.count new)
 tail_marks tail old new marked front = marked ∙ ap mark_of (sym (ap (λ (t : TailMark). take t.count new) marked ∙ front_takes old new front))
@@ -97,14 +94,6 @@ bad_behind front events r h none =
     ap (first_bad_after []) h.2 ∙ behind_good [] front (h.0 ∷ h.1) ((good_has_no_bad front).1 none)
     ∙ ap (λ (q : Ruling). cond (is_verdict_good q) (first_bad_after (front ++ h.0 ∷ []) h.1) (Some (record { position = length front; verdict = q }))) next
     ∙ ap (λ b. cond b (first_bad_after (front ++ h.0 ∷ []) h.1) (Some (record { position = length front; verdict = r }))) h.4
-
--- the first n of the events, where so many are admitted
-pub front_at : (graph events : List Event) (r : Option Ruling) (n : ℕ) → n ≡ length graph → IsAdmittedFront graph r events → (n ≤ length events) × IsAdmittedFront (take n events) r events
-front_at graph events r n same h =
-    let front = front_of graph r events h in (
-      omega (arith, same, front_short graph events front),
-      subst (λ (g : List Event). IsAdmittedFront g r events) (sym (ap (λ k. take k events) same ∙ front_takes graph events front)) h,
-    )
 
 -- The events of a loop.
 next_event : (events : List Event) (i : ℕ) (e : Event) → i < length events → e ≡ get_or events i e → drop i events ≡ e ∷ drop (i + 1) events

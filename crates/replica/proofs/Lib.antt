@@ -2,6 +2,10 @@ pub mod Appends
 pub mod Beginnings
 pub mod Chains
 pub mod EditAnswers
+pub mod EditLengths
 pub mod EditOps
 pub mod Fronts
 pub mod HeadLaws
+pub mod LengthLaws
+pub mod LengthSteps
+pub mod Loading

@@ -9,11 +9,13 @@ use Rattle.ew_model.specs.TextLaws.{AllFit}
 use Rattle.ew_model.specs.Kept.{IsKept}
 use Rattle.event_graph.specs.Keeping.{AreAdmittedAfter}
 use Rattle.rope.specs.Lengths.{AllStayShort}
+use Rattle.replica.specs.Lengths.{lengths_after, lengths_through}
 
--- the events made may be held behind the others, and the changes make their text
+-- the events made may be held behind the others, and the changes make their text, of the same length after each
 pub record CanAppend (limits : LimitNumbers) (held made : List Event) (changes : List TextOp) : Type 0 where
   pub kept : IsKept limits (held ++ made) []
   pub admitted : AreAdmittedAfter held made
   pub fit : AllFit (text_of held) changes
   pub short : AllStayShort (text_of held) changes
+  pub lengths : lengths_through (text_of held) changes ≡ lengths_after held made
   pub text : changed_by_all changes (text_of held) ≡ text_of (held ++ made)

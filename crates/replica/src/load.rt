@@ -1,48 +1,64 @@
-//! What the plain program tells of a list of events: the first bad one by its index, and the text.
+//! From events to what a replica keeps of them.
 
-ghost use Rattle.std.specs.Prelude.{◌≡◌, ◌≤◌, ◌<◌, ◌^◌, length, None, IfOk, OnOk, IfErr};
+ghost use Rattle.std.specs.Prelude.{◌≡◌, ◌+◌, ◌≤◌, [], length, None, option_map, IfOk, OnOk, IfErr};
+ghost use Rattle.ew_model.specs.Operations.{operations};
 ghost use Rattle.ew_model.specs.Texts.{text_of};
-ghost use Rattle.ew_model.specs.Verdicts as model;
+ghost use Rattle.ew_model.specs.Touches.{touches};
+ghost use Rattle.ew_model.specs.Verdicts.{first_bad};
+ghost use Rattle.transform.specs.Walking.{bad_at, walked_of};
 ghost use Rattle.replica.specs.Answers.{TellsBad};
+ghost use Rattle.replica.specs.Lengths.{prefix_lengths};
 
+use crate::admit::admit_front;
 use crate::fault::LoadFault;
+use crate::lengths::written;
+use event_graph::Graph;
 use ew_model::NoMem;
 use ew_model::event::Event;
-use plain_history::{first_bad, text_of};
+use ew_model::steps::Steps;
+use ew_model::verdict::Verdict;
 use rope::Rope;
 use std::alloc::Global;
+use std::sync::ledger::Ledger;
+use transform::{State, Walk, walk};
 
-/// Tells the first event that isn't good behind those before it.
-pub fn check(alloc: Global, events: &[Event]) -> Result<(), LoadFault>
-    requires { length events.now < 2 ^ 32 }
-    ensures good { OnOk result (model.first_bad events.now ≡ None) }
-    ensures bad { IfErr result (TellsBad events.now) }
-{
-    match first_bad(alloc, events)? {
-        None => Ok(()),
-        Some((position, verdict)) => Err(LoadFault::BadEvent { position, verdict }),
-    }
-}
-
-/// A rope of the characters.
-fn rope_of(alloc: Global, chars: &[char]) -> Result<Rope, NoMem>
-    requires { length chars.now ≤ 16777216 }
-    ensures { IfOk result (λ r. r ≡ chars.now) }
-{
-    let mut rope = Rope::new(alloc)?;
-    for ch in chars {
-        let end = rope.len();
-        rope.insert(end, *ch)?;
-    }
-    Ok(rope)
-}
-
-/// The text of the events, by the plain program.
-pub fn load_text(alloc: Global, events: &[Event]) -> Result<Rope, NoMem>
-    requires good { model.IsGood events.now }
+/// Takes in the events, and answers their text, and how long it is after each; or tells the first event that isn't good
+/// behind those before it. That is where the walk over the admitted events stops, or else the one that isn't admitted.
+pub fn load<L: Ledger>(
+    alloc: Global,
+    graph: &mut Graph,
+    events: &[Event],
+    steps: &mut Steps<L>,
+) -> Result<(Rope, Vec<u32>), LoadFault>
+    requires none { graph.old ≡ [] }
     requires few { length events.now ≤ 16777216 }
-    ensures { IfOk result (λ r. r ≡ text_of events.now) }
+    ensures good { OnOk result (first_bad events.now ≡ None) }
+    ensures graph { OnOk result (graph.new ≡ events.now) }
+    ensures text { IfOk result (λ made. made.0 ≡ text_of events.now) }
+    ensures lengths { IfOk result (λ made. made.1.items ≡ prefix_lengths events.now) }
+    ensures bad { IfErr result (TellsBad events.now) }
+    ensures touches { steps.new ≤ steps.old + touches events.now 0 }
 {
-    let text = text_of(alloc, events)?;
-    rope_of(alloc, text.as_slice())
+    let refused = admit_front(graph, events)?;
+    let walked = walk_all(alloc, graph, steps)?;
+    if let Some((position, len)) = walked.stopped {
+        let verdict = Verdict::OutOfRange { len };
+        return Err(LoadFault::BadEvent { position, verdict });
+    }
+    if let Some(verdict) = refused {
+        let position = graph.count();
+        return Err(LoadFault::BadEvent { position, verdict });
+    }
+    let made = written(alloc, &walked.ops)?;
+    Ok(made)
+}
+
+/// Walks over all events of a graph.
+fn walk_all<L: Ledger>(alloc: Global, graph: &Graph, steps: &mut Steps<L>) -> Result<Walk, NoMem>
+    ensures stopped { IfOk result (λ w. option_map bad_at w.stopped ≡ first_bad graph.now) }
+    ensures ops { IfOk result (λ w. w.ops.items ≡ operations (walked_of graph.now w.stopped)) }
+    ensures touches { steps.new ≤ steps.old + touches graph.now 0 }
+{
+    let mut state = State::base(alloc, 0)?;
+    walk(alloc, graph, &mut state, 0, 0, steps)
 }

@@ -1,6 +1,6 @@
 //! The replica itself.
 
-ghost use Rattle.std.specs.Prelude.{◌≡◌, ◌+◌, ◌≤◌, ◌<◌, [], ◌++◌, length, None, false, map, IfOk, OnOk, OnErr, encode_utf8_all};
+ghost use Rattle.std.specs.Prelude.{◌≡◌, ◌+◌, ◌≤◌, ◌<◌, [], ◌++◌, length, take, None, false, IfOk, OnOk, OnErr, encode_utf8_all};
 ghost use Rattle.std.specs.Option.{option_and_then};
 ghost use Rattle.std.specs.Str.{chars};
 ghost use Rattle.ew_model.specs.Ancestors.{heads};
@@ -10,8 +10,8 @@ ghost use Rattle.ew_model.specs.Ids.{id_cmp};
 ghost use Rattle.ew_model.specs.File.{IsWritable};
 ghost use Rattle.ew_model.specs.Kept.{IsKept, is_awaited};
 ghost use Rattle.ew_model.specs.Sorting.{sort_by};
-ghost use Rattle.ew_model.specs.TextLaws.{own_change};
 ghost use Rattle.ew_model.specs.Texts.{text_of};
+ghost use Rattle.ew_model.specs.Touches.{touches};
 ghost use Rattle.ew_model.specs.Verdicts.{IsGood};
 ghost use Rattle.replica.specs.Answers.{EditsBy, Loads, refusal_of};
 ghost use Rattle.replica.specs.Appending.{CanAppend};
@@ -19,12 +19,12 @@ ghost use Rattle.replica.specs.Editing.{edit_view};
 ghost use Rattle.replica.specs.Keeping.{head_positions};
 ghost use Rattle.replica.specs.Refusing.{refusal_by};
 
-use crate::admit::{extend, load_graph};
+use crate::admit::extend;
 use crate::edit::{Edit, changes, characters};
 use crate::fault::{EditFault, LoadFault};
 use crate::heads::head_ids;
 use crate::listed::listed;
-use crate::load::load_text;
+use crate::load::load;
 use crate::made::events_by;
 use event_graph::Graph;
 use ew_model::NoMem;
@@ -49,6 +49,8 @@ pub struct Replica {
     limits: Limits,
     graph: Graph,
     text: Rope,
+    /// Number i is how many characters the text of the first i + 1 events has.
+    lengths: Vec<u32>,
 }
 
 impl Model for Replica {
@@ -60,7 +62,7 @@ impl Model for Replica {
 
     ghost view = { λ r. record { limits = r.limits; held = r.graph; waiting = [] } };
 
-    ghost invariant = { λ r. IsUpToDate r.limits r.graph r.text };
+    ghost invariant = { λ r. IsUpToDate r.limits r.graph r.text r.lengths.items };
 }
 
 impl Replica {
@@ -68,17 +70,19 @@ impl Replica {
     pub fn new(alloc: Global, limits: Limits) -> Result<Replica, NoMem>
         ensures { IfOk result (λ r. r ≡ record { limits = limits; held = []; waiting = [] }) }
     {
-        let graph = Graph::new(alloc)?;
         let text = Rope::new(alloc)?;
+        let graph = Graph::new(alloc)?;
         Ok(Replica {
             alloc,
             limits,
             graph,
             text,
+            lengths: Vec::new(alloc),
         })
     }
 
-    /// A replica of the events, or the first that isn't good behind those before it.
+    /// A replica of the events, or the first that isn't good behind those before it. The steps taken are at most the touches of
+    /// the events.
     pub fn from_events<L: Ledger>(
         alloc: Global,
         events: Vec<Event>,
@@ -87,17 +91,17 @@ impl Replica {
     ) -> Result<Replica, LoadFault>
         requires { length events.items ≤ limits.events }
         ensures loads { Loads events.items limits result }
-        ensures steps { steps.new ≡ steps.old }
+        ensures touches { steps.new ≤ steps.old + touches events.items 0 }
     {
-        let _ = steps;
         let _most = limits.events();
-        let graph = load_graph(alloc, events.as_slice())?;
-        let text = load_text(alloc, events.as_slice())?;
+        let mut graph = Graph::new(alloc)?;
+        let (text, lengths) = load(alloc, &mut graph, &events, steps)?;
         Ok(Replica {
             alloc,
             limits,
             graph,
             text,
+            lengths,
         })
     }
 
@@ -115,6 +119,17 @@ impl Replica {
         ensures { result ≡ length (text_of self.now.held) }
     {
         self.text.len()
+    }
+
+    /// How many characters the text of the first `count` events has.
+    pub fn length_at(&self, count: u32) -> u32
+        requires { count ≤ length self.now.held }
+        ensures { result ≡ length (text_of (take count self.now.held)) }
+    {
+        match count.checked_sub(1) {
+            Some(last) => self.lengths[last as usize],
+            None => 0,
+        }
     }
 
     /// The positions of the heads among the events held, rising.
@@ -277,7 +292,13 @@ impl Replica {
         ensures err { OnErr result (self.new ≡ self.old) }
     {
         let _most = self.limits.events();
-        extend(&mut self.graph, &mut self.text, made, changes)?;
+        extend(
+            &mut self.graph,
+            &mut self.text,
+            &mut self.lengths,
+            made,
+            changes,
+        )?;
         Ok(made.len() as u32)
     }
 }

@@ -13,23 +13,68 @@ use ew_model::steps::Steps;
 use ew_model::verdict::Verdict;
 use std::alloc::Global;
 use std::marker::Brand;
+use std::process::Abort;
 use std::sync::ledger::{Blank, Ledger};
 use std::test::Fail;
 
-fn event(
-    alloc: Global,
-    agent: Name,
-    seq: u32,
-    parents: &[Id],
-    at: u32,
-    ch: char,
-) -> Result<Event, NoMem> {
-    let parents = Parents::from_vec(Vec::from_slice(alloc, parents)?);
-    Ok(Event {
-        id: Id { agent, seq },
+/// An event in short: the letter of its agent, its number, those of its parents, and what it does.
+#[derive(Clone, Copy)]
+struct Short<'a> {
+    id: (u8, u32),
+    parents: &'a [(u8, u32)],
+    op: Op,
+}
+
+/// An event that inserts.
+fn ins<'a>(letter: u8, seq: u32, parents: &'a [(u8, u32)], at: u32, ch: char) -> Short<'a> {
+    Short {
+        id: (letter, seq),
         parents,
         op: Op::Ins { at, ch },
+    }
+}
+
+/// An event that deletes.
+fn del<'a>(letter: u8, seq: u32, parents: &'a [(u8, u32)], at: u32) -> Short<'a> {
+    Short {
+        id: (letter, seq),
+        parents,
+        op: Op::Del { at },
+    }
+}
+
+fn id(letter: u8, seq: u32) -> Result<Id, NoMem> {
+    let Ok(agent) = Name::read(&[letter]) else {
+        return Err(NoMem);
+    };
+    Ok(Id { agent, seq })
+}
+
+fn ids(alloc: Global, pairs: &[(u8, u32)]) -> Result<Vec<Id>, NoMem> {
+    let mut ids = Vec::new(alloc);
+    for (letter, seq) in pairs {
+        ids.push(id(*letter, *seq)?)?;
+    }
+    Ok(ids)
+}
+
+fn event(alloc: Global, short: &Short<'_>) -> Result<Event, NoMem> {
+    let (letter, seq) = short.id;
+    Ok(Event {
+        id: id(letter, seq)?,
+        parents: Parents::from_vec(ids(alloc, short.parents)?),
+        op: short.op,
     })
+}
+
+fn events(alloc: Global, rows: &[Short<'_>]) -> Result<Vec<Event>, NoMem>
+    ensures { IfOk result (λ v. length v.items ≡ length rows.now) }
+{
+    let mut events = Vec::new(alloc);
+    for row in rows {
+        events.push(event(alloc, row)?)?;
+    }
+    Ok(events)
 }
 
 fn load_by<L: Ledger>(alloc: Global, events: Vec<Event>, blank: Blank) -> Result<Replica, LoadFault>
@@ -43,18 +88,84 @@ fn load_by<L: Ledger>(alloc: Global, events: Vec<Event>, blank: Blank) -> Result
     Replica::from_events(alloc, events, Limits::program(), &mut steps)
 }
 
-fn load(alloc: Global, events: Vec<Event>) -> Result<Replica, LoadFault>
-    requires { length events.items ≤ 1000000 }
+fn load(alloc: Global, rows: &[Short<'_>]) -> Result<Replica, LoadFault>
+    requires { length rows.now ≤ 1000 }
     ensures { IfOk result (λ r. r.waiting ≡ []) }
 {
+    let events = events(alloc, rows)?;
     load_by::<Brand>(alloc, events, Blank::new(1))
 }
 
-fn insert_by<L: Ledger>(
+/// Events are loaded, or this is told.
+fn expect_told(rt: &impl Abort, alloc: Global, rows: &[Short<'_>], told: Option<LoadFault>)
+    requires { length rows.now ≤ 1000 }
+{
+    assert_eq!(rt; load(alloc, rows).err(), told);
+}
+
+/// What a replica has.
+#[derive(Clone, Copy)]
+struct Held<'a> {
+    text: &'a str,
+    len: u32,
+    /// How long the text is after each event.
+    lengths: &'a [u32],
+    /// The positions of the heads, rising.
+    heads: &'a [u32],
+    /// The ids of the heads, ascending.
+    ids: &'a [(u8, u32)],
+}
+
+fn lengths(alloc: Global, replica: &Replica) -> Result<Vec<u32>, NoMem> {
+    let mut lengths = Vec::new(alloc);
+    for last in 0..replica.count() {
+        lengths.push(replica.length_at(last + 1))?;
+    }
+    Ok(lengths)
+}
+
+fn expect_held(
+    rt: &impl Abort,
+    alloc: Global,
+    replica: &Replica,
+    held: &Held<'_>,
+) -> Result<(), NoMem> {
+    assert_eq!(rt; replica.text()?.as_slice(), held.text.as_bytes());
+    assert_eq!(rt; replica.len(), held.len);
+    assert_eq!(rt; replica.length_at(0), 0);
+    assert_eq!(rt; lengths(alloc, replica)?.as_slice(), held.lengths);
+    assert_eq!(rt; replica.heads(), held.heads);
+    let ids = ids(alloc, held.ids)?;
+    assert_eq!(rt; replica.head_ids()?.as_slice(), ids.as_slice());
+    Ok(())
+}
+
+fn expect_loaded(
+    rt: &impl Abort,
+    alloc: Global,
+    rows: &[Short<'_>],
+    held: &Held<'_>,
+) -> Result<(), Fail>
+    requires { length rows.now ≤ 1000 }
+{
+    let replica = load(alloc, rows)?;
+    expect_held(rt, alloc, &replica, held)?;
+    Ok(())
+}
+
+#[derive(Clone, Copy)]
+enum Edit<'a> {
+    Ins(u32, &'a str),
+    Del(u32, u32),
+}
+
+/// An edit, and what is answered to it.
+type Row<'a> = (Edit<'a>, Result<u32, EditFault>);
+
+fn edit_by<L: Ledger>(
     replica: &mut Replica,
     agent: Name,
-    at: u32,
-    text: &[u8],
+    edit: &Edit<'_>,
     blank: Blank,
 ) -> Result<u32, EditFault>
     requires name { blank.name ≡ L.name }
@@ -64,188 +175,235 @@ fn insert_by<L: Ledger>(
     ensures { replica.new.waiting ≡ [] }
 {
     let mut steps: Steps<L> = Steps::new(blank);
-    match str::from_utf8(text) {
-        Ok(text) => replica.insert(agent, at, text, &mut steps),
-        Err(_) => Ok(0),
+    match edit {
+        Edit::Ins(at, text) => replica.insert(agent, *at, text, &mut steps),
+        Edit::Del(at, n) => replica.delete(agent, *at, *n, &mut steps),
     }
 }
 
-fn insert(replica: &mut Replica, agent: Name, at: u32, text: &[u8]) -> Result<u32, EditFault>
+/// The agent `a` does the edits, each of which is answered as it must.
+fn edit_all(rt: &impl Abort, replica: &mut Replica, rows: &[Row<'_>]) -> Result<(), NoMem>
     requires { replica.old.waiting ≡ [] }
-    ensures { replica.new.waiting ≡ [] }
 {
-    insert_by::<Brand>(replica, agent, at, text, Blank::new(1))
+    let agent = id(b'a', 0)?.agent;
+    for (edit, answer) in rows {
+        let answered = edit_by::<Brand>(replica, agent, edit, Blank::new(1));
+        assert_eq!(rt; answered, *answer);
+    }
+    Ok(())
 }
 
-fn delete_by<L: Ledger>(
+fn expect_then(
+    rt: &impl Abort,
+    alloc: Global,
     replica: &mut Replica,
-    agent: Name,
-    at: u32,
-    n: u32,
-    blank: Blank,
-) -> Result<u32, EditFault>
-    requires name { blank.name ≡ L.name }
-    requires parts { blank.parts ≡ L.parts }
-    requires some { 0 < blank.parts }
-    requires none_wait { replica.old.waiting ≡ [] }
-    ensures { replica.new.waiting ≡ [] }
-{
-    let mut steps: Steps<L> = Steps::new(blank);
-    replica.delete(agent, at, n, &mut steps)
-}
-
-fn delete(replica: &mut Replica, agent: Name, at: u32, n: u32) -> Result<u32, EditFault>
+    rows: &[Row<'_>],
+    held: &Held<'_>,
+) -> Result<(), NoMem>
     requires { replica.old.waiting ≡ [] }
-    ensures { replica.new.waiting ≡ [] }
 {
-    delete_by::<Brand>(replica, agent, at, n, Blank::new(1))
+    edit_all(rt, replica, rows)?;
+    expect_held(rt, alloc, replica, held)
 }
 
-/// Three events that put a character each.
-fn three(alloc: Global, x: Event, y: Event, z: Event) -> Result<Vec<Event>, NoMem>
-    ensures { IfOk result (λ v. length v.items ≤ 1000000) }
-{
-    let mut events = Vec::new(alloc);
-    events.push(x)?;
-    events.push(y)?;
-    events.push(z)?;
-    Ok(events)
+/// A new replica does the edits.
+fn expect_edited(
+    rt: &impl Abort,
+    alloc: Global,
+    limits: Limits,
+    rows: &[Row<'_>],
+    held: &Held<'_>,
+) -> Result<(), Fail> {
+    let mut replica = Replica::new(alloc, limits)?;
+    expect_then(rt, alloc, &mut replica, rows, held)?;
+    Ok(())
 }
 
 #[test]
-fn an_index_behind_the_text_is_told(rt: HostRuntime) -> Result<(), Fail> {
+fn an_index_behind_the_text_is_told(rt: HostRuntime) {
     let alloc = rt.alloc();
-    let a = Name::read(b"a")?;
-    let inside = vec![in alloc; event(alloc, a, 0, &[], 0, 'x')?]?;
-    assert!(rt; load(alloc, inside).is_ok());
-    let outside = vec![in alloc; event(alloc, a, 0, &[], 1, 'x')?]?;
+    expect_told(&rt, alloc, &[ins(b'a', 0, &[], 0, 'x')], None);
     let told = LoadFault::BadEvent {
         position: 0,
         verdict: Verdict::OutOfRange { len: 0 },
     };
-    assert_eq!(rt; load(alloc, outside).err(), Some(told));
-    Ok(())
+    expect_told(&rt, alloc, &[ins(b'a', 0, &[], 1, 'x')], Some(told));
 }
 
 #[test]
-fn parents_that_are_not_reduced_are_told(rt: HostRuntime) -> Result<(), Fail> {
-    let alloc = rt.alloc();
-    let a = Name::read(b"a")?;
-    let first = Id { agent: a, seq: 0 };
-    let second = Id { agent: a, seq: 1 };
-    let x = event(alloc, a, 0, &[], 0, 'a')?;
-    let y = event(alloc, a, 1, &[first], 1, 'b')?;
-    let z = event(alloc, Name::read(b"b")?, 0, &[first, second], 0, 'X')?;
+fn parents_that_are_not_reduced_are_told(rt: HostRuntime) {
+    let rows = [
+        ins(b'a', 0, &[], 0, 'a'),
+        ins(b'a', 1, &[(b'a', 0)], 1, 'b'),
+        ins(b'b', 0, &[(b'a', 0), (b'a', 1)], 0, 'X'),
+    ];
     let told = LoadFault::BadEvent {
         position: 2,
         verdict: Verdict::NotReduced,
     };
-    assert_eq!(rt; load(alloc, three(alloc, x, y, z)?).err(), Some(told));
-    Ok(())
+    expect_told(&rt, rt.alloc(), &rows, Some(told));
 }
 
 #[test]
-fn a_number_that_is_skipped_is_told(rt: HostRuntime) -> Result<(), Fail> {
-    let alloc = rt.alloc();
-    let a = Name::read(b"a")?;
-    let b = Name::read(b"b")?;
-    let first = Id { agent: a, seq: 0 };
-    let x = event(alloc, a, 0, &[], 0, 'a')?;
-    let y = event(alloc, b, 0, &[first], 1, 'b')?;
-    let z = event(alloc, b, 1, &[first], 0, 'X')?;
+fn a_number_that_is_skipped_is_told(rt: HostRuntime) {
+    let rows = [
+        ins(b'a', 0, &[], 0, 'a'),
+        ins(b'b', 0, &[(b'a', 0)], 1, 'b'),
+        ins(b'b', 1, &[(b'a', 0)], 0, 'X'),
+    ];
     let told = LoadFault::BadEvent {
         position: 2,
         verdict: Verdict::Skipped,
     };
-    assert_eq!(rt; load(alloc, three(alloc, x, y, z)?).err(), Some(told));
-    Ok(())
+    expect_told(&rt, rt.alloc(), &rows, Some(told));
+}
+
+/// The third event is out of range in the text at its parents, which has one character, and not in the whole of two. The
+/// fourth skips a number.
+#[test]
+fn the_first_bad_event_is_told_whatever_its_fault(rt: HostRuntime) {
+    let rows = [
+        ins(b'a', 0, &[], 0, 'a'),
+        ins(b'a', 1, &[(b'a', 0)], 1, 'b'),
+        del(b'b', 0, &[(b'a', 0)], 1),
+        ins(b'c', 7, &[], 0, 'X'),
+    ];
+    let told = LoadFault::BadEvent {
+        position: 2,
+        verdict: Verdict::OutOfRange { len: 1 },
+    };
+    expect_told(&rt, rt.alloc(), &rows, Some(told));
 }
 
 #[test]
+fn a_diamond_is_loaded(rt: HostRuntime) -> Result<(), Fail> {
+    let rows = [
+        ins(b'a', 0, &[], 0, 'a'),
+        ins(b'b', 0, &[(b'a', 0)], 1, 'b'),
+        ins(b'c', 0, &[(b'a', 0)], 1, 'c'),
+        ins(b'd', 0, &[(b'b', 0), (b'c', 0)], 3, 'd'),
+    ];
+    let held = Held {
+        text: "abcd",
+        len: 4,
+        lengths: &[1, 2, 3, 4],
+        heads: &[3],
+        ids: &[(b'd', 0)],
+    };
+    expect_loaded(&rt, rt.alloc(), &rows, &held)
+}
+
+#[test]
+fn a_character_that_two_delete_is_gone_once(rt: HostRuntime) -> Result<(), Fail> {
+    let rows = [
+        ins(b'a', 0, &[], 0, 'a'),
+        ins(b'a', 1, &[(b'a', 0)], 1, 'b'),
+        del(b'c', 0, &[(b'a', 1)], 0),
+        del(b'b', 0, &[(b'a', 1)], 0),
+    ];
+    let held = Held {
+        text: "b",
+        len: 1,
+        lengths: &[1, 2, 1, 1],
+        heads: &[2, 3],
+        ids: &[(b'b', 0), (b'c', 0)],
+    };
+    expect_loaded(&rt, rt.alloc(), &rows, &held)
+}
+
+/// Three characters, typed in a row.
+const TYPED: Held<'static> = Held {
+    text: "abc",
+    len: 3,
+    lengths: &[1, 2, 3],
+    heads: &[2],
+    ids: &[(b'a', 2)],
+};
+
+#[test]
 fn typed_text_is_held(rt: HostRuntime) -> Result<(), Fail> {
-    let alloc = rt.alloc();
-    let agent = Name::read(b"a")?;
-    let mut replica = Replica::new(alloc, Limits::program())?;
-    assert_eq!(rt; insert(&mut replica, agent, 0, b"abc"), Ok(3));
-    assert_eq!(rt; replica.text()?.as_slice(), b"abc".as_slice());
-    assert_eq!(rt; replica.heads(), [2].as_slice());
-    let ids = replica.head_ids()?;
-    assert_eq!(rt; ids.as_slice(), [Id { agent, seq: 2 }].as_slice());
-    Ok(())
+    let rows = [(Edit::Ins(0, "abc"), Ok(3))];
+    expect_edited(&rt, rt.alloc(), Limits::program(), &rows, &TYPED)
 }
 
 #[test]
 fn deleted_text_is_gone(rt: HostRuntime) -> Result<(), Fail> {
-    let agent = Name::read(b"a")?;
-    let mut replica = Replica::new(rt.alloc(), Limits::program())?;
-    assert_eq!(rt; insert(&mut replica, agent, 0, b"abc"), Ok(3));
-    assert_eq!(rt; delete(&mut replica, agent, 0, 2), Ok(2));
-    assert_eq!(rt; replica.text()?.as_slice(), b"c".as_slice());
-    Ok(())
+    let rows = [(Edit::Ins(0, "abc"), Ok(3)), (Edit::Del(0, 2), Ok(2))];
+    let held = Held {
+        text: "c",
+        len: 1,
+        lengths: &[1, 2, 3, 2, 1],
+        heads: &[4],
+        ids: &[(b'a', 4)],
+    };
+    expect_edited(&rt, rt.alloc(), Limits::program(), &rows, &held)
 }
 
 #[test]
 fn an_edit_behind_the_text_is_refused(rt: HostRuntime) -> Result<(), Fail> {
-    let agent = Name::read(b"a")?;
-    let mut replica = Replica::new(rt.alloc(), Limits::program())?;
-    assert_eq!(rt; insert(&mut replica, agent, 0, b"abc"), Ok(3));
-    let told = EditFault::OutOfRange { len: 3 };
-    assert_eq!(rt; insert(&mut replica, agent, 4, b"x"), Err(told));
-    assert_eq!(rt; delete(&mut replica, agent, 3, 0), Ok(0));
-    Ok(())
+    let rows = [
+        (Edit::Ins(0, "abc"), Ok(3)),
+        (Edit::Ins(4, "x"), Err(EditFault::OutOfRange { len: 3 })),
+        (Edit::Del(3, 0), Ok(0)),
+    ];
+    expect_edited(&rt, rt.alloc(), Limits::program(), &rows, &TYPED)
 }
 
 #[test]
 fn scalars_are_counted(rt: HostRuntime) -> Result<(), Fail> {
-    let agent = Name::read(b"a")?;
-    let mut replica = Replica::new(rt.alloc(), Limits::program())?;
-    assert_eq!(rt;
-        insert(&mut replica, agent, 0, &[0xf4, 0x8f, 0xbf, 0xbf]),
-        Ok(1)
-    );
-    assert_eq!(rt; insert(&mut replica, agent, 1, b"!"), Ok(1));
-    assert_eq!(rt; replica.len(), 2);
-    assert_eq!(rt;
-        replica.text()?.as_slice(),
-        [0xf4, 0x8f, 0xbf, 0xbf, 0x21].as_slice()
-    );
-    Ok(())
+    let rows = [
+        (Edit::Ins(0, "\u{10ffff}"), Ok(1)),
+        (Edit::Ins(1, "!"), Ok(1)),
+    ];
+    let held = Held {
+        text: "\u{10ffff}!",
+        len: 2,
+        lengths: &[1, 2],
+        heads: &[1],
+        ids: &[(b'a', 1)],
+    };
+    expect_edited(&rt, rt.alloc(), Limits::program(), &rows, &held)
 }
 
 #[test]
 fn a_full_history_takes_no_more(rt: HostRuntime) -> Result<(), Fail> {
-    let agent = Name::read(b"a")?;
     let limits = Limits::new(3, 1, 64, 643).ok_or(NoMem)?;
-    let mut replica = Replica::new(rt.alloc(), limits)?;
-    assert_eq!(rt; insert(&mut replica, agent, 0, b"abc"), Ok(3));
-    assert_eq!(rt;
-        insert(&mut replica, agent, 0, b"x"),
-        Err(EditFault::Full { count: 3 })
-    );
-    Ok(())
+    let rows = [
+        (Edit::Ins(0, "abc"), Ok(3)),
+        (Edit::Ins(0, "x"), Err(EditFault::Full { count: 3 })),
+    ];
+    expect_edited(&rt, rt.alloc(), limits, &rows, &TYPED)
 }
 
 /// The first events of seventeen agents, each without parents.
-fn apart(alloc: Global) -> Result<Vec<Event>, Fail>
-    ensures { IfOk result (λ v. length v.items ≤ 1000000) }
+fn apart(alloc: Global) -> Result<Vec<Short<'static>>, NoMem>
+    ensures { IfOk result (λ v. length v.items ≤ 17) }
 {
-    let mut events = Vec::new(alloc);
-    for i in 0..17u8 {
-        let agent = Name::read(&[b'a' + i])?;
-        events.push(event(alloc, agent, 0, &[], 0, 'x')?)?;
+    let mut rows = Vec::new(alloc);
+    for letter in b'a'..b'r' {
+        rows.push(ins(letter, 0, &[], 0, 'x'))?;
     }
-    Ok(events)
+    Ok(rows)
+}
+
+/// The edits are done to what is loaded.
+fn edit_loaded(
+    rt: &impl Abort,
+    alloc: Global,
+    loaded: &[Short<'_>],
+    rows: &[Row<'_>],
+) -> Result<(), Fail>
+    requires { length loaded.now ≤ 1000 }
+{
+    let mut replica = load(alloc, loaded)?;
+    edit_all(rt, &mut replica, rows)?;
+    Ok(())
 }
 
 #[test]
 fn seventeen_heads_are_too_many(rt: HostRuntime) -> Result<(), Fail> {
     let alloc = rt.alloc();
-    let agent = Name::read(b"a")?;
-    let mut replica = load(alloc, apart(alloc)?)?;
-    assert_eq!(rt;
-        insert(&mut replica, agent, 0, b"x"),
-        Err(EditFault::TooManyHeads { heads: 17 })
-    );
-    assert_eq!(rt; insert(&mut replica, agent, 0, b""), Ok(0));
-    Ok(())
+    let told = EditFault::TooManyHeads { heads: 17 };
+    let rows = [(Edit::Ins(0, "x"), Err(told)), (Edit::Ins(0, ""), Ok(0))];
+    edit_loaded(&rt, alloc, &apart(alloc)?, &rows)
 }

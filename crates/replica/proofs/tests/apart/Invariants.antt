@@ -1,5 +1,5 @@
-use Rattle.std.proofs.Common.{◌≤◌, vec_len}
+use Rattle.std.proofs.Common.{◌≤◌, ◌+◌, length}
 use Rattle.replica.proofs.tests.apart.Given as goal
 
-abbrev pub invariant-loop-i : goal.invariant-loop-i
-invariant-loop-i l = vec_len l.events ≤ l.i
+abbrev pub invariant-loop-letter : goal.invariant-loop-letter
+invariant-loop-letter l = length l.rows.items + 97 ≤ l.letter

@@ -1,17 +1,18 @@
-use Rattle.std.proofs.Common.{◌++◌, ℕ, List, sym, subst}
-use Rattle.ew_model.specs.declared.event.Event.{Event}
+use Rattle.std.proofs.Common.{◌++◌, sym, subst}
 use Rattle.ew_model.specs.Kept.{ReplicaState}
+use Rattle.ew_model.specs.Operations.{changed_by_all}
 use Rattle.replica.specs.Appending.{CanAppend}
-use Rattle.replica.specs.Keeping.{IsUpToDate}
+use Rattle.replica.specs.Lengths.{lengths_through}
 use Rattle.replica.proofs.Appends.{appended}
+use Rattle.replica.proofs.Beginnings.{same_kept}
 use Rattle.replica.proofs.state.Replica.append.Goals as goal
 
 -- nothing was changed
 pub invariant_of-self : goal.invariant_of-self
 invariant_of-self c =
     let inside = c.self.inside in
-    subst (λ (es : List Event). IsUpToDate inside.limits es c.extend.new.text) (sym c.in_err-extend.ensures.same_graph)
-    (subst (λ (text : List ℕ). IsUpToDate inside.limits inside.graph text) (sym c.in_err-extend.ensures.same_text) c.self.invariant)
+    let told = c.in_err-extend.ensures in
+    same_kept inside.limits inside.graph _ inside.text _ inside.lengths.items _ told.same_graph told.same_text told.same_lengths c.self.invariant
 
 -- all of it was done
 pub invariant_of-self-2 : goal.invariant_of-self-2
@@ -19,6 +20,7 @@ invariant_of-self-2 c =
     let inside = c.self.inside in
     let made = c.args.made.now in
     let changes = c.args.changes.now in
+    let told = c.in_ok-extend.ensures in
     let can : CanAppend inside.limits inside.graph made changes = subst (λ (s : ReplicaState). CanAppend s.limits s.held made changes) (sym c.self.view_is) c.requires in
-    subst (λ (es : List Event). IsUpToDate inside.limits es c.extend.new.text) (sym c.in_ok-extend.ensures.graph)
-    (subst (λ (text : List ℕ). IsUpToDate inside.limits (inside.graph ++ made) text) (sym c.in_ok-extend.ensures.text) (appended inside.limits inside.graph made changes inside.text c.self.invariant can))
+    same_kept inside.limits (inside.graph ++ made) _ (changed_by_all changes inside.text) _ (inside.lengths.items ++ lengths_through inside.text changes) _ told.graph told.text told.lengths
+    (appended inside.limits inside.graph made changes inside.text inside.lengths.items c.self.invariant can)

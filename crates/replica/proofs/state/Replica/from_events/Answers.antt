@@ -1,13 +1,12 @@
-use Rattle.std.proofs.Common.{◌≡◌, ◌∙◌, None, ap, sym}
-use Rattle.ew_model.specs.Verdicts.{first_bad}
-use Rattle.replica.proofs.Beginnings.{good_from_none_bad, loaded}
+use Rattle.std.proofs.Common.{◌≤◌, length, ap, arith}
+use Rattle.ew_model.specs.Texts.{text_of}
+use Rattle.replica.specs.Lengths.{prefix_lengths}
+use Rattle.replica.proofs.Beginnings.{loaded, same_kept}
 use Rattle.replica.proofs.state.Replica.from_events.Goals as goal
-
-pub load_text-requires-clause-good : goal.load_text-requires-clause-good
-load_text-requires-clause-good g c =
-    let none : first_bad c.as_slice.result.now ≡ None = c.in_ok-graph.ensures.good in
-    good_from_none_bad c.as_slice-2.result.now (ap first_bad (c.as_slice-2.ensures.value ∙ sym c.as_slice.ensures.value) ∙ none)
 
 pub invariant_of-result : goal.invariant_of-result
 invariant_of-result g c =
-    loaded c.args.limits c.args.events.items c.in_ok-graph.graph c.as_slice.result.now c.as_slice-2.result.now c.in_ok-text.text c.as_slice.ensures.value c.as_slice-2.ensures.value c.in_ok-graph.ensures.graph c.in_ok-graph.ensures.good c.requires c.in_ok-text.ensures
+    let events = c.deref.result.now in
+    let few : length events ≤ c.args.limits.events = omega (arith, c.requires, ap length c.deref.ensures.value) in
+    let told = c.in_ok-text.ensures in
+    same_kept c.args.limits events c.load.new.graph (text_of events) c.in_ok-text.text (prefix_lengths events) c.in_ok-text.lengths.items told.graph told.text told.lengths (loaded c.args.limits events told.good few)

@@ -1,0 +1,68 @@
+//! A text, and how long it was after each operation.
+
+ghost use Rattle.std.specs.Prelude.{◌≡◌, ℕ, ◌+◌, ◌<◌, ◌^◌, [], ◌++◌, List, length, take, IfOk, OnOk, OnErr};
+ghost use Rattle.ew_model.specs.Operations.{changed_by, changed_by_all};
+ghost use Rattle.ew_model.specs.TextLaws.{Fits, AllFit};
+ghost use Rattle.rope.specs.Lengths.{AllStayShort};
+ghost use Rattle.replica.specs.Lengths.{lengths_through};
+
+use ew_model::NoMem;
+use ew_model::text_op::TextOp;
+use rope::Rope;
+use std::alloc::Global;
+
+/// The text that the operations make of the empty one, and how long it is after each.
+pub fn written(alloc: Global, ops: &[TextOp]) -> Result<(Rope, Vec<u32>), NoMem>
+    requires fit { AllFit [] ops.now }
+    requires short { AllStayShort [] ops.now }
+    ensures text { IfOk result (λ made. made.0 ≡ changed_by_all ops.now []) }
+    ensures lengths { IfOk result (λ made. made.1.items ≡ lengths_through [] ops.now) }
+{
+    let mut text = Rope::new(alloc)?;
+    let mut lengths = Vec::new(alloc);
+    write(&mut text, &mut lengths, ops)?;
+    Ok((text, lengths))
+}
+
+/// Does the operations to the text, and puts how long it is after each behind the other lengths. Where memory is wanting,
+/// the text is as before, and some of the lengths may be there.
+pub fn write(text: &mut Rope, lengths: &mut Vec<u32>, ops: &[TextOp]) -> Result<(), NoMem>
+    requires fit { AllFit text.old ops.now }
+    requires short { AllStayShort text.old ops.now }
+    ensures text { OnOk result (text.new ≡ changed_by_all ops.now text.old) }
+    ensures lengths { OnOk result (lengths.new.items ≡ lengths.old.items ++ lengths_through text.old ops.now) }
+    ensures same_text { OnErr result (text.new ≡ text.old) }
+    ensures front { OnErr result (take (length lengths.old.items) lengths.new.items ≡ lengths.old.items) }
+{
+    push_lengths(lengths, text, ops)?;
+    text.apply(ops)
+}
+
+/// Puts how long the text would be after each of the operations behind the other lengths. Where memory is wanting, some of
+/// them may be there.
+fn push_lengths(lengths: &mut Vec<u32>, text: &Rope, ops: &[TextOp]) -> Result<(), NoMem>
+    requires fit { AllFit text.now ops.now }
+    requires short { AllStayShort text.now ops.now }
+    ensures ok { OnOk result (lengths.new.items ≡ lengths.old.items ++ lengths_through text.now ops.now) }
+    ensures front { OnErr result (take (length lengths.old.items) lengths.new.items ≡ lengths.old.items) }
+{
+    let mut len = text.len();
+    for op in ops {
+        len = length_after(len, op);
+        lengths.push(len)?;
+    }
+    Ok(())
+}
+
+/// How long a text of `len` characters is after an operation.
+fn length_after(len: u32, op: &TextOp) -> u32
+    requires fits { Fits len op.now }
+    requires room { len + 1 < 2 ^ 32 }
+    ensures { (text : List ℕ) → length text ≡ len → result ≡ length (changed_by op.now text) }
+{
+    match op {
+        TextOp::Ins { .. } => len + 1,
+        TextOp::Del { .. } => len - 1,
+        TextOp::Nothing => len,
+    }
+}
