@@ -1,0 +1,5 @@
+use Rattle.std.proofs.Common.{◌≤◌, ◌+◌, length}
+use Rattle.waiting_pool.proofs.tests.settle.Given as goal
+
+abbrev pub invariant-loop : goal.invariant-loop
+invariant-loop l = length l.graph ≤ length l.initial.graph + l.counter
