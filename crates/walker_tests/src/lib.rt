@@ -6,8 +6,12 @@ mod calls;
 #[cfg(test)]
 mod conditions;
 #[cfg(test)]
+mod histories;
+#[cfg(test)]
 mod runs;
 #[cfg(test)]
 mod state_tests;
 #[cfg(test)]
 mod told;
+#[cfg(test)]
+mod walk_tests;
