@@ -41,6 +41,7 @@ pub mod GraphVersions
 pub mod HeadsLaw
 pub mod IdLaws
 pub mod IndexLaw
+pub mod JoinedJudgements
 pub mod JudgeLaws
 pub mod KeptLaws
 pub mod LawRows
@@ -50,6 +51,7 @@ pub mod LimitsKept
 pub mod LineLaws
 pub mod ListTests
 pub mod LocalEdit
+pub mod MergeByAnswers
 pub mod MergeSteps
 pub mod MoveLaws
 pub mod NameLaws
@@ -80,6 +82,7 @@ pub mod RoundSteps
 pub mod Rows
 pub mod RulingLaws
 pub mod RunLaws
+pub mod SameEvents
 pub mod ScriptReading
 pub mod SetLaws
 pub mod SiblingLaws
@@ -87,6 +90,7 @@ pub mod SortedLists
 pub mod SortingLaws
 pub mod StateLaws
 pub mod StemLaws
+pub mod StopLaws
 pub mod SubgraphLaws
 pub mod TableLaws
 pub mod TextLaws

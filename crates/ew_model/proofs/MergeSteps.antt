@@ -40,7 +40,7 @@ same_op (op.Del at) = eq-eqb at at refl
 pub same_event : (e : Event) → event_eq e e ≡ true
 same_event e = λ i. ids_alike.refl e.id i && same_parents e.parents i && same_op e.op i
 
-repeat_row : (b c : Bool) (rows : List (Option Ruling)) → b ≡ true → first_row (then_some b Repeat ∷ then_some c Clash ∷ rows) ≡ Repeat
+pub repeat_row : (b c : Bool) (rows : List (Option Ruling)) → b ≡ true → first_row (then_some b Repeat ∷ then_some c Clash ∷ rows) ≡ Repeat
 repeat_row true c rows h = refl
 repeat_row false c rows h = absurd (false≢true h)
 
@@ -51,19 +51,19 @@ row_between [] false q more h = inl h
 row_between (None ∷ rows) b q more h = row_between rows b q more h
 row_between (Some p ∷ rows) b q more h = inl h
 
-good_or_full : (limits : LimitNumbers) (held : List Event) (e : Event) → ruled held e ≡ Good → (first_row (later_rows limits true held e) ≡ Good) ⊎ (first_row (later_rows limits true held e) ≡ GraphFull)
+pub good_or_full : (limits : LimitNumbers) (held : List Event) (e : Event) → ruled held e ≡ Good → (first_row (later_rows limits true held e) ≡ Good) ⊎ (first_row (later_rows limits true held e) ≡ GraphFull)
 unfolding parent_rows size_rows range_rows
 good_or_full limits held e h = row_between (parent_rows held e) (nat_le limits.events (length held)) GraphFull (range_rows held e) h
 
 -- the first of the events to come, where nothing waits
-first_judged : (limits : LimitNumbers) (held : List Event) (x : Event) (later : List Event) (s : Bool)
+pub first_judged : (limits : LimitNumbers) (held : List Event) (x : Event) (later : List Event) (s : Bool)
     → next_judgement limits true (record { held = held; waiting = []; coming = x ∷ later; is_settling = s })
     ≡ Some (judgement_of limits (record { held = held; waiting = []; coming = later; is_settling = true }) x (first_row (id_rows held [] x ++ later_rows limits true held x)))
 unfolding next_judgement
 first_judged limits held x later true = refl
 first_judged limits held x later false = refl
 
-none_judged : (limits : LimitNumbers) (held : List Event) (s : Bool) → next_judgement limits true (record { held = held; waiting = []; coming = []; is_settling = s }) ≡ None
+pub none_judged : (limits : LimitNumbers) (held : List Event) (s : Bool) → next_judgement limits true (record { held = held; waiting = []; coming = []; is_settling = s }) ≡ None
 unfolding next_judgement
 none_judged limits held true = refl
 none_judged limits held false = refl
@@ -86,18 +86,18 @@ three_ways limits held before x kept good sub right one =
     (cases_Bool (is_held (held ++ []) x.id))
 
 -- what judging the later events does
-record IsTakenIn (U : Event → Type 0) (held later : List Event) (o : Outcome) : Type 0 where
-  in_order : map (λ (a : Answer). a.event) o.answers ≡ later
-  taken : AllByRecursion (λ (a : Answer). is_taken a.ruling ≡ true) o.answers
-  waiting : o.desk.waiting ≡ []
-  old : (z : Event) → Among z held → Among z o.desk.held
-  new : (z : Event) → Among z later → Among z o.desk.held
-  given : (z : Event) → Among z o.desk.held → U z
+pub record IsTakenIn (U : Event → Type 0) (held later : List Event) (o : Outcome) : Type 0 where
+  pub in_order : map (λ (a : Answer). a.event) o.answers ≡ later
+  pub taken : AllByRecursion (λ (a : Answer). is_taken a.ruling ≡ true) o.answers
+  pub waiting : o.desk.waiting ≡ []
+  pub old : (z : Event) → Among z held → Among z o.desk.held
+  pub new : (z : Event) → Among z later → Among z o.desk.held
+  pub given : (z : Event) → Among z o.desk.held → U z
 
-nothing_taken : (U : Event → Type 0) (held : List Event) (s : Bool) → ((z : Event) → Among z held → U z) → IsTakenIn U held [] (record { desk = record { held = held; waiting = []; coming = []; is_settling = s }; answers = [] })
+pub nothing_taken : (U : Event → Type 0) (held : List Event) (s : Bool) → ((z : Event) → Among z held → U z) → IsTakenIn U held [] (record { desk = record { held = held; waiting = []; coming = []; is_settling = s }; answers = [] })
 nothing_taken U held s f = record { in_order = refl; taken = tt; waiting = refl; old = λ z m. m; new = λ z no. absurd no; given = f }
 
-one_taken : (U : Event → Type 0) (held more : List Event) (x : Event) (later : List Event) (r : Ruling) (o : Outcome) → is_taken r ≡ true → ((z : Event) → Among z held → Among z more) → Among x more → IsTakenIn U more later o → IsTakenIn U held (x ∷ later) (with_answer (record { event = x; ruling = r }) o)
+pub one_taken : (U : Event → Type 0) (held more : List Event) (x : Event) (later : List Event) (r : Ruling) (o : Outcome) → is_taken r ≡ true → ((z : Event) → Among z held → Among z more) → Among x more → IsTakenIn U more later o → IsTakenIn U held (x ∷ later) (with_answer (record { event = x; ruling = r }) o)
 one_taken U held more x later r o y sub here t = record {
   in_order = ap (λ (es : List Event). x ∷ es) t.in_order;
   taken = (y, t.taken);

@@ -42,6 +42,7 @@ pub mod Sets
 pub mod Siblings
 pub mod Sorting
 pub mod Sound
+pub mod StopLaws
 pub mod TextLaws
 pub mod Texts
 pub mod TouchLaws

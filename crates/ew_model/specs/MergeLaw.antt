@@ -5,8 +5,8 @@ use Rattle.ew_model.specs.declared.event.Event.{Event}
 use Rattle.ew_model.specs.Sets.{SameElements}
 use Rattle.ew_model.specs.Limits.{LimitNumbers}
 use Rattle.ew_model.specs.Verdicts.{Ruling, IsGood}
-use Rattle.ew_model.specs.Arrival.{Outcome, arrive}
-use Rattle.ew_model.specs.Verdicts.Ruling.{Repeat, Good}
+use Rattle.ew_model.specs.Arrival.{Answer, Outcome, arrive}
+use Rattle.ew_model.specs.Verdicts.Ruling.{Repeat, Clash, GraphFull, Good}
 use Rattle.ew_model.specs.ArrivalLaw.{NoneFull, OneEach}
 
 -- the event is held already, or becomes so
@@ -26,3 +26,18 @@ pub record IsMerged (held events : List Event) (o : Outcome) : Type 0 where
 abbrev pub HistoriesMerge : Type 0
 HistoriesMerge = (limits : LimitNumbers) (held events : List Event) → IsGood held → IsGood events → OneEach (held ++ events)
     → NoneFull (arrive limits held [] events).answers → IsMerged held events (arrive limits held [] events)
+
+-- another event has the id, or the history holds as many events as it may
+abbrev pub is_clash_or_full : Ruling → Bool
+is_clash_or_full Clash = true
+is_clash_or_full GraphFull = true
+is_clash_or_full ruling = false
+
+-- none of the answers says so
+abbrev pub NoneClashes : List Answer → Type 0
+NoneClashes answers = AllByRecursion (λ a. is_clash_or_full a.ruling ≡ false) answers
+
+-- The answers alone tell that it is: where none of them is a clash, and the history isn't full.
+abbrev pub HistoriesMergeUnlessTheyClash : Type 0
+HistoriesMergeUnlessTheyClash = (limits : LimitNumbers) (held events : List Event) → IsGood held → IsGood events → NoneClashes (arrive limits held [] events).answers
+    → IsMerged held events (arrive limits held [] events)

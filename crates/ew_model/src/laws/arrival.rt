@@ -1,9 +1,10 @@
 //! What receiving leaves.
 
 ghost use Rattle.ew_model.specs.ArrivalLaw.{ArrivalAgrees};
-ghost use Rattle.ew_model.specs.MergeLaw.{HistoriesMerge};
+ghost use Rattle.ew_model.specs.MergeLaw.{HistoriesMerge, HistoriesMergeUnlessTheyClash};
 ghost use Rattle.ew_model.specs.ReachLaws.{ArrivalsAppend};
 ghost use Rattle.ew_model.specs.ReceivingLaws.{AncestorsJudge, ArrivalsEnd, ArrivalsKeep, GoodHasNoBad};
+ghost use Rattle.ew_model.specs.StopLaws.{JudgementsAreAFront};
 
 /// Whatever arrives, what is held stays good, no id comes to stand twice, and no list grows too long.
 pub fn law_arrivals()
@@ -26,6 +27,11 @@ pub fn law_merge()
     ensures { HistoriesMerge }
 {}
 
+/// The answers alone tell that it was: where none of them is a clash, and the history isn't full.
+pub fn law_merge_unless_clash()
+    ensures { HistoriesMergeUnlessTheyClash }
+{}
+
 /// Receiving goes on until nothing is left to judge.
 pub fn law_arrivals_end()
     ensures { ArrivalsEnd }
@@ -39,4 +45,10 @@ pub fn law_good()
 /// What was held stays, and what came behind it are the events answered Good, in order.
 pub fn law_appends()
     ensures { ArrivalsAppend }
+{}
+
+/// Where receiving stops between two judgements, what is held and what was answered is a front of what receiving all comes to,
+/// and each received event was judged or is still to come.
+pub fn law_stops()
+    ensures { JudgementsAreAFront }
 {}
