@@ -1,3 +1,10 @@
-pub mod Apart
-pub mod Places
+pub mod Behind
+pub mod Copies
+pub mod Entries
+pub mod First
+pub mod Indexed
+pub mod Listed
+pub mod Notes
+pub mod Order
 pub mod Ready
+pub mod TableChanges

@@ -1,6 +1,5 @@
--- Events whose parents are all held.
-use Rattle.std.proofs.Common.{◌≡◌, Bool, true, false, cond, not, ◌&&◌, List, [], ◌∷◌, find, Option, Some, is_some, refl, sym, ap, ◌∙◌}
-use Rattle.std.specs.List.{list_all}
+-- The earliest event that is ready is taken out by its id.
+use Rattle.std.proofs.Common.{◌≡◌, Bool, true, false, cond, List, [], ◌∷◌, find, Option, Some, None, refl, sym, ap, ◌∙◌}
 use Rattle.std.proofs.lemmas.Bool.{or_parts}
 use Rattle.ew_model.specs.declared.id.Id.{Id}
 use Rattle.ew_model.specs.declared.event.Event.{Event}
@@ -10,25 +9,7 @@ use Rattle.ew_model.specs.Arrival.{is_ready, without_ready}
 use Rattle.ew_model.specs.Kept.{AreApart}
 use Rattle.ew_model.proofs.IdLaws.{is_same_id}
 use Rattle.waiting_pool.specs.Waiting.{without}
-use Rattle.waiting_pool.proofs.Apart.{same_ids}
-
--- one fails, unless all pass
-one_fails : {X : Type 0} (p : X → Bool) (xs : List X) → is_some (find (λ x. not (p x)) xs) ≡ not (list_all p xs)
-one_fails p [] = refl
-one_fails p (x ∷ xs) = at (p x) (one_fails p xs)
-  where
-    at : (b : Bool) → is_some (find (λ y. not (p y)) xs) ≡ not (list_all p xs) → is_some (cond (not b) (Some x) (find (λ y. not (p y)) xs)) ≡ not (b && list_all p xs)
-    at true h = h
-    at false h = refl
-
-same_not : (b c : Bool) → not b ≡ not c → b ≡ c
-same_not true true h = refl
-same_not false false h = refl
-same_not true false h = let no : ⊥ = cc in absurd no
-same_not false true h = let no : ⊥ = cc in absurd no
-
-pub all_pass : {X : Type 0} (p : X → Bool) (xs : List X) (b : Bool) → is_some (find (λ x. not (p x)) xs) ≡ not b → b ≡ list_all p xs
-all_pass p xs b h = same_not b (list_all p xs) (sym h ∙ one_fails p xs)
+use Rattle.waiting_pool.proofs.Entries.{same_ids}
 
 -- an event that is found is held
 held_found_at : (b : Bool) (w e : Event) (found : Option Event) (x : Id) → cond b (Some w) found ≡ Some e → id_eq x w.id ≡ false → (found ≡ Some e → id_eq x e.id ≡ false) → id_eq x e.id ≡ false
@@ -54,3 +35,12 @@ pub ready_taken : (held events : List Event) (e : Event) → AreApart events →
 ready_taken held [] e a f = refl
 ready_taken held (w ∷ events) e a f =
     taken_at (is_ready held w) held w e events f (λ q. held_found held events e w.id q a.0) (λ q. ready_taken held events e a.1 q)
+
+-- where none is ready, all stay
+none_at : (b : Bool) (w : Event) (events less : List Event) (found : Option Event) → cond b (Some w) found ≡ None → (found ≡ None → less ≡ events) → cond b events (w ∷ less) ≡ w ∷ events
+none_at true w events less found q more = let no : ⊥ = cc in absurd no
+none_at false w events less found q more = ap (λ (es : List Event). w ∷ es) (more q)
+
+pub none_ready : (held events : List Event) → find (is_ready held) events ≡ None → without_ready held events ≡ events
+none_ready held [] h = refl
+none_ready held (w ∷ events) h = none_at (is_ready held w) w events (without_ready held events) (find (is_ready held) events) h (none_ready held events)

@@ -4,8 +4,11 @@
 
 mod fault;
 mod pool;
+mod tables;
 #[cfg(test)]
 mod tests;
+mod waiter;
 
 pub use fault::PutFault;
 pub use pool::Pool;
+pub use waiter::Waiter;

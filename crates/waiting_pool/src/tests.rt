@@ -1,6 +1,8 @@
 //! What waits, worked by hand.
 
-ghost use Rattle.std.specs.Prelude.{◌+◌, ◌<◌, ◌≤◌, ◌^◌, length};
+ghost use Rattle.std.specs.Prelude.{◌≡◌, ◌+◌, ◌<◌, ◌≤◌, ◌^◌, List, ◌++◌, length};
+ghost use Rattle.ew_model.specs.declared.event.Event.{Event};
+ghost use Rattle.waiting_pool.specs.Knowing.{IsBehind};
 
 use crate::{Pool, PutFault};
 use event_graph::Graph;
@@ -25,7 +27,9 @@ fn event(alloc: Global, id: Id, parents: &[Id]) -> Result<Event, Fail> {
 }
 
 /// Puts an event, unless one with its id waits.
-fn offer(pool: &mut Pool, e: Event) -> Result<(), PutFault> {
+fn offer(pool: &mut Pool, e: Event) -> Result<(), PutFault>
+    ensures { (held : List Event) → IsBehind held pool.old → IsBehind held pool.new }
+{
     if pool.find(&e.id).is_some() {
         return Ok(());
     }
@@ -35,7 +39,8 @@ fn offer(pool: &mut Pool, e: Event) -> Result<(), PutFault> {
 /// An event comes: it is held if it is good.
 fn come(graph: &mut Graph, e: &Event) -> Result<(), Fail>
     requires { length graph.old + 1 < 2 ^ 32 }
-    ensures { length graph.new ≤ length graph.old + 1 }
+    ensures few { length graph.new ≤ length graph.old + 1 }
+    ensures grows { (more : List Event) × (graph.new ≡ graph.old ++ more) }
 {
     if let Verdict::Good = graph.judge(e)? {
         graph.admit(e)?;
@@ -52,28 +57,45 @@ fn waits(rt: &impl Abort, pool: &Pool, ids: &[Id]) {
         i += 1;
     }
     assert_eq!(rt; i, pool.len());
+    goes_over(rt, pool, ids);
+}
+
+/// So are they one after another.
+fn goes_over(rt: &impl Abort, pool: &Pool, ids: &[Id]) {
+    let mut left = ids.iter();
+    for waiter in pool.iter() {
+        assert_eq!(rt; left.next().copied(), Some(waiter.event.id));
+    }
+    assert!(rt; left.next().is_none());
+}
+
+/// The id of the earliest event that is ready.
+fn ready_id(pool: &Pool, graph: &Graph) -> Option<Id> {
+    Some(pool.ready(graph)?.id)
 }
 
 /// The earliest event that is ready is held, and no longer waits.
 fn settle_one(pool: &mut Pool, graph: &mut Graph) -> Result<bool, Fail>
-    requires { length graph.old + 1 < 2 ^ 32 }
-    ensures { length graph.new ≤ length graph.old + 1 }
+    requires room { length graph.old + 1 < 2 ^ 32 }
+    requires behind { IsBehind graph.old pool.old }
+    ensures few { length graph.new ≤ length graph.old + 1 }
+    ensures behind { IsBehind graph.new pool.new }
 {
-    let id = match pool.ready(graph) {
+    match pool.take_ready(graph)? {
         Some(e) => {
-            come(graph, e)?;
-            e.id
+            come(graph, &e)?;
+            Ok(true)
         }
-        None => return Ok(false),
-    };
-    let _ = pool.take(&id);
-    Ok(true)
+        None => Ok(false),
+    }
 }
 
 /// So are those that are ready then, at most n of them.
 fn settle(pool: &mut Pool, graph: &mut Graph, n: u32) -> Result<(), Fail>
-    requires { length graph.old + n < 2 ^ 32 }
-    ensures { length graph.new ≤ length graph.old + n }
+    requires room { length graph.old + n < 2 ^ 32 }
+    requires behind { IsBehind graph.old pool.old }
+    ensures few { length graph.new ≤ length graph.old + n }
+    ensures behind { IsBehind graph.new pool.new }
 {
     for _ in 0..n {
         if !settle_one(pool, graph)? {
@@ -91,7 +113,9 @@ fn refused(answer: Result<(), PutFault>) -> Option<Id> {
     }
 }
 
-fn put_two(rt: &impl Abort, alloc: Global, pool: &mut Pool) -> Result<(), Fail> {
+fn put_two(rt: &impl Abort, alloc: Global, pool: &mut Pool) -> Result<(), Fail>
+    ensures { (held : List Event) → IsBehind held pool.old → IsBehind held pool.new }
+{
     let first = id(b'b', 1)?;
     let second = id(b'b', 2)?;
     offer(pool, event(alloc, first, &[id(b'b', 0)?])?)?;
@@ -166,16 +190,19 @@ fn wait_for_two(
     pool: &mut Pool,
     graph: &mut Graph,
 ) -> Result<(), Fail>
-    requires { length graph.old < 1000 }
+    requires room { length graph.old < 1000 }
+    requires behind { IsBehind graph.old pool.old }
 {
     let a = id(b'a', 0)?;
     let b = id(b'b', 0)?;
     let c = id(b'c', 0)?;
     offer(pool, event(alloc, c, &[a, b])?)?;
     come(graph, &event(alloc, a, &[])?)?;
+    assert_eq!(rt; ready_id(pool, graph), None);
     settle(pool, graph, 10)?;
     waits(rt, pool, &[c]);
     come(graph, &event(alloc, b, &[])?)?;
+    assert_eq!(rt; ready_id(pool, graph), Some(c));
     settle(pool, graph, 10)?;
     waits(rt, pool, &[]);
     assert_eq!(rt; graph.find(&c), Some(2));
@@ -190,7 +217,9 @@ fn an_event_waits_for_both_parents(rt: HostRuntime) -> Result<(), Fail> {
 }
 
 /// Puts the events of a line, the last first, but for the very first.
-fn put_backwards(alloc: Global, pool: &mut Pool, n: u32) -> Result<(), Fail> {
+fn put_backwards(alloc: Global, pool: &mut Pool, n: u32) -> Result<(), Fail>
+    ensures { (held : List Event) → IsBehind held pool.old → IsBehind held pool.new }
+{
     for i in 1..n {
         let seq = n - i;
         offer(pool, event(alloc, id(b'a', seq)?, &[id(b'a', seq - 1)?])?)?;
@@ -204,7 +233,8 @@ fn line_backwards(
     pool: &mut Pool,
     graph: &mut Graph,
 ) -> Result<(), Fail>
-    requires { length graph.old < 1000 }
+    requires room { length graph.old < 1000 }
+    requires behind { IsBehind graph.old pool.old }
 {
     put_backwards(alloc, pool, 1_000)?;
     settle(pool, graph, 1_000)?;

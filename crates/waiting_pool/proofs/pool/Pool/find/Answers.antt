@@ -1,13 +1,16 @@
-use Rattle.std.proofs.Common.{◌∙◌, List, ap}
-use Rattle.ew_model.specs.declared.event.Event.{Event}
-use Rattle.waiting_pool.specs.Waiting.{Waiting, event_with}
-use Rattle.waiting_pool.proofs.Places.{reference_found}
+use Rattle.std.proofs.Common.{◌∙◌, is_some, option_map, ap}
+use Rattle.waiting_pool.specs.declared.waiter.Waiter.{Waiter}
+use Rattle.waiting_pool.proofs.Notes.{event_found, found_held}
 use Rattle.waiting_pool.proofs.pool.Pool.find.Goals as goal
 
-pub returns-clause-waits : goal.returns-clause-waits
-returns-clause-waits c =
-    reference_found c.args.self.now.events c.args.id.now c.event_with.result (
-    c.event_with.ensures
-    ∙ ap (λ (events : List Event). event_with events c.args.id.now) c.as_slice.ensures.value
-    ∙ ap (λ (w : Waiting). event_with w.events c.args.id.now) c.self.view_is
-    )
+pub returns-in-Some-clause-event : goal.returns-in-Some-clause-event
+returns-in-Some-clause-event c = ap (option_map (λ (w : Waiter). w.event)) c.in-Some.ensures ∙ event_found c.args.self.now.waiters c.args.id.now
+
+pub returns-in-Some-clause-waits : goal.returns-in-Some-clause-waits
+returns-in-Some-clause-waits c = ap is_some c.in-Some.ensures ∙ found_held c.args.self.now.waiters c.args.id.now
+
+pub returns-in-None-clause-event : goal.returns-in-None-clause-event
+returns-in-None-clause-event c = ap (option_map (λ (w : Waiter). w.event)) c.in-None.ensures ∙ event_found c.args.self.now.waiters c.args.id.now
+
+pub returns-in-None-clause-waits : goal.returns-in-None-clause-waits
+returns-in-None-clause-waits c = ap is_some c.in-None.ensures ∙ found_held c.args.self.now.waiters c.args.id.now
