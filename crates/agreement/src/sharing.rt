@@ -1,0 +1,83 @@
+//! The events of one graph, looked up in another. Nothing here takes memory.
+
+ghost use Rattle.std.specs.Prelude.{◌≡◌, ◌↔◌, ◌<◌, IsTrue, length};
+ghost use Rattle.std.specs.List.{All};
+ghost use Rattle.ew_model.specs.declared.event.Event.{Event};
+ghost use Rattle.ew_model.specs.Ancestors.{ids_of};
+ghost use Rattle.ew_model.specs.Cuts.{are_among};
+ghost use Rattle.ew_model.specs.Ids.{is_among};
+ghost use Rattle.ew_model.specs.Sets.{Among, SameElements};
+ghost use Rattle.event_graph.specs.Keeping.{IsAdmitted, id_of};
+ghost use Rattle.agreement.specs.Sharing.{HaveSameParents, IsShared, ids_at};
+
+use event_graph::Graph;
+use frontier::Parentage;
+
+/// Whether the two graphs hold equal sets of events, in whatever order these came.
+pub fn agrees(a: &Graph, b: &Graph) -> bool
+    ensures { IsTrue result ↔ SameElements a.now b.now }
+{
+    a.count() == b.count() && holds_all(b, a)
+}
+
+/// Whether each event of `a` is among those of `b`.
+fn holds_all(b: &Graph, a: &Graph) -> bool
+    requires { IsAdmitted b.now }
+    ensures { IsTrue result ↔ ((e : Event) → Among e a.now → Among e b.now) }
+{
+    for lv in 0..a.count() {
+        if !is_shared(a, lv, b) {
+            return false;
+        }
+    }
+    true
+}
+
+/// Whether the event of `a` at a position is among those of `b`.
+fn is_shared(a: &Graph, lv: u32, b: &Graph) -> bool
+    requires within { lv < length a.now }
+    requires admitted_a { IsAdmitted a.now }
+    requires admitted_b { IsAdmitted b.now }
+    ensures { IsTrue result ↔ IsShared a.now lv b.now }
+{
+    let Some(other) = b.find(&a.id_at(lv)) else {
+        return false;
+    };
+    a.op_at(lv).same(&b.op_at(other)) && have_same_parents(a, lv, b, other)
+}
+
+/// Whether the event of `a` at the one position has the parents of the event of `b` at the other.
+fn have_same_parents(a: &Graph, one: u32, b: &Graph, other: u32) -> bool
+    requires within_a { one < length a.now }
+    requires within_b { other < length b.now }
+    requires admitted_a { IsAdmitted a.now }
+    requires admitted_b { IsAdmitted b.now }
+    ensures { IsTrue result ↔ HaveSameParents a.now one b.now other }
+{
+    let ours = a.parents_of(one);
+    let theirs = b.parents_of(other);
+    ours.len() == theirs.len() && stand_at(b, theirs.as_slice(), a, ours.as_slice())
+}
+
+/// Whether the ids at some positions of `a` are all at these positions of `b`.
+fn stand_at(b: &Graph, theirs: &[u32], a: &Graph, ours: &[u32]) -> bool
+    requires within_a { All (λ p. p < length a.now) ours.now }
+    requires within_b { All (λ p. p < length b.now) theirs.now }
+    requires admitted { IsAdmitted b.now }
+    ensures { result ≡ are_among (ids_at b.now theirs.now) (ids_at a.now ours.now) }
+{
+    ours.iter().all(|p| stands_at(b, theirs, a, *p))
+}
+
+/// Whether the id at a position of `a` is at one of these positions of `b`.
+fn stands_at(b: &Graph, theirs: &[u32], a: &Graph, ours: u32) -> bool
+    requires within_a { ours < length a.now }
+    requires within_b { All (λ p. p < length b.now) theirs.now }
+    requires admitted { IsAdmitted b.now }
+    ensures { result ≡ is_among (ids_at b.now theirs.now) (id_of (ids_of a.now) ours) }
+{
+    match b.find(&a.id_at(ours)) {
+        Some(other) => theirs.contains(&other),
+        None => false,
+    }
+}
