@@ -9,13 +9,15 @@ use Rattle.ew_model.specs.Operations.{changed_by, changed_by_all}
 use Rattle.ew_model.specs.Texts.{text_of}
 use Rattle.ew_model.specs.TextLaws.{own_change}
 use Rattle.ew_model.specs.Verdicts.{IsGood}
-use Rattle.ew_model.specs.Kept.{IsKept, ReplicaState}
+use Rattle.ew_model.specs.Kept.{IsKept, ReplicaState, is_awaited}
 use Rattle.ew_model.specs.Edits.{Edit, EditRefusal, ops_of, events_of_edit, needed_length, edit_refusal}
 use Rattle.ew_model.specs.EditLaws.{size_of}
 use Rattle.ew_model.proofs.EditLaws.{edits_are_good, edits_keep, edits_change_text}
 use Rattle.ew_model.proofs.EditTexts.{edit_fits, edit_changes, edit_long}
 use Rattle.ew_model.proofs.TextLengths.{length_changed, text_is_short}
 use Rattle.rope.specs.Lengths.{AllStayShort}
+use Rattle.waiting_pool.specs.Waiting.{Waiting, events_of}
+use Rattle.waiting_pool.proofs.Behind.{behind_more}
 use Rattle.replica.specs.Appending.{CanAppend}
 use Rattle.replica.specs.Keeping.{IsUpToDate}
 use Rattle.replica.specs.Lengths.{prefix_lengths, lengths_through}
@@ -37,14 +39,14 @@ pub stay_short : (t : List ℕ) (changes : List TextOp) → length t + length ch
 stay_short t [] h = omega (arith, h)
 stay_short t (op ∷ changes) h = (omega (arith, h), stay_short (changed_by op t) changes (omega (arith, h, length_changed op t)))
 
-pub can_append : (limits : LimitNumbers) (held : List Event) (agent : List ℕ) (edit : Edit) → IsKept limits held [] → limits.events ≤ 16777216 → edit_refusal limits held agent edit ≡ None
-    → CanAppend limits held (events_of_edit held agent edit) (map own_change (ops_of edit))
-can_append limits held agent edit kept few none =
+pub can_append : (limits : LimitNumbers) (held waiting : List Event) (agent : List ℕ) (edit : Edit) → IsKept limits held waiting → is_awaited held waiting agent ≡ false → limits.events ≤ 16777216 → edit_refusal limits held agent edit ≡ None
+    → CanAppend limits held waiting (events_of_edit held agent edit) (map own_change (ops_of edit))
+can_append limits held waiting agent edit kept awaited few none =
     let made = events_of_edit held agent edit in
     let good : IsGood held = kept.orderly.good in
     let inside = in_range limits held agent edit none in
     let changed = edits_change_text limits held agent edit good none in
-    let after : IsKept limits (held ++ made) [] = edits_keep limits held [] agent edit kept refl none in
+    let after : IsKept limits (held ++ made) waiting = edits_keep limits held waiting agent edit kept awaited none in
     record {
       kept = after;
       admitted = made_admitted held made after.orderly.good;
@@ -55,10 +57,12 @@ can_append limits held agent edit kept few none =
     }
 
 -- what was appended is up to date
-pub appended : (limits : LimitNumbers) (held made : List Event) (changes : List TextOp) (text lengths : List ℕ) → IsUpToDate limits held text lengths → CanAppend limits held made changes
-    → IsUpToDate limits (held ++ made) (changed_by_all changes text) (lengths ++ lengths_through text changes)
-appended limits held made changes text lengths now can = record {
+pub appended : (limits : LimitNumbers) (held : List Event) (pool : Waiting) (made : List Event) (changes : List TextOp) (text lengths : List ℕ) → IsUpToDate limits held pool text lengths → CanAppend limits held (events_of pool) made changes
+    → IsUpToDate limits (held ++ made) pool (changed_by_all changes text) (lengths ++ lengths_through text changes)
+appended limits held pool made changes text lengths now can = record {
   kept = can.kept;
+  limit = now.limit;
+  behind = behind_more held made pool now.behind;
   text_is = ap (changed_by_all changes) now.text_is ∙ can.text;
   lengths_are =
       ap (λ ls. ls ++ lengths_through text changes) now.lengths_are
@@ -66,9 +70,9 @@ appended limits held made changes text lengths now can = record {
 }
 
 -- numbers in the bounds of their types
-pub edit_is_small : (limits : LimitNumbers) (held : List Event) (agent : List ℕ) (edit : Edit) → IsKept limits held [] → limits.events ≤ 16777216 → edit_refusal limits held agent edit ≡ None
+pub edit_is_small : (limits : LimitNumbers) (held waiting : List Event) (agent : List ℕ) (edit : Edit) → IsKept limits held waiting → limits.events ≤ 16777216 → edit_refusal limits held agent edit ≡ None
     → (needed_length edit ≤ 16777216) × (length held + size_of edit ≤ 16777216)
-edit_is_small limits held agent edit kept few none =
+edit_is_small limits held waiting agent edit kept few none =
     let good : IsGood held = kept.orderly.good in (
       omega (arith, in_range limits held agent edit none, text_is_short held good, kept.few, few),
       omega (arith, (edits_change_text limits held agent edit good none).1, (edits_are_good limits held agent edit good kept.few none).1, few),

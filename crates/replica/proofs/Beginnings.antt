@@ -8,6 +8,9 @@ use Rattle.ew_model.specs.Verdicts.{IsGood, first_bad}
 use Rattle.ew_model.specs.Kept.{IsKept}
 use Rattle.ew_model.proofs.GoodLaws.{operations_make_text}
 use Rattle.ew_model.proofs.FirstBadLaws.{good_has_no_bad}
+use Rattle.waiting_pool.specs.Waiting.{Waiting, events_of}
+use Rattle.waiting_pool.specs.Knowing.{IsBehind}
+use Rattle.waiting_pool.proofs.Behind.{behind_none}
 use Rattle.replica.specs.Keeping.{IsUpToDate}
 use Rattle.replica.specs.Lengths.{prefix_lengths}
 
@@ -24,17 +27,27 @@ no_text = operations_make_text [] no_event_is_good
 pub good_is_kept : (limits : LimitNumbers) (events : List Event) → IsGood events → length events ≤ limits.events → IsKept limits events []
 good_is_kept limits events good few = record { orderly = record { good = good; fresh = tt; apart = tt }; few = few; few_wait = omega arith }
 
-pub none_up_to_date : (limits : LimitNumbers) → IsUpToDate limits [] [] []
-none_up_to_date limits = record { kept = good_is_kept limits [] no_event_is_good (omega arith); text_is = sym no_text; lengths_are = refl }
+-- the pool of no events
+abbrev pub none_waits : LimitNumbers → Waiting
+none_waits limits = record { limit = limits.waiting; seen = 0; waiters = [] }
+
+pub none_up_to_date : (limits : LimitNumbers) → IsUpToDate limits [] (none_waits limits) [] []
+none_up_to_date limits = record { kept = good_is_kept limits [] no_event_is_good (omega arith); limit = refl; behind = behind_none [] limits.waiting; text_is = sym no_text; lengths_are = refl }
 
 pub good_from_none_bad : (events : List Event) → first_bad events ≡ None → IsGood events
 good_from_none_bad events e = (good_has_no_bad events).1 e
 
 -- what is kept of events of which none is bad
-pub loaded : (limits : LimitNumbers) (events : List Event) → first_bad events ≡ None → length events ≤ limits.events → IsUpToDate limits events (text_of events) (prefix_lengths events)
-loaded limits events none few = record { kept = good_is_kept limits events (good_from_none_bad events none) few; text_is = refl; lengths_are = refl }
+pub loaded : (limits : LimitNumbers) (events : List Event) → first_bad events ≡ None → length events ≤ limits.events → IsUpToDate limits events (none_waits limits) (text_of events) (prefix_lengths events)
+loaded limits events none few = record { kept = good_is_kept limits events (good_from_none_bad events none) few; limit = refl; behind = behind_none events limits.waiting; text_is = refl; lengths_are = refl }
 
 -- what is kept may be known by other names
-pub same_kept : (limits : LimitNumbers) (held graph : List Event) (text kept_text lengths kept_lengths : List ℕ) → graph ≡ held → kept_text ≡ text → kept_lengths ≡ lengths → IsUpToDate limits held text lengths → IsUpToDate limits graph kept_text kept_lengths
-same_kept limits held graph text kept_text lengths kept_lengths g t l h =
-    record { kept = subst (λ (es : List Event). IsKept limits es []) (sym g) h.kept; text_is = t ∙ (h.text_is ∙ ap text_of (sym g)); lengths_are = l ∙ (h.lengths_are ∙ ap prefix_lengths (sym g)) }
+pub same_kept : (limits : LimitNumbers) (held graph : List Event) (pool kept_pool : Waiting) (text kept_text lengths kept_lengths : List ℕ) → graph ≡ held → kept_pool ≡ pool → kept_text ≡ text → kept_lengths ≡ lengths → IsUpToDate limits held pool text lengths
+    → IsUpToDate limits graph kept_pool kept_text kept_lengths
+same_kept limits held graph pool kept_pool text kept_text lengths kept_lengths g p t l h = record {
+  kept = subst (λ (es : List Event). IsKept limits es (events_of kept_pool)) (sym g) (subst (λ (w : Waiting). IsKept limits held (events_of w)) (sym p) h.kept);
+  limit = ap (λ (w : Waiting). w.limit) p ∙ h.limit;
+  behind = subst (λ (es : List Event). IsBehind es kept_pool) (sym g) (subst (λ (w : Waiting). IsBehind held w) (sym p) h.behind);
+  text_is = t ∙ (h.text_is ∙ ap text_of (sym g));
+  lengths_are = l ∙ (h.lengths_are ∙ ap prefix_lengths (sym g));
+}

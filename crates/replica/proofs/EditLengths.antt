@@ -1,5 +1,5 @@
 -- How long a text is after each event of an edit.
-use Rattle.std.proofs.Common.{◌≡◌, ℕ, zero, suc, ◌+◌, ◌==◌, nat_lt, ◌≤◌, ◌⊎◌, inl, inr, ⊎_elim, Bool, true, false, cond, List, [], ◌∷◌, ◌++◌, map, length, take, Option, Some, None, refl, sym, ap, subst, ◌∙◌, arith}
+use Rattle.std.proofs.Common.{◌≡◌, ℕ, zero, suc, ◌+◌, ◌==◌, nat_lt, ◌≤◌, ◌⊎◌, inl, inr, ⊎_elim, Bool, true, false, cond, List, [], ◌∷◌, ◌++◌, map, length, take, Some, None, refl, sym, ap, subst, ◌∙◌, arith}
 use Rattle.std.proofs.lemmas.Bool.{eqb-true, ltb-false}
 use Rattle.std.proofs.lemmas.List.{take-map, length-map}
 use Rattle.ew_model.specs.declared.id.Id.{Id}
@@ -17,7 +17,6 @@ use Rattle.ew_model.specs.EditLaws.{size_of}
 use Rattle.ew_model.proofs.EditEvents.{FewHeads, MayDo, ops_done}
 use Rattle.ew_model.proofs.EditLaws.{ops_long}
 use Rattle.ew_model.proofs.EditTexts.{edit_fits, edit_long}
-use Rattle.replica.specs.Refusing.{refusal_by}
 use Rattle.replica.specs.Lengths.{lengths_after, lengths_through}
 use Rattle.replica.proofs.EditAnswers.{refusal_is}
 use Rattle.replica.proofs.LengthLaws.{LeadAlike, lengths_alike}

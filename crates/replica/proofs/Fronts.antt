@@ -1,5 +1,5 @@
 -- Lists of events that a graph is made of one after another.
-use Rattle.std.proofs.Common.{◌≡◌, ℕ, ◌+◌, ◌<◌, ◌≤◌, Bool, true, false, cond, List, [], ◌∷◌, ◌++◌, take, drop, length, get_or, Option, Some, None, refl, sym, ap, ◌∙◌, subst, append-nil, append_assoc, length-append, arith}
+use Rattle.std.proofs.Common.{◌≡◌, ℕ, ◌+◌, ◌<◌, Bool, true, false, cond, List, [], ◌∷◌, ◌++◌, take, drop, length, get_or, Option, Some, None, refl, sym, ap, ◌∙◌, subst, append-nil, append_assoc}
 use Rattle.std.proofs.Math.Seq.{take-append_seam}
 use Rattle.std.proofs.lemmas.Bool.{false≢true}
 use Rattle.std.proofs.lemmas.List.{take_more, drop_more, take-append-drop}
@@ -62,7 +62,7 @@ bad_stays held (e ∷ front) later found h =
     (λ k. bad_stays (held ++ e ∷ []) front later found k) h
 
 -- behind a good front the search goes on
-behind_good : (held front later : List Event) → IsGoodAfter held front → first_bad_after held (front ++ later) ≡ first_bad_after (held ++ front) later
+pub behind_good : (held front later : List Event) → IsGoodAfter held front → first_bad_after held (front ++ later) ≡ first_bad_after (held ++ front) later
 behind_good held [] later h = ap (λ (l : List Event). first_bad_after l later) (sym (append-nil held))
 behind_good held (e ∷ front) later h =
     ap (λ (r : Ruling). cond (is_verdict_good r) (first_bad_after (held ++ e ∷ []) (front ++ later)) (Some (record { position = length held; verdict = r }))) h.0

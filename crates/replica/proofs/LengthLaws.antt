@@ -84,7 +84,7 @@ after_front notes events zero = refl
 after_front notes [] (suc n) = refl
 after_front notes (a ∷ events) (suc n) = ap (λ ops. next_operation id_eq 0 notes a ∷ ops) (after_front (grow id_eq 0 notes a) events n)
 
-operations_front : (history : List Event) (n : ℕ) → operations (take n history) ≡ take n (operations history)
+pub operations_front : (history : List Event) (n : ℕ) → operations (take n history) ≡ take n (operations history)
 unfolding operations operations_of
 operations_front history n = ap (operations_after id_eq 0 []) (applied_front [] history n) ∙ after_front [] (applied_after [] history) n
 

@@ -4,7 +4,7 @@ use Rattle.std.proofs.Math.Seq.{take-append_seam}
 use Rattle.std.proofs.lemmas.List.{drop_more, drop_all}
 use Rattle.std.proofs.lemmas.List.Edits.{length-insert, length-remove}
 use Rattle.ew_model.specs.declared.text_op.TextOp.{TextOp}
-use Rattle.ew_model.specs.declared.text_op.TextOp.TheVariants.{Ins, Del, Nothing}
+use Rattle.ew_model.specs.declared.text_op.TextOp.TheVariants.{Ins, Del}
 use Rattle.ew_model.specs.Operations.{changed_by}
 use Rattle.ew_model.specs.TextLaws.{Fits, AllFit}
 use Rattle.rope.specs.Lengths.{AllStayShort}

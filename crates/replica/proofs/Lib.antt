@@ -1,3 +1,4 @@
+pub mod AnswerRows
 pub mod Appends
 pub mod Beginnings
 pub mod Chains
@@ -6,6 +7,17 @@ pub mod EditLengths
 pub mod EditOps
 pub mod Fronts
 pub mod HeadLaws
+pub mod Judged
+pub mod Knowing
 pub mod LengthLaws
 pub mod LengthSteps
 pub mod Loading
+pub mod NotOut
+pub mod Received
+pub mod RoundParts
+pub mod RoundTexts
+pub mod RoundWays
+pub mod RulingRows
+pub mod Steps
+pub mod Taking
+pub mod Ways

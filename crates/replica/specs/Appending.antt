@@ -1,5 +1,5 @@
 -- What a replica may append to its events.
-use Rattle.std.specs.Prelude.{◌≡◌, List, [], ◌++◌}
+use Rattle.std.specs.Prelude.{◌≡◌, List, ◌++◌}
 use Rattle.ew_model.specs.declared.event.Event.{Event}
 use Rattle.ew_model.specs.declared.text_op.TextOp.{TextOp}
 use Rattle.ew_model.specs.Limits.{LimitNumbers}
@@ -11,9 +11,9 @@ use Rattle.event_graph.specs.Keeping.{AreAdmittedAfter}
 use Rattle.rope.specs.Lengths.{AllStayShort}
 use Rattle.replica.specs.Lengths.{lengths_after, lengths_through}
 
--- the events made may be held behind the others, and the changes make their text, of the same length after each
-pub record CanAppend (limits : LimitNumbers) (held made : List Event) (changes : List TextOp) : Type 0 where
-  pub kept : IsKept limits (held ++ made) []
+-- the events made may be held behind the others while these wait, and the changes make their text, of the same length after each
+pub record CanAppend (limits : LimitNumbers) (held waiting made : List Event) (changes : List TextOp) : Type 0 where
+  pub kept : IsKept limits (held ++ made) waiting
   pub admitted : AreAdmittedAfter held made
   pub fit : AllFit (text_of held) changes
   pub short : AllStayShort (text_of held) changes

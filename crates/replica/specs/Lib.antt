@@ -1,7 +1,11 @@
 pub mod Answers
 pub mod Appending
+pub mod Counting
+pub mod Desks
 pub mod Editing
 pub mod Fronts
 pub mod Keeping
 pub mod Lengths
+pub mod Reaching
+pub mod Receiving
 pub mod Refusing

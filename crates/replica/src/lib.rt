@@ -3,16 +3,26 @@
 #![tactic(auto)]
 
 mod admit;
+mod answer;
+mod awaiting;
+mod desk;
 mod edit;
 mod fault;
 mod heads;
+mod judging;
+pub mod laws;
 mod lengths;
 mod listed;
 mod load;
 mod made;
+#[cfg(test)]
+mod receive_tests;
+mod rounds;
 mod state;
 #[cfg(test)]
 mod tests;
+mod took;
 
 pub use fault::{EditFault, LoadFault};
 pub use state::Replica;
+pub use took::{Stopped, Took};

@@ -1,31 +1,44 @@
 //! The replica itself.
 
-ghost use Rattle.std.specs.Prelude.{◌≡◌, ◌+◌, ◌≤◌, ◌<◌, [], ◌++◌, length, take, None, false, IfOk, OnOk, OnErr, encode_utf8_all};
+ghost use Rattle.std.specs.Prelude.{◌≡◌, ◌+◌, ◌≤◌, ◌<◌, ◌^◌, [], ◌++◌, drop, length, take, None, true, false, IfOk, IfErr, OnOk, OnErr, encode_utf8_all, ◌↔◌, IsTrue};
 ghost use Rattle.std.specs.Option.{option_and_then};
 ghost use Rattle.std.specs.Str.{chars};
 ghost use Rattle.ew_model.specs.Ancestors.{heads};
+ghost use Rattle.ew_model.specs.Arrival.{most_judgements, next_judgement};
+ghost use Rattle.ew_model.specs.Cuts.{latest_cut};
 ghost use Rattle.ew_model.specs.EditLaws.{edited, size_of};
 ghost use Rattle.ew_model.specs.Edits as model;
 ghost use Rattle.ew_model.specs.Ids.{id_cmp};
 ghost use Rattle.ew_model.specs.File.{IsWritable};
 ghost use Rattle.ew_model.specs.Kept.{IsKept, is_awaited};
+ghost use Rattle.ew_model.specs.Sets.{SameElements};
 ghost use Rattle.ew_model.specs.Sorting.{sort_by};
 ghost use Rattle.ew_model.specs.Texts.{text_of};
 ghost use Rattle.ew_model.specs.Touches.{touches};
 ghost use Rattle.ew_model.specs.Verdicts.{IsGood};
 ghost use Rattle.replica.specs.Answers.{EditsBy, Loads, refusal_of};
 ghost use Rattle.replica.specs.Appending.{CanAppend};
+ghost use Rattle.replica.specs.Counting.{Counted};
+ghost use Rattle.replica.specs.Desks.{desk_of_replica, IsBegun};
 ghost use Rattle.replica.specs.Editing.{edit_view};
 ghost use Rattle.replica.specs.Keeping.{head_positions};
+ghost use Rattle.replica.specs.Reaching.{Reaches};
+ghost use Rattle.replica.specs.Receiving.{Receives, StopsBetween};
 ghost use Rattle.replica.specs.Refusing.{refusal_by};
+ghost use Rattle.waiting_pool.specs.Waiting.{events_of};
 
 use crate::admit::extend;
+use crate::awaiting::awaits;
+use crate::desk::Progress;
 use crate::edit::{Edit, changes, characters};
 use crate::fault::{EditFault, LoadFault};
 use crate::heads::head_ids;
 use crate::listed::listed;
 use crate::load::load;
 use crate::made::events_by;
+use crate::rounds::round;
+use crate::took::{Stopped, Took};
+use agreement::agrees;
 use event_graph::Graph;
 use ew_model::NoMem;
 use ew_model::event::Event;
@@ -38,6 +51,7 @@ use rope::Rope;
 use std::alloc::Global;
 use std::marker::Model;
 use std::sync::ledger::Ledger;
+use waiting_pool::Pool;
 
 /// The most parents of an event.
 const MOST_PARENTS: u32 = 16;
@@ -51,18 +65,20 @@ pub struct Replica {
     text: Rope,
     /// Number i is how many characters the text of the first i + 1 events has.
     lengths: Vec<u32>,
+    /// The events that wait for their parents.
+    pool: Pool,
 }
 
 impl Model for Replica {
-    ghost use Rattle.std.specs.Prelude.{[]};
+    ghost use Rattle.waiting_pool.specs.Waiting.{events_of};
     ghost use Rattle.ew_model.specs.Kept.{ReplicaState};
     ghost use Rattle.replica.specs.Keeping.{IsUpToDate};
 
     ghost Value = { ReplicaState };
 
-    ghost view = { λ r. record { limits = r.limits; held = r.graph; waiting = [] } };
+    ghost view = { λ r. record { limits = r.limits; held = r.graph; waiting = events_of r.pool } };
 
-    ghost invariant = { λ r. IsUpToDate r.limits r.graph r.text r.lengths.items };
+    ghost invariant = { λ r. IsUpToDate r.limits r.graph r.pool r.text r.lengths.items };
 }
 
 impl Replica {
@@ -70,14 +86,17 @@ impl Replica {
     pub fn new(alloc: Global, limits: Limits) -> Result<Replica, NoMem>
         ensures { IfOk result (λ r. r ≡ record { limits = limits; held = []; waiting = [] }) }
     {
-        let text = Rope::new(alloc)?;
         let graph = Graph::new(alloc)?;
+        let text = Rope::new(alloc)?;
+        let lengths = Vec::new(alloc);
+        let pool = Pool::new(alloc, limits.waiting())?;
         Ok(Replica {
             alloc,
             limits,
             graph,
             text,
-            lengths: Vec::new(alloc),
+            lengths,
+            pool,
         })
     }
 
@@ -96,13 +115,118 @@ impl Replica {
         let _most = limits.events();
         let mut graph = Graph::new(alloc)?;
         let (text, lengths) = load(alloc, &mut graph, &events, steps)?;
+        let pool = Pool::new(alloc, limits.waiting())?;
         Ok(Replica {
             alloc,
             limits,
             graph,
             text,
             lengths,
+            pool,
         })
+    }
+
+    /// Receives events, one after another. An event whose parents are all held is appended; one with an unknown parent waits,
+    /// and is judged as soon as its parents are held; any other is refused, or was there before. Answers what was answered.
+    ///
+    /// For want of memory receiving stops between two judgements: what was judged stands, and the other received events are
+    /// handed back.
+    pub fn receive<L: Ledger>(
+        &mut self,
+        events: Vec<Event>,
+        steps: &mut Steps<L>,
+    ) -> Result<Took, Stopped>
+        requires { length events.items < 2 ^ 32 }
+        ensures received { IfOk result (Receives self.old events.items self.new) }
+        ensures stopped { IfErr result (StopsBetween self.old events.items self.new) }
+    {
+        let before = self.count();
+        let mut progress = Progress::new(self.alloc);
+        match self.receive_all(&events, &mut progress, steps) {
+            Ok(()) => Ok(self.took(progress, before)),
+            Err(_) => {
+                let rest = rest(events, progress.judged());
+                let took = self.took(progress, before);
+                Err(Stopped { took, rest })
+            }
+        }
+    }
+
+    /// Goes through rounds until nothing is left to judge. For want of memory it stops between two of them.
+    fn receive_all<L: Ledger>(
+        &mut self,
+        events: &[Event],
+        progress: &mut Progress,
+        steps: &mut Steps<L>,
+    ) -> Result<(), NoMem>
+        requires few { length events.now < 2 ^ 32 }
+        requires begun { IsBegun events.now progress.old }
+        ensures limits { self.new.limits ≡ self.old.limits }
+        ensures begun { IsBegun events.now progress.new }
+        ensures reaches { Reaches self.old.limits (desk_of_replica self.old events.now progress.old) (desk_of_replica self.new events.now progress.new) progress.old progress.new }
+        ensures ends { OnOk result (next_judgement self.old.limits true (desk_of_replica self.new events.now progress.new) ≡ None) }
+    {
+        while self.round(events, progress, steps)? {}
+        Ok(())
+    }
+
+    /// One round. Answers whether there is more to do.
+    fn round<L: Ledger>(
+        &mut self,
+        events: &[Event],
+        progress: &mut Progress,
+        steps: &mut Steps<L>,
+    ) -> Result<bool, NoMem>
+        requires few { length events.now < 2 ^ 32 }
+        requires begun { IsBegun events.now progress.old }
+        ensures limits { self.new.limits ≡ self.old.limits }
+        ensures begun { OnOk result (IsBegun events.now progress.new) }
+        ensures reaches { OnOk result (Reaches self.old.limits (desk_of_replica self.old events.now progress.old) (desk_of_replica self.new events.now progress.new) progress.old progress.new) }
+        ensures fewer { IfOk result (λ more. more ≡ true → most_judgements (desk_of_replica self.new events.now progress.new) < most_judgements (desk_of_replica self.old events.now progress.old)) }
+        ensures last { IfOk result (λ more. more ≡ false → next_judgement self.old.limits true (desk_of_replica self.new events.now progress.new) ≡ None) }
+        ensures same { OnErr result (self.new ≡ self.old) }
+        ensures same_progress { OnErr result (progress.new ≡ progress.old) }
+    {
+        let _waiting = self.pool.len();
+        let (desk, more) = round(
+            self.alloc,
+            &self.limits,
+            &mut self.graph,
+            &mut self.text,
+            &mut self.lengths,
+            &self.pool,
+            progress,
+            events,
+            steps,
+        )?;
+        self.pool = desk.pool;
+        *progress = desk.progress;
+        Ok(more)
+    }
+
+    /// What is told of all that was answered since so many events were held.
+    fn took(&self, progress: Progress, before: u32) -> Took
+        requires { before ≤ length self.now.held }
+        ensures accepted { result.accepted + before ≡ length self.now.held }
+        ensures waiting { result.waiting ≡ length self.now.waiting }
+        ensures repeats { result.repeats ≡ progress.repeats }
+        ensures refused { result.refused.items ≡ progress.refused }
+        ensures cut { result.cut ≡ latest_cut self.now.held before }
+    {
+        Took {
+            accepted: self.graph.count() - before,
+            waiting: self.pool.len(),
+            repeats: progress.repeats(),
+            refused: progress.into_refused(),
+            cut: self.graph.latest_cut(before),
+        }
+    }
+
+    /// Whether an event waits that is, or has as parent, an event of the agent that isn't held. Then the agent may make none.
+    pub fn awaits(&self, agent: &Name) -> bool
+        ensures { result ≡ is_awaited self.now.held self.now.waiting agent.now }
+    {
+        awaits(&self.graph, &self.pool, agent)
     }
 
     /// The text, in UTF-8.
@@ -169,6 +293,15 @@ impl Replica {
         self.graph.count()
     }
 
+    /// Whether the other replica holds equal events, in whatever order these came: then both show equal text. It takes no
+    /// memory.
+    pub fn agrees(&self, other: &Replica) -> bool
+        ensures agrees { IsTrue result ↔ SameElements self.now.held other.now.held }
+        ensures text { IsTrue result → text_of self.now.held ≡ text_of other.now.held }
+    {
+        agrees(&self.graph, &other.graph)
+    }
+
     /// The events held, in order. They may be written as a file.
     pub fn events(&self) -> Result<Vec<Event>, NoMem>
         ensures events { IfOk result (λ v. v.items ≡ self.now.held) }
@@ -213,8 +346,9 @@ impl Replica {
         self.edit(agent, &Edit::Delete { at, n })
     }
 
-    /// Makes the events of an edit, and holds them. Nothing waits, so no event waits for one of the agent's.
+    /// Makes the events of an edit, and holds them.
     fn edit(&mut self, agent: Name, edit: &Edit) -> Result<u32, EditFault>
+        requires { is_awaited self.old.held self.old.waiting agent ≡ false }
         ensures edits { EditsBy agent (edit_view edit.now) self.old self.new result }
         ensures text { OnOk result (text_of self.new.held ≡ edited (edit_view edit.now) (text_of self.old.held)) }
     {
@@ -273,9 +407,10 @@ impl Replica {
         agent: Name,
         edit: &Edit,
     ) -> Result<(Vec<Event>, Vec<TextOp>), NoMem>
+        requires awaited { is_awaited self.now.held self.now.waiting agent ≡ false }
         requires allowed { model.edit_refusal self.now.limits self.now.held agent (edit_view edit.now) ≡ None }
         ensures events { IfOk result (λ made. made.0.items ≡ model.events_of_edit self.now.held agent (edit_view edit.now)) }
-        ensures can { IfOk result (λ made. CanAppend self.now.limits self.now.held made.0.items made.1.items) }
+        ensures can { IfOk result (λ made. CanAppend self.now.limits self.now.held self.now.waiting made.0.items made.1.items) }
     {
         let _most = self.limits.events();
         let ops = edit.ops(alloc)?;
@@ -286,7 +421,7 @@ impl Replica {
 
     /// Holds some more events, and changes the text. Answers how many they are. It does all of it or nothing.
     fn append(&mut self, made: &[Event], changes: &[TextOp]) -> Result<u32, NoMem>
-        requires { CanAppend self.old.limits self.old.held made.now changes.now }
+        requires { CanAppend self.old.limits self.old.held self.old.waiting made.now changes.now }
         ensures count { IfOk result (λ n. n ≡ length made.now) }
         ensures ok { OnOk result (self.new ≡ record { limits = self.old.limits; held = self.old.held ++ made.now; waiting = self.old.waiting }) }
         ensures err { OnErr result (self.new ≡ self.old) }
@@ -301,4 +436,14 @@ impl Replica {
         )?;
         Ok(made.len() as u32)
     }
+}
+
+/// The events from a place on.
+fn rest(mut events: Vec<Event>, judged: usize) -> Vec<Event>
+    requires { judged ≤ length events.items }
+    ensures { result.items ≡ drop judged events.items }
+{
+    events.rotate_left(judged);
+    events.truncate(events.len() - judged);
+    events
 }

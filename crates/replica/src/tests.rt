@@ -1,8 +1,9 @@
 //! What no contract says: that calls succeed where there is memory, with rows whose answers are known.
 
-ghost use Rattle.std.specs.Prelude.{◌≡◌, ◌≤◌, ◌<◌, [], length, IfOk};
+ghost use Rattle.std.specs.Prelude.{◌≡◌, ◌≤◌, ◌<◌, false, length, IfOk};
+ghost use Rattle.ew_model.specs.Kept.{is_awaited};
 
-use crate::{EditFault, LoadFault, Replica};
+use crate::{EditFault, LoadFault, Replica, Stopped, Took};
 use ew_model::NoMem;
 use ew_model::event::{Event, Op};
 use ew_model::id::Id;
@@ -10,7 +11,7 @@ use ew_model::limits::Limits;
 use ew_model::name::Name;
 use ew_model::parents::Parents;
 use ew_model::steps::Steps;
-use ew_model::verdict::Verdict;
+use ew_model::verdict::{Refusal, Verdict};
 use std::alloc::Global;
 use std::marker::Brand;
 use std::process::Abort;
@@ -19,10 +20,10 @@ use std::test::Fail;
 
 /// An event in short: the letter of its agent, its number, those of its parents, and what it does.
 #[derive(Clone, Copy)]
-struct Short<'a> {
-    id: (u8, u32),
-    parents: &'a [(u8, u32)],
-    op: Op,
+pub struct Short<'a> {
+    pub id: (u8, u32),
+    pub parents: &'a [(u8, u32)],
+    pub op: Op,
 }
 
 /// An event that inserts.
@@ -43,7 +44,7 @@ fn del<'a>(letter: u8, seq: u32, parents: &'a [(u8, u32)], at: u32) -> Short<'a>
     }
 }
 
-fn id(letter: u8, seq: u32) -> Result<Id, NoMem> {
+pub fn id(letter: u8, seq: u32) -> Result<Id, NoMem> {
     let Ok(agent) = Name::read(&[letter]) else {
         return Err(NoMem);
     };
@@ -58,7 +59,7 @@ fn ids(alloc: Global, pairs: &[(u8, u32)]) -> Result<Vec<Id>, NoMem> {
     Ok(ids)
 }
 
-fn event(alloc: Global, short: &Short<'_>) -> Result<Event, NoMem> {
+pub fn event(alloc: Global, short: &Short<'_>) -> Result<Event, NoMem> {
     let (letter, seq) = short.id;
     Ok(Event {
         id: id(letter, seq)?,
@@ -82,7 +83,6 @@ fn load_by<L: Ledger>(alloc: Global, events: Vec<Event>, blank: Blank) -> Result
     requires parts { blank.parts ≡ L.parts }
     requires some { 0 < blank.parts }
     requires few { length events.items ≤ 1000000 }
-    ensures { IfOk result (λ r. r.waiting ≡ []) }
 {
     let mut steps: Steps<L> = Steps::new(blank);
     Replica::from_events(alloc, events, Limits::program(), &mut steps)
@@ -90,7 +90,6 @@ fn load_by<L: Ledger>(alloc: Global, events: Vec<Event>, blank: Blank) -> Result
 
 fn load(alloc: Global, rows: &[Short<'_>]) -> Result<Replica, LoadFault>
     requires { length rows.now ≤ 1000 }
-    ensures { IfOk result (λ r. r.waiting ≡ []) }
 {
     let events = events(alloc, rows)?;
     load_by::<Brand>(alloc, events, Blank::new(1))
@@ -105,15 +104,15 @@ fn expect_told(rt: &impl Abort, alloc: Global, rows: &[Short<'_>], told: Option<
 
 /// What a replica has.
 #[derive(Clone, Copy)]
-struct Held<'a> {
-    text: &'a str,
-    len: u32,
+pub struct Held<'a> {
+    pub text: &'a str,
+    pub len: u32,
     /// How long the text is after each event.
-    lengths: &'a [u32],
+    pub lengths: &'a [u32],
     /// The positions of the heads, rising.
-    heads: &'a [u32],
+    pub heads: &'a [u32],
     /// The ids of the heads, ascending.
-    ids: &'a [(u8, u32)],
+    pub ids: &'a [(u8, u32)],
 }
 
 fn lengths(alloc: Global, replica: &Replica) -> Result<Vec<u32>, NoMem> {
@@ -124,7 +123,7 @@ fn lengths(alloc: Global, replica: &Replica) -> Result<Vec<u32>, NoMem> {
     Ok(lengths)
 }
 
-fn expect_held(
+pub fn expect_held(
     rt: &impl Abort,
     alloc: Global,
     replica: &Replica,
@@ -154,13 +153,13 @@ fn expect_loaded(
 }
 
 #[derive(Clone, Copy)]
-enum Edit<'a> {
+pub enum Edit<'a> {
     Ins(u32, &'a str),
     Del(u32, u32),
 }
 
 /// An edit, and what is answered to it.
-type Row<'a> = (Edit<'a>, Result<u32, EditFault>);
+pub type Row<'a> = (Edit<'a>, Result<u32, EditFault>);
 
 fn edit_by<L: Ledger>(
     replica: &mut Replica,
@@ -171,8 +170,7 @@ fn edit_by<L: Ledger>(
     requires name { blank.name ≡ L.name }
     requires parts { blank.parts ≡ L.parts }
     requires some { 0 < blank.parts }
-    requires none_wait { replica.old.waiting ≡ [] }
-    ensures { replica.new.waiting ≡ [] }
+    requires not_awaited { is_awaited replica.old.held replica.old.waiting agent ≡ false }
 {
     let mut steps: Steps<L> = Steps::new(blank);
     match edit {
@@ -182,11 +180,10 @@ fn edit_by<L: Ledger>(
 }
 
 /// The agent `a` does the edits, each of which is answered as it must.
-fn edit_all(rt: &impl Abort, replica: &mut Replica, rows: &[Row<'_>]) -> Result<(), NoMem>
-    requires { replica.old.waiting ≡ [] }
-{
+pub fn edit_all(rt: &impl Abort, replica: &mut Replica, rows: &[Row<'_>]) -> Result<(), NoMem> {
     let agent = id(b'a', 0)?.agent;
     for (edit, answer) in rows {
+        assert!(rt; !replica.awaits(&agent));
         let answered = edit_by::<Brand>(replica, agent, edit, Blank::new(1));
         assert_eq!(rt; answered, *answer);
     }
@@ -199,9 +196,7 @@ fn expect_then(
     replica: &mut Replica,
     rows: &[Row<'_>],
     held: &Held<'_>,
-) -> Result<(), NoMem>
-    requires { replica.old.waiting ≡ [] }
-{
+) -> Result<(), NoMem> {
     edit_all(rt, replica, rows)?;
     expect_held(rt, alloc, replica, held)
 }

@@ -1,4 +1,4 @@
-use Rattle.std.proofs.Common.{◌≡◌, ◌∙◌, ◌+◌, ◌∷◌, [], ◌++◌, List, ℕ, drop, get_or, append_assoc, append-nil, refl, sym, ap, subst}
+use Rattle.std.proofs.Common.{◌∙◌, ◌+◌, ◌∷◌, [], ◌++◌, List, ℕ, drop, get_or, append_assoc, append-nil, refl, sym, ap, subst}
 use Rattle.std.proofs.lemmas.Result.{err_from_is_err_and}
 use Rattle.ew_model.specs.declared.text_op.TextOp.TheVariants.{Ins}
 use Rattle.replica.specs.Lengths.{lengths_through}

@@ -30,13 +30,13 @@ returns-then-size-eq0-clause-text c =
     (nothing_made c.args.agent edit now (refusal_is now.limits now.held c.args.agent edit ∙ sym c.in_default.ensures) (sym c.size.ensures ∙ c.if-size-eq0.true))
 
 pub make-requires : goal.make-requires
-make-requires c = record { allowed = refusal_is c.args.self.now.limits c.args.self.now.held c.args.agent (edit_view c.args.edit.now) ∙ sym c.in_default.ensures }
+make-requires c = record { awaited = c.requires; allowed = refusal_is c.args.self.now.limits c.args.self.now.held c.args.agent (edit_view c.args.edit.now) ∙ sym c.in_default.ensures }
 
 pub append-requires : goal.append-requires
 append-requires c =
     let now = c.args.self.now in
-    subst (λ (es : List Event). CanAppend now.limits now.held es c.as_slice-2.result.now) (sym c.as_slice.ensures.value)
-    (subst (λ (ops : List TextOp). CanAppend now.limits now.held c.in_ok-made.made.items ops) (sym c.as_slice-2.ensures.value) c.in_ok-made.ensures.can)
+    subst (λ (es : List Event). CanAppend now.limits now.held now.waiting es c.as_slice-2.result.now) (sym c.as_slice.ensures.value)
+    (subst (λ (ops : List TextOp). CanAppend now.limits now.held now.waiting c.in_ok-made.made.items ops) (sym c.as_slice-2.ensures.value) c.in_ok-made.ensures.can)
 
 pub returns-clause-edits : goal.returns-clause-edits
 returns-clause-edits c =

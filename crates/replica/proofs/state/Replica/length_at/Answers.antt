@@ -1,5 +1,4 @@
-use Rattle.std.proofs.Common.{◌≡◌, ◌∙◌, ◌≤◌, ℕ, List, [], length, take, get_or, ap, subst, arith}
-use Rattle.ew_model.specs.declared.event.Event.{Event}
+use Rattle.std.proofs.Common.{◌∙◌, ◌≤◌, ℕ, List, [], length, take, get_or, ap, arith}
 use Rattle.ew_model.specs.Kept.{ReplicaState}
 use Rattle.ew_model.specs.Texts.{text_of}
 use Rattle.replica.proofs.LengthLaws.{length_found, length_of_none, length-lengths_after}

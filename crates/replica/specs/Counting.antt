@@ -1,0 +1,20 @@
+-- What is counted while events are received.
+use Rattle.std.specs.Prelude.{ℕ, ◌+◌, Bool, true, List, ◌++◌}
+use Rattle.ew_model.specs.declared.id.Id.{Id}
+use Rattle.ew_model.specs.declared.verdict.Refusal.{Refusal}
+
+-- How many of the received events were judged, whether one was, so that waiting events which are ready come first, how many were
+-- there before, and those that were refused.
+pub record Counted : Type 0 where
+  pub judged : ℕ
+  pub settling : Bool
+  pub repeats : ℕ
+  pub refused : List (Id × Refusal)
+
+-- the next received event is judged
+abbrev pub one_judged : Counted → Counted
+one_judged c = record { judged = c.judged + 1; settling = true; repeats = c.repeats; refused = c.refused }
+
+-- so many more were there before, and these were refused
+abbrev pub with_more : Counted → ℕ → List (Id × Refusal) → Counted
+with_more c repeats refused = record { judged = c.judged; settling = c.settling; repeats = c.repeats + repeats; refused = c.refused ++ refused }
