@@ -1,4 +1,8 @@
+pub mod BothWays
 pub mod FaultLaws
+pub mod FileSizes
+pub mod MergedFiles
+pub mod Merges
 pub mod Outputs
 pub mod Readings
 pub mod Runs

@@ -1,5 +1,5 @@
 -- What an input means is one reading at most, so that a plan which is right for one reading is right for each.
-use Rattle.std.proofs.Common.{◌≡◌, ◌∙◌, List, ℕ, length, Option, Some, None, Result, Ok, Err, IfOk, IfSome, ap, sym, subst}
+use Rattle.std.proofs.Common.{◌≡◌, ◌≤◌, ◌∙◌, arith, List, ℕ, length, Option, Some, None, Result, Ok, Err, IfOk, IfSome, ap, sym, subst}
 use Rattle.std.specs.declared.alloc.AllocError.{AllocError}
 use Rattle.ew_outside.specs.Files.{Files}
 use Rattle.ew_model.specs.Limits.{LimitNumbers}
@@ -12,9 +12,9 @@ use Rattle.egw.specs.declared.reply.Stop.{Stop}
 use Rattle.egw.specs.Edits.{EditsTo, PlansScript, PlansInput}
 use Rattle.egw.specs.Scripts.{Reading, script, bad_line, Means}
 use Rattle.ew_model.specs.declared.event.Event.{Event}
-use Rattle.egw.specs.Table.{Reply, refuses, script_reply, input_reply, edited_reply, made_reply, opened, open_file, over_events}
+use Rattle.egw.specs.Table.{Reply, refuses, script_reply, input_reply, edited_reply, made_reply, Opened, opened, open_file, over_events, over_both}
 use Rattle.egw.specs.Text.{bad_line as bad_line_text}
-use Rattle.egw.specs.Views.{plan_view, PlansBy}
+use Rattle.egw.specs.Views.{plan_view, PlansBy, ShelfCauses, MissesBy}
 
 means_once : (input : List ℕ) (x y : Reading) → Means input x → Means input y → x ≡ y
 means_once input (script xs) (script ys) left right = ap script (scripts_are_unique input xs ys left right)
@@ -59,3 +59,24 @@ pub shown_opened : (reply : List Event → Reply) (name : List ℕ) (limits : Li
     → IfSome files (λ m. plan_view p ≡ over_events reply (open_file name limits m))
 shown_opened reply name limits held (Some m) p view is = is ∙ ap (over_events reply) view
 shown_opened reply name limits held None p view is = tt
+
+-- a plan over the second of two files that were opened, of which the first left the map as it was
+pub both_opened :
+    (reply : List Event → List Event → Reply) (name other : List ℕ) (limits : LimitNumbers) (held : List Event) (files later : Option Files) (result : Result Plan Stop) →
+    later ≡ files → IfSome files (λ m. opened held ≡ open_file name limits m) →
+    IfSome later (λ m. IfOk result (λ p. plan_view p ≡ over_events (reply held) (open_file other limits m))) →
+    IfSome files (λ m. IfOk result (λ p. plan_view p ≡ over_both reply (open_file name limits m) (open_file other limits m)))
+both_opened reply name other limits held (Some m) later (Ok p) same view plans =
+    let here : plan_view p ≡ over_events (reply held) (open_file other limits m) =
+    subst (λ x. IfSome x (λ m. plan_view p ≡ over_events (reply held) (open_file other limits m))) same plans in
+    here ∙ ap (λ (x : Opened). over_both reply x (open_file other limits m)) view
+both_opened reply name other limits held (Some m) later (Err e) same view plans = tt
+both_opened reply name other limits held None later result same view plans = tt
+
+-- a fault or a miss of a later step is one of the whole
+pub later_causes : (before mid now : ℕ) (result : Result Plan Stop) → mid ≡ before → ShelfCauses mid now result → ShelfCauses before now result
+later_causes before mid now result same cause = subst (λ n. ShelfCauses n now result) same cause
+
+pub later_misses : (before mid now : ℕ) (result : Result Plan Stop) → before ≤ mid → MissesBy mid now result → MissesBy before now result
+later_misses before mid now (Ok p) low missed = (omega (arith, missed.0), λ three. let rose = missed.1 three in omega (arith, rose))
+later_misses before mid now (Err e) low missed = omega arith

@@ -15,6 +15,14 @@ file_app name = with_rule (new_app name) file_rule
 abbrev pub agent_rule : Rule
 agent_rule = record (new_rule (codes "agent")) { long = Some (codes "agent"); required = true }
 
+-- the other file's name, which has to be there too
+abbrev pub other_rule : Rule
+other_rule = record (new_rule (codes "other")) { required = true }
+
+-- the command of two files
+unfoldable pub merge_app : App
+merge_app = with_rule (with_rule (new_app (codes "merge")) file_rule) other_rule
+
 unfoldable pub edit_app : App
 edit_app = with_rule (with_rule (new_app (codes "edit")) file_rule) agent_rule
 
@@ -28,5 +36,5 @@ then_app app more = with_subcommand app more.top
 
 unfoldable pub egw_app : App
 egw_app =
-    then_app (then_app (then_app (then_app (then_app (then_app bare_app
-    (file_app (codes "new"))) edit_app) (file_app (codes "cat"))) (file_app (codes "heads"))) (file_app (codes "log"))) (file_app (codes "check"))
+    then_app (then_app (then_app (then_app (then_app (then_app (then_app bare_app
+    (file_app (codes "new"))) edit_app) (file_app (codes "cat"))) (file_app (codes "heads"))) (file_app (codes "log"))) (file_app (codes "check"))) merge_app

@@ -6,6 +6,8 @@ pub mod Faults
 pub mod Headline
 pub mod Inputs
 pub mod Loads
+pub mod MergeLaws
+pub mod Merging
 pub mod Outputs
 pub mod Scripts
 pub mod Sequences

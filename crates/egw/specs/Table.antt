@@ -1,25 +1,32 @@
 -- The command table: what a command line answers over a map of files and an input.
-use Rattle.std.specs.Prelude.{ℕ, ◌-◌, Bool, true, false, List, [], ◌∷◌, length, Option, None, Some, option_and_then, if◌then◌else◌, nat_lt, codes, encode_utf8_all}
+use Rattle.std.specs.Prelude.{ℕ, ◌-◌, Bool, true, false, List, [], ◌∷◌, length, find, Option, None, Some, option_and_then, if◌then◌else◌, nat_lt, codes, encode_utf8_all}
+use Rattle.std.specs.List.{list_any}
 use Rattle.std.specs.Option.{option_map}
 use Rattle.std.specs.Str.{bytes_eq}
 use Rattle.std.specs.FinMap.{get, insert}
 use Rattle.clap.specs.Words.{Row, Kinds, first_of, fault_of, subcommand_of}
+use Rattle.ew_model.specs.declared.id.Id.{Id}
 use Rattle.ew_model.specs.declared.event.Event.{Event}
+use Rattle.ew_model.specs.declared.verdict.Refusal.{Refusal}
+use Rattle.ew_model.specs.declared.verdict.Refusal.TheVariants as why
 use Rattle.ew_model.specs.Limits.{LimitNumbers, most_file_bytes}
 use Rattle.ew_model.specs.Names.{is_name}
 use Rattle.ew_model.specs.Texts.{text_of}
 use Rattle.ew_model.specs.Edits.{EditRefusal}
 use Rattle.ew_model.specs.Edits.EditRefusal.{OutOfRange, TooManyHeads, Full}
 use Rattle.ew_model.specs.Verdicts.{BadEvent, first_bad}
+use Rattle.ew_model.specs.Arrival.{Outcome, arrive}
+use Rattle.ew_model.specs.Cuts.{latest_cut}
 use Rattle.ew_model.specs.File.{file_of}
 use Rattle.ew_model.specs.FileFaults.{FileFinding, file_finding}
 use Rattle.ew_model.specs.FileFaults.FileFinding.{IsFile, Short, BadMagic, BadVersion, BadDigest, BadRecord, TooMany}
 use Rattle.ew_outside.specs.Files.{Files}
 use Rattle.history_view.specs.Listings.{check_text, heads_text, log_text}
+use Rattle.replica.specs.Receiving.{accepted_in, repeats_in, refused_in}
 use Rattle.egw.specs.Cli.{egw_app}
 use Rattle.egw.specs.Loads.{File, missing, too_long, whole, whole_of}
 use Rattle.egw.specs.Scripts.{Reading, script, bad_line, Edited, ran, stopped_at, edited_by}
-use Rattle.egw.specs.Text.{bad_line as bad_line_text, line_out_of_range, too_many_heads, too_many_events, made_text, input_too_long, usage, no_file, file_there, short_file, no_event_file, unknown_version, bad_digest, bad_field, bad_event, file_too_long, file_too_many}
+use Rattle.egw.specs.Text.{bad_line as bad_line_text, line_out_of_range, too_many_heads, too_many_events, made_text, input_too_long, clash, received_text, usage, no_file, file_there, short_file, no_event_file, unknown_version, bad_digest, bad_field, bad_event, file_too_long, file_too_many}
 
 abbrev pub Text : Type 0
 Text = List ℕ
@@ -36,6 +43,7 @@ pub data Command : Type 0 where
   create : (file : Text) → Command
   edit : (file agent : Text) → Command
   show : (listing : Listing) (file : Text) → Command
+  merge : (file other : Text) → Command
 
 abbrev pub file_line : (Text → Command) → List Row → Option Command
 file_line command rows = option_map command (first_of (codes "file") rows)
@@ -47,6 +55,10 @@ edit_line rows =
     (λ file. option_and_then (λ agent. if is_name agent then Some (edit file agent) else None) (first_of (codes "agent") rows))
     (first_of (codes "file") rows)
 
+abbrev pub merge_line : List Row → Option Command
+merge_line rows =
+    option_and_then (λ file. option_map (merge file) (first_of (codes "other") rows)) (first_of (codes "file") rows)
+
 -- the command of a subcommand and its values
 abbrev pub line_in : Option (Text × List Row) → Option Command
 line_in None = None
@@ -56,7 +68,8 @@ line_in (Some p) =
     else (if bytes_eq p.0 (codes "cat") then file_line (show content) p.1
     else (if bytes_eq p.0 (codes "heads") then file_line (show head_ids) p.1
     else (if bytes_eq p.0 (codes "log") then file_line (show log) p.1
-    else (if bytes_eq p.0 (codes "check") then file_line (show numbers) p.1 else None)))))
+    else (if bytes_eq p.0 (codes "check") then file_line (show numbers) p.1
+    else (if bytes_eq p.0 (codes "merge") then merge_line p.1 else None))))))
 
 abbrev pub where_none : Kinds → Option Command → Option Command
 where_none [] l = l
@@ -146,17 +159,60 @@ input_reply name agent limits input reading events =
     if nat_lt limits.input (length input) then refuses 7 (input_too_long limits.input)
     else script_reply name agent limits events reading
 
+-- another event has the id
+abbrev pub is_clash : Refusal → Bool
+is_clash why.Clash = true
+is_clash refusal = false
+
+-- the history holds as many events as it may
+abbrev pub is_graph_full : Refusal → Bool
+is_graph_full why.GraphFull = true
+is_graph_full refusal = false
+
+abbrev pub unless_clash : Option (Id × Refusal) → Reply → Reply
+unless_clash None reply = reply
+unless_clash (Some p) reply = refuses 5 (clash p.0)
+
+-- a merge is refused for the first clash, and else where the history is full
+abbrev pub unless_refused : LimitNumbers → List (Id × Refusal) → Reply → Reply
+unless_refused limits refusals reply =
+    unless_clash (find (λ p. is_clash p.1) refusals)
+    (if list_any (λ p. is_graph_full p.1) refusals then refuses 7 (too_many_events limits.events) else reply)
+
+-- a history to which events were appended is stored
+abbrev pub received_reply : Text → List Event → ℕ → List ℕ → Reply
+received_reply name events accepted text = if nat_lt 0 accepted then stores text name (file_of events) else prints text
+
+-- what receiving came to, told by the answers
+abbrev pub outcome_text : ℕ → Outcome → List ℕ
+outcome_text before o =
+    received_text (accepted_in o.answers) (length o.desk.waiting) (repeats_in o.answers) (length (refused_in o.answers)) (latest_cut o.desk.held before)
+
+abbrev pub outcome_reply : Text → LimitNumbers → ℕ → Outcome → Reply
+outcome_reply name limits before o =
+    unless_refused limits (refused_in o.answers) (received_reply name o.desk.held (accepted_in o.answers) (outcome_text before o))
+
+-- other events are received by the events of a file, as one batch
+abbrev pub merge_reply : Text → LimitNumbers → List Event → List Event → Reply
+merge_reply name limits events others = outcome_reply name limits (length events) (arrive limits events [] others)
+
+-- a command over the events of two files, of which the first is opened first
+abbrev pub over_both : (List Event → List Event → Reply) → Opened → Opened → Reply
+over_both reply file other = over_events (λ events. over_events (reply events) other) file
+
 -- what a command does over files and an input, and what the input means
 abbrev pub reply_to : Command → LimitNumbers → Files → List ℕ → Reading → Reply
 reply_to (create name) limits files input reading = create_reply name (whole_of 0 (get files name))
 reply_to (edit name agent) limits files input reading = over_events (input_reply name agent limits input reading) (open_file name limits files)
 reply_to (show listing name) limits files input reading = over_events (show_reply listing) (open_file name limits files)
+reply_to (merge name other) limits files input reading = over_both (merge_reply name limits) (open_file name limits files) (open_file other limits files)
 
 -- the commands that read the input
 abbrev pub reads_input : Option Command → Bool
 reads_input (Some (create name)) = false
 reads_input (Some (edit name agent)) = true
 reads_input (Some (show listing name)) = false
+reads_input (Some (merge name other)) = false
 reads_input None = false
 
 -- the commands whose status 3 says that a file is missing
@@ -164,6 +220,7 @@ abbrev pub needs_file : Option Command → Bool
 needs_file (Some (create name)) = false
 needs_file (Some (edit name agent)) = true
 needs_file (Some (show listing name)) = true
+needs_file (Some (merge name other)) = true
 needs_file None = false
 
 -- what a run answers: its status, what it prints, what it says on the error output, and the files after it

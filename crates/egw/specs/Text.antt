@@ -2,6 +2,8 @@
 use Rattle.std.specs.Prelude.{ℕ, List, ◌++◌, codes}
 use Rattle.std.specs.Fmt.{decimal}
 use Rattle.hex.specs.Hex.{encode_lower}
+use Rattle.ew_model.specs.declared.id.Id.{Id}
+use Rattle.ew_model.specs.Scripts.{id_text}
 use Rattle.ew_model.specs.Verdicts.{Ruling}
 use Rattle.ew_model.specs.Verdicts.Ruling.{Repeat, Clash, SelfParent, TooManyParents, ParentsUnsorted, Unknown, PoolFull, NotReduced, Skipped, GraphFull, OutOfRange, Good}
 use Rattle.ew_model.specs.FileFaults.{RecordFault}
@@ -90,6 +92,16 @@ too_many_heads heads = codes "egw: " ++ (decimal heads ++ codes " heads, more th
 -- how many events an edit made
 abbrev pub made_text : ℕ → List ℕ
 made_text made = codes "made " ++ (decimal made ++ codes "\n")
+
+-- an id that two events have
+abbrev pub clash : Id → List ℕ
+clash id = codes "egw: clash " ++ (id_text id ++ codes "\n")
+
+-- how many received events were appended, wait, were there before and were refused, and the critical cut behind which the history changed
+abbrev pub received_text : ℕ → ℕ → ℕ → ℕ → ℕ → List ℕ
+received_text accepted waiting repeats refused cut =
+    codes "accepted "
+    ++ (decimal accepted ++ (codes " waiting " ++ (decimal waiting ++ (codes " repeats " ++ (decimal repeats ++ (codes " refused " ++ (decimal refused ++ (codes " cut " ++ (decimal cut ++ codes "\n")))))))))
 
 abbrev pub shelf_failed : List ℕ
 shelf_failed = codes "egw: shelf failed\n"

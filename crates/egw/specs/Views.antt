@@ -5,7 +5,7 @@ use Rattle.ew_outside.specs.Counts.{Rose}
 use Rattle.ew_model.specs.Limits.{LimitNumbers}
 use Rattle.ew_model.specs.Names.{is_name}
 use Rattle.egw.specs.Scripts.{Reading, Means}
-use Rattle.egw.specs.Table.{Listing, content, head_ids, log, numbers, Command, create, edit, show, Reply, prints, stores, refuses, Opened, opened, refused}
+use Rattle.egw.specs.Table.{Listing, content, head_ids, log, numbers, Command, create, edit, show, merge, Reply, prints, stores, refuses, Opened, opened, refused}
 use Rattle.ew_outside.specs.declared.fault.ShelfFault.{ShelfFault}
 use Rattle.ew_outside.specs.declared.fault.ShelfFault.TheVariants as shelf_fault
 use Rattle.egw.specs.declared.words as words
@@ -30,6 +30,7 @@ abbrev pub line_view : Taken → Command
 line_view (taken.New name) = create name.now
 line_view (taken.Edit name agent) = edit name.now agent.now
 line_view (taken.Show listing name) = show (listing_view listing) name.now
+line_view (taken.Merge name other) = merge name.now other.now
 
 -- the agent of an edit is a name
 abbrev pub IsNamed : Option Command → Type 0

@@ -2,7 +2,7 @@
 ghost use Rattle.std.specs.Prelude.{◌≡◌, false, IfOk};
 ghost use Rattle.clap.specs.Words.{app_of};
 ghost use Rattle.clap.specs.declared.builder.command.Command.TheViews.{out-Command};
-ghost use Rattle.egw.specs.Cli.{edit_app, egw_app, file_app};
+ghost use Rattle.egw.specs.Cli.{edit_app, egw_app, file_app, merge_app};
 
 use clap::{Arg, Command};
 use std::alloc::{AllocError, Global};
@@ -25,6 +25,16 @@ fn edit_command<'a>(alloc: Global) -> Result<Command<'a>, AllocError>
     Command::new(alloc, "edit").arg(file)?.arg(agent)
 }
 
+/// The command of two files.
+fn merge_command<'a>(alloc: Global) -> Result<Command<'a>, AllocError>
+    ensures app { IfOk result (λ c. app_of c ≡ merge_app) }
+    ensures local { IfOk result (λ c. (out-Command c).has_globals ≡ false) }
+{
+    let file = Arg::new(alloc, "file").required(true);
+    let other = Arg::new(alloc, "other").required(true);
+    Command::new(alloc, "merge").arg(file)?.arg(other)
+}
+
 /// The whole command.
 pub fn egw_command<'a>(alloc: Global) -> Result<Command<'a>, AllocError>
     ensures { IfOk result (λ c. app_of c ≡ egw_app) }
@@ -35,6 +45,7 @@ pub fn egw_command<'a>(alloc: Global) -> Result<Command<'a>, AllocError>
     let heads = file_command(alloc, "heads")?;
     let log = file_command(alloc, "log")?;
     let check = file_command(alloc, "check")?;
+    let merge = merge_command(alloc)?;
     Command::new(alloc, "egw")
         .no_binary_name(true)
         .subcommand_required(true)
@@ -43,5 +54,6 @@ pub fn egw_command<'a>(alloc: Global) -> Result<Command<'a>, AllocError>
         .subcommand(cat)?
         .subcommand(heads)?
         .subcommand(log)?
-        .subcommand(check)
+        .subcommand(check)?
+        .subcommand(merge)
 }

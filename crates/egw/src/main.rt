@@ -8,6 +8,7 @@ mod ending;
 mod input;
 mod laws;
 mod load;
+mod merge;
 mod open;
 mod output;
 mod plan;

@@ -7,6 +7,7 @@ ghost use Rattle.egw.specs.Views.{Causes, IsNamed, MissesFor, PlansBy, PlansLine
 
 use crate::commands::{create, show};
 use crate::edit::edit;
+use crate::merge::merge;
 use crate::reply::{Plan, Stop};
 use crate::texts::usage_text;
 use crate::words::Taken;
@@ -53,6 +54,7 @@ pub fn make_plan<'a, H: Shelf, S: Source, L: Ledger>(
             steps,
         ),
         Taken::Show { listing, file } => show(alloc, listing, file, limits, shelf, steps),
+        Taken::Merge { file, other } => merge(alloc, file, other, limits, shelf, steps),
     }
 }
 

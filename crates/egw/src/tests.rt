@@ -631,3 +631,131 @@ fn each_read_of_the_input_may_fail(rt: HostRuntime) -> Result<(), Fail> {
     told(&rt, &at, "made 1\nxa", err);
     Ok(())
 }
+
+/// Two who typed apart take each other's word.
+#[test]
+fn two_words_are_merged_both_ways(rt: HostRuntime) -> Result<(), Fail> {
+    let rows = [
+        ("new F", "", 0),
+        ("edit F --agent a", "ins 0 abc", 0),
+        ("new G", "", 0),
+        ("edit G --agent b", "ins 0 xyz", 0),
+        ("new H", "", 0),
+        ("edit H --agent a", "ins 0 abc", 0),
+        ("merge F G", "", 0),
+        ("merge G H", "", 0),
+        ("cat F", "", 0),
+        ("cat G", "", 0),
+        ("heads F", "", 0),
+        ("check G", "", 0),
+        ("merge G F", "", 0),
+    ];
+    let out =
+        "made 3\nmade 3\nmade 3\naccepted 3 waiting 0 repeats 0 refused 0 cut 0\naccepted 3 waiting 0 repeats 0 refused 0 cut 0\nabcxyzabcxyza:2\nb:2\nevents 6\nagents 2\nheads 2\ncuts 2\nlength 6\naccepted 0 waiting 0 repeats 6 refused 0 cut 6\n";
+    expect(&rt, rt.alloc(), &[], &rows, out, "")
+}
+
+/// One file goes on where the other ends.
+#[test]
+fn what_is_held_is_told_as_repeats(rt: HostRuntime) -> Result<(), Fail> {
+    let rows = [
+        ("new F", "", 0),
+        ("edit F --agent a", "ins 0 abc", 0),
+        ("new G", "", 0),
+        ("merge G F", "", 0),
+        ("edit G --agent b", "ins 3 X", 0),
+        ("merge F G", "", 0),
+        ("merge G F", "", 0),
+        ("log F", "", 0),
+    ];
+    let out =
+        "made 3\naccepted 3 waiting 0 repeats 0 refused 0 cut 0\nmade 1\naccepted 1 waiting 0 repeats 3 refused 0 cut 3\naccepted 0 waiting 0 repeats 4 refused 0 cut 4\na:0 root ins 0 a\na:1 a:0 ins 1 b\na:2 a:1 ins 2 c\nb:0 a:2 ins 3 X\n";
+    expect(&rt, rt.alloc(), &[], &rows, out, "")
+}
+
+#[test]
+fn a_file_is_merged_with_itself_and_with_no_events(rt: HostRuntime) -> Result<(), Fail> {
+    let rows = [
+        ("new F", "", 0),
+        ("new G", "", 0),
+        ("merge F G", "", 0),
+        ("edit F --agent a", "ins 0 abc", 0),
+        ("merge F F", "", 0),
+        ("merge F G", "", 0),
+        ("merge G F", "", 0),
+        ("cat G", "", 0),
+    ];
+    let out =
+        "accepted 0 waiting 0 repeats 0 refused 0 cut 0\nmade 3\naccepted 0 waiting 0 repeats 3 refused 0 cut 3\naccepted 0 waiting 0 repeats 0 refused 0 cut 3\naccepted 3 waiting 0 repeats 0 refused 0 cut 0\nabc";
+    expect(&rt, rt.alloc(), &[], &rows, out, "")
+}
+
+#[test]
+fn nothing_is_stored_where_nothing_was_appended(rt: HostRuntime) -> Result<(), Fail> {
+    let alloc = rt.alloc();
+    let mut at = make_outside(alloc)?;
+    // A file is made by two calls, and loaded twice for a merge; the call behind these would fail.
+    at.shelf = MemShelf::new(alloc, vec![in alloc; 4]?, Vec::new(alloc));
+    let rows = [("new F", "", 0), ("merge F F", "", 0)];
+    run_all(&rt, alloc, &mut at, &Limits::program(), &rows)?;
+    let out = "accepted 0 waiting 0 repeats 0 refused 0 cut 0\n";
+    told(&rt, &at, out, "");
+    Ok(())
+}
+
+#[test]
+fn a_clash_changes_no_file(rt: HostRuntime) -> Result<(), Fail> {
+    let rows = [
+        ("new F", "", 0),
+        ("edit F --agent a", "ins 0 x", 0),
+        ("new G", "", 0),
+        ("edit G --agent b", "ins 0 z", 0),
+        ("edit G --agent a", "ins 1 y", 0),
+        ("merge F G", "", 5),
+        ("log F", "", 0),
+    ];
+    let out = "made 1\nmade 1\nmade 1\na:0 root ins 0 x\n";
+    expect(&rt, rt.alloc(), &[], &rows, out, "egw: clash a:0\n")
+}
+
+#[test]
+fn a_merge_keeps_to_the_limit_of_events(rt: HostRuntime) -> Result<(), Fail> {
+    let alloc = rt.alloc();
+    let limits = Limits::new(3, 1, 64, 643).ok_or("limits")?;
+    let mut at = make_outside(alloc)?;
+    let rows = [
+        ("new F", "", 0),
+        ("edit F --agent a", "ins 0 ab", 0),
+        ("new G", "", 0),
+        ("edit G --agent b", "ins 0 xy", 0),
+        ("merge F G", "", 7),
+        // A clash behind the limit comes first.
+        ("edit G --agent a", "ins 0 z", 0),
+        ("merge F G", "", 5),
+        ("cat F", "", 0),
+    ];
+    expect_within(&rt, alloc, &mut at, &limits, &[], &rows)?;
+    let err = "egw: more than 3 events\negw: clash a:0\n";
+    told(&rt, &at, "made 2\nmade 2\nmade 1\nab", err);
+    Ok(())
+}
+
+#[test]
+fn the_file_that_a_merge_refuses_is_named(rt: HostRuntime) -> Result<(), Fail> {
+    let files = [
+        ("F", LETTER.as_slice()),
+        ("G", [0; 20].as_slice()),
+        ("H", SKIPPED.as_slice()),
+    ];
+    let rows = [
+        ("merge F G", "", 4),
+        ("merge F H", "", 4),
+        ("merge H G", "", 4),
+        ("merge F I", "", 3),
+        ("merge J I", "", 3),
+        ("cat F", "", 0),
+    ];
+    let err =
+        "egw: G: not an event file\negw: H: event 2: skipped\negw: H: event 2: skipped\negw: no file I\negw: no file J\n";
+    expect(&rt, rt.alloc(), &files, &rows, "a", err)
+}

@@ -2,10 +2,14 @@
 ghost use Rattle.std.specs.Prelude.{◌≡◌, IfOk, string_bytes};
 ghost use Rattle.ew_model.specs.Answers.{ruling_of};
 ghost use Rattle.event_file.specs.Faults.{kind_of};
-ghost use Rattle.egw.specs.Text.{bad_digest, bad_event, bad_field, bad_line, line_out_of_range, too_many_events, too_many_heads, field_words, file_there, file_too_long, file_too_many, input_too_long, no_event_file, no_file, short_file, unknown_version, usage, verdict_words};
+ghost use Rattle.egw.specs.Merging.{took_text};
+ghost use Rattle.egw.specs.Text.{bad_digest, bad_event, bad_field, bad_line, clash, line_out_of_range, too_many_events, too_many_heads, field_words, file_there, file_too_long, file_too_many, input_too_long, no_event_file, no_file, short_file, unknown_version, usage, verdict_words};
 
 use event_file::RecordFault;
+use event_words::print::print_id;
+use ew_model::id::Id;
 use ew_model::verdict::Verdict;
+use replica::Took;
 use std::alloc::{AllocError, Global};
 
 const USAGE: &str =
@@ -183,5 +187,32 @@ pub fn made_text(alloc: Global, made: u64) -> Result<Vec<u8>, AllocError>
     ensures { IfOk result (λ t. t.items ≡ Rattle.egw.specs.Text.made_text made) }
 {
     let text = format!(in alloc; "made {made}\n")?;
+    Ok(text.into_bytes())
+}
+
+pub fn clash_text(alloc: Global, id: &Id) -> Result<Vec<u8>, AllocError>
+    ensures { IfOk result (λ t. t.items ≡ clash id.now) }
+{
+    let mut text = Vec::from_slice(alloc, b"egw: clash ")?;
+    text.extend_from_slice(&print_id(alloc, id)?)?;
+    text.push(b'\n')?;
+    Ok(text)
+}
+
+/// What was answered to received events.
+pub fn received_text(alloc: Global, took: &Took) -> Result<Vec<u8>, AllocError>
+    ensures { IfOk result (λ t. t.items ≡ took_text took.now) }
+{
+    let Took {
+        accepted,
+        waiting,
+        repeats,
+        refused,
+        cut,
+    } = took;
+    let refused = refused.len();
+    let text = format!(in alloc;
+        "accepted {accepted} waiting {waiting} repeats {repeats} refused {refused} cut {cut}\n"
+    )?;
     Ok(text.into_bytes())
 }

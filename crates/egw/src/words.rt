@@ -2,7 +2,7 @@
 ghost use Rattle.std.specs.Prelude.{◌≡◌, IfOk, map, string_bytes};
 ghost use Rattle.std.specs.Option.{option_map};
 ghost use Rattle.clap.specs.Words.{first_of, found_of, rows_of, subcommand_rows_of};
-ghost use Rattle.egw.specs.Table.{create, edit_line, file_line, line_in, line_of, show};
+ghost use Rattle.egw.specs.Table.{create, edit_line, file_line, line_in, line_of, merge_line, show};
 ghost use Rattle.egw.specs.Views.{IsNamed, line_view, listing_view};
 
 use crate::cli::egw_command;
@@ -31,6 +31,7 @@ pub enum Taken<'a> {
     /// The agent is a name.
     Edit { file: &'a str, agent: &'a str },
     Show { listing: Listing, file: &'a str },
+    Merge { file: &'a str, other: &'a str },
 }
 
 /// The first value of an argument.
@@ -68,6 +69,15 @@ fn read_show<'a>(listing: Listing, values: &ArgMatches<'a>) -> Option<Taken<'a>>
     Some(Taken::Show { listing, file })
 }
 
+fn read_merge<'a>(values: &ArgMatches<'a>) -> Option<Taken<'a>>
+    ensures line { option_map line_view result ≡ merge_line (rows_of (found_of values.now)) }
+    ensures named { IsNamed (option_map line_view result) }
+{
+    let file = value(values, "file")?;
+    let other = value(values, "other")?;
+    Some(Taken::Merge { file, other })
+}
+
 fn read_matches<'a>(matches: &ArgMatches<'a>) -> Option<Taken<'a>>
     ensures line { option_map line_view result ≡ line_in (subcommand_rows_of matches.now) }
     ensures named { IsNamed (option_map line_view result) }
@@ -90,6 +100,9 @@ fn read_matches<'a>(matches: &ArgMatches<'a>) -> Option<Taken<'a>>
     }
     if name == "check" {
         return read_show(Listing::Numbers, values);
+    }
+    if name == "merge" {
+        return read_merge(values);
     }
     None
 }

@@ -1,6 +1,6 @@
-use Rattle.std.proofs.Common.{true, ◌≡◌, ◌∙◌, ap, ap₂, codes}
+use Rattle.std.proofs.Common.{true, ◌≡◌, ◌∙◌, ap, ap₂}
 use Rattle.std.proofs.lemmas.Result.{IfOk-weaker}
-use Rattle.clap.specs.Words.{App, app_of, new_app}
+use Rattle.clap.specs.Words.{app_of}
 use Rattle.clap.specs.Simple.{on_top, app_of_fields}
 use Rattle.clap.specs.declared.builder.command.Command.{Command}
 use Rattle.clap.specs.declared.builder.command.Command.TheOpen.{Command-F}
@@ -19,4 +19,5 @@ returns c =
     let with_cat = c.in_ok-subcommand-3.ensures.shape c.in_ok-cat.ensures.local ∙ ap₂ then_app with_edit c.in_ok-cat.ensures.app in
     let with_heads = c.in_ok-subcommand-4.ensures.shape c.in_ok-heads.ensures.local ∙ ap₂ then_app with_cat c.in_ok-heads.ensures.app in
     let with_log = c.in_ok-subcommand-5.ensures.shape c.in_ok-log.ensures.local ∙ ap₂ then_app with_heads c.in_ok-log.ensures.app in
-    IfOk-weaker c.subcommand-6.result _ _ (λ m h. h.shape c.in_ok-check.ensures.local ∙ ap₂ then_app with_log c.in_ok-check.ensures.app) c.subcommand-6.ensures
+    let with_check = c.in_ok-subcommand-6.ensures.shape c.in_ok-check.ensures.local ∙ ap₂ then_app with_log c.in_ok-check.ensures.app in
+    IfOk-weaker c.subcommand-7.result _ _ (λ m h. h.shape c.in_ok-merge.ensures.local ∙ ap₂ then_app with_check c.in_ok-merge.ensures.app) c.subcommand-7.ensures

@@ -1,0 +1,108 @@
+-- No file of a history within the limits has more bytes than the limits allow.
+use Rattle.std.proofs.Common.{◌≡◌, ℕ, ◌+◌, ◌*◌, ◌≤◌, nat_le, nat_lt, not, Bool, true, false, ◌&&◌, if◌then◌else◌, List, [], ◌∷◌, ◌++◌, length, fold, flat_map, refl, arith, length-append}
+use Rattle.std.specs.List.{list_any, list_all, AllByRecursion, position_or_len}
+use Rattle.std.proofs.lemmas.Bool.{and_parts}
+use Rattle.std.proofs.lemmas.Bool.Decides.{nat_tests}
+use Rattle.sha2.specs.Sha256.{sha256}
+use Rattle.sha2.proofs.Facts256.{length-sha256}
+use Rattle.ew_model.specs.declared.id.Id.{Id}
+use Rattle.ew_model.specs.declared.event.Op.{Op}
+use Rattle.ew_model.specs.declared.event.Op.TheVariants.{Ins, Del}
+use Rattle.ew_model.specs.declared.event.Event.{Event}
+use Rattle.ew_model.specs.Ancestors.{ids_of, is_held}
+use Rattle.ew_model.specs.Ids.{id_eq, name_eq, ids_ascend}
+use Rattle.ew_model.specs.Names.{is_name, is_name_byte, begins_with_dash}
+use Rattle.ew_model.specs.Sound.{AreSound}
+use Rattle.ew_model.specs.File.{four_bytes, name_bytes, with_agent, agents_of, op_bytes, record_bytes, file_content, file_of, are_writable_after, IsWritable}
+use Rattle.ew_model.specs.Limits.{most_file_bytes}
+
+four-long : (n : ℕ) → length (four_bytes n) ≡ 4
+four-long n = refl
+
+at_most : (m n : ℕ) → nat_le m n ≡ true → m ≤ n
+at_most m n h = grind (arith, nat_tests)
+
+-- ---- names
+
+name_short : (name : List ℕ) → is_name name ≡ true → length name ≤ 32
+name_short name h =
+    let some = nat_lt 0 (length name) in
+    let few = nat_le (length name) 32 in
+    let letters = list_all is_name_byte name in
+    let bytes = and_parts (some && few && letters) (not (begins_with_dash name)) h in
+    let lengths = and_parts (some && few) letters bytes.0 in
+    at_most (length name) 32 (and_parts some few lengths.0).1
+
+names_length : (agents : List (List ℕ)) → AllByRecursion (λ name. length name ≤ 32) agents → length (flat_map name_bytes agents) ≤ 33 * length agents
+names_length [] h = omega arith
+names_length (name ∷ agents) h = omega (arith, length-append (name_bytes name) (flat_map name_bytes agents), h.0, names_length agents h.1)
+
+one_agent : (b : Bool) (agents : List (List ℕ)) (name : List ℕ) → length (if b then agents else agents ++ name ∷ []) ≤ length agents + 1
+one_agent true agents name = omega arith
+one_agent false agents name = omega (arith, length-append agents (name ∷ []))
+
+agents_few : (agents : List (List ℕ)) (events : List Event) → length (fold with_agent agents events) ≤ length agents + length events
+agents_few agents [] = omega arith
+agents_few agents (e ∷ events) = omega (arith, agents_few (with_agent agents e) events, one_agent (list_any (name_eq e.id.agent) agents) agents e.id.agent)
+
+all_push : (P : List ℕ → Type 0) (xs : List (List ℕ)) (x : List ℕ) → AllByRecursion P xs → P x → AllByRecursion P (xs ++ x ∷ [])
+all_push P [] x h p = (p, tt)
+all_push P (y ∷ xs) x h p = (h.0, all_push P xs x h.1 p)
+
+agent_short : (b : Bool) (agents : List (List ℕ)) (name : List ℕ) → AllByRecursion (λ a. length a ≤ 32) agents → length name ≤ 32 → AllByRecursion (λ a. length a ≤ 32) (if b then agents else agents ++ name ∷ [])
+agent_short true agents name h p = h
+agent_short false agents name h p = all_push (λ a. length a ≤ 32) agents name h p
+
+agents_short : (agents : List (List ℕ)) (events : List Event) → AllByRecursion (λ a. length a ≤ 32) agents → AreSound events → AllByRecursion (λ a. length a ≤ 32) (fold with_agent agents events)
+agents_short agents [] h s = h
+agents_short agents (e ∷ events) h s =
+    agents_short (with_agent agents e) events (agent_short (list_any (name_eq e.id.agent) agents) agents e.id.agent h (name_short e.id.agent s.0.id.agent)) s.1
+
+-- ---- records
+
+op_length : (o : Op) → length (op_bytes o) ≤ 9
+op_length (Ins at ch) = omega arith
+op_length (Del at) = omega arith
+
+parents_length : (f : Id → ℕ) (ps : List Id) → length (flat_map (λ p. four_bytes (f p)) ps) ≡ 4 * length ps
+parents_length f [] = omega arith
+parents_length f (p ∷ ps) = omega (arith, length-append (four_bytes (f p)) (flat_map (λ q. four_bytes (f q)) ps), four-long (f p), parents_length f ps)
+
+record_length : (history : List Event) (e : Event) → length e.parents ≤ 16 → length (record_bytes history e) ≤ 82
+unfolding record_bytes
+record_length history e few =
+    let parents = flat_map (λ (p : Id). four_bytes (position_or_len (id_eq p) (ids_of history))) e.parents in
+    let agent = four_bytes (position_or_len (name_eq e.id.agent) (agents_of history)) in
+    let seq = four_bytes e.id.seq in
+    let first : length (record_bytes history e) ≡ length agent + (length seq + (1 + (length parents + length (op_bytes e.op)))) = simp length-append (omega arith) in
+    omega (arith, first, four-long (position_or_len (name_eq e.id.agent) (agents_of history)), four-long e.id.seq, parents_length (λ p. position_or_len (id_eq p) (ids_of history)) e.parents, op_length e.op, few)
+
+records_length : (history events : List Event) → AllByRecursion (λ e. length e.parents ≤ 16) events → length (flat_map (record_bytes history) events) ≤ 82 * length events
+records_length history [] h = omega arith
+records_length history (e ∷ events) h = omega (arith, length-append (record_bytes history e) (flat_map (record_bytes history) events), record_length history e h.0, records_length history events h.1)
+
+few_parents : (before events : List Event) → are_writable_after before events ≡ true → AllByRecursion (λ e. length e.parents ≤ 16) events
+few_parents before [] h = tt
+few_parents before (e ∷ events) h =
+    let new = not (is_held before e.id) in
+    let known = list_all (is_held before) e.parents in
+    let order = ids_ascend e.parents in
+    let few = nat_le (length e.parents) 16 in
+    let parts = and_parts (new && known && order && few) (are_writable_after (before ++ e ∷ []) events) h in
+    (at_most (length e.parents) 16 (and_parts (new && known && order) few parts.0).1, few_parents (before ++ e ∷ []) events parts.1)
+
+-- ---- the file
+
+content_length : (history : List Event) → AreSound history → IsWritable history → length (file_content history) ≤ 16 + 115 * length history
+unfolding file_content
+content_length history sound writable =
+    let agents = agents_of history in
+    let names = flat_map name_bytes agents in
+    let records = flat_map (record_bytes history) history in
+    let all : length (file_content history) ≡ 16 + (length names + length records) = simp length-append (omega (arith, four-long (length agents), four-long (length history))) in
+    omega (arith, all, names_length agents (agents_short [] history tt sound), agents_few [] history, records_length history history (few_parents [] history writable.each))
+
+pub file_length : (history : List Event) → AreSound history → IsWritable history → length (file_of history) ≤ most_file_bytes (length history)
+unfolding file_of
+file_length history sound writable =
+    omega (arith, length-append (file_content history) (sha256 (file_content history)), length-sha256 (file_content history), content_length history sound writable)
