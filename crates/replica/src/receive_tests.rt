@@ -891,3 +891,36 @@ const ALL_COME: Told = Told {
     refused: &[],
     cut: 0,
 };
+
+/// Three events of one line, and one beside them whose index is out of range.
+const BESIDE_A_LINE: &[Step] = &[
+    Step::Edit(&[(Edit::Ins(0, "abc"), Ok(3))]),
+    Step::Receive(
+        &[(b'b', 0, &[(b'a', 0)], Op::Ins { at: 9, ch: 'x' })],
+        Told {
+            accepted: 0,
+            waiting: 0,
+            repeats: 0,
+            refused: &[((b'b', 0), Refusal::OutOfRange { len: 1 })],
+            cut: 3,
+        },
+    ),
+];
+
+/// All cuts of a line are critical.
+fn expect_cuts(rt: &impl Abort, replica: &Replica) {
+    assert_eq!(rt; replica.count(), 3);
+    for cut in 0..4 {
+        assert!(rt; replica.graph().is_cut(cut));
+    }
+}
+
+#[test]
+fn a_refused_event_leaves_the_cuts(rt: HostRuntime) -> Result<(), NoMem> {
+    let mut replica = Replica::new(rt.alloc(), Limits::program())?;
+    for step in BESIDE_A_LINE {
+        take_step(&rt, rt.alloc(), &mut replica, step)?;
+    }
+    expect_cuts(&rt, &replica);
+    Ok(())
+}
