@@ -1,10 +1,2 @@
-pub mod BothWays
-pub mod FaultLaws
-pub mod FileSizes
-pub mod MergedFiles
-pub mod Merges
 pub mod Outputs
-pub mod Readings
 pub mod Runs
-pub mod Stops
-pub mod TakenWords

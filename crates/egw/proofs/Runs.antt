@@ -8,17 +8,17 @@ use Rattle.ew_model.specs.Limits.{LimitNumbers}
 use Rattle.ew_outside.specs.Files.{Files}
 use Rattle.ew_outside.specs.Counts.{Rose, IsQuiet}
 use Rattle.ew_outside.specs.Bytes.{IsFlushed}
-use Rattle.egw.specs.Outputs.{GrowsByFront}
-use Rattle.egw.specs.Text.{out_of_memory}
-use Rattle.egw.specs.Scripts.{Reading, Means}
-use Rattle.egw.specs.Table.{Command, Reply, Answer, reply_of, answer_of, reads_input, needs_file}
-use Rattle.egw.specs.Views.{plan_view, status_of, Causes, MissesFor, MissesBy, PlansBy, PlansLine, ReadsFor, ReadsAll, IsRefusal}
+use Rattle.command_table.specs.Outputs.{GrowsByFront}
+use Rattle.command_table.specs.Text.{out_of_memory}
+use Rattle.command_table.specs.Scripts.{Reading, Means}
+use Rattle.command_table.specs.Table.{Command, Reply, Answer, reply_of, answer_of, reads_input, needs_file}
+use Rattle.command_plans.specs.Views.{plan_view, status_of, Causes, MissesFor, MissesBy, PlansBy, PlansLine, ReadsFor, ReadsAll, IsRefusal}
 use Rattle.egw.specs.Endings.{EndFiles, EndOut, EndShelfCount, EndSinkCount, EndsPlan, end_of_stop, end_status, end_text, FilesAfter, files_after, out_of}
-use Rattle.egw.specs.Headline.{Seen, Object, shelf, source, sink, faults_of, failed_text, TellsErr, IsAnswered, IsFailed, IsOutOfMemory, IsTableRun, NamesFault, IsLineRun}
-use Rattle.egw.specs.declared.reply.Plan.{Plan}
-use Rattle.egw.specs.declared.reply.Plan.TheVariants as plan
-use Rattle.egw.specs.declared.reply.Stop.{Stop}
-use Rattle.egw.specs.declared.reply.Stop.TheVariants as stop
+use Rattle.command_table.specs.Headline.{Seen, Object, shelf, source, sink, faults_of, failed_text, TellsErr, IsAnswered, IsFailed, IsOutOfMemory, IsTableRun, NamesFault, IsLineRun}
+use Rattle.command_plans.specs.declared.reply.Plan.{Plan}
+use Rattle.command_plans.specs.declared.reply.Plan.TheVariants as plan
+use Rattle.command_plans.specs.declared.reply.Stop.{Stop}
+use Rattle.command_plans.specs.declared.reply.Stop.TheVariants as stop
 use Rattle.egw.specs.declared.ending.Ending.{Ending}
 use Rattle.egw.specs.declared.ending.Ending.TheVariants as e
 

@@ -3,14 +3,14 @@ use Rattle.std.specs.Prelude.{◌≡◌, ◌≤◌, ⊤, ℕ, List, [], Option, 
 use Rattle.std.specs.FinMap.{insert}
 use Rattle.std.specs.Io.KnownBytes.{Appends}
 use Rattle.ew_outside.specs.Files.{Files}
-use Rattle.ew_outside.specs.Counts.{Rose, IsQuiet}
+use Rattle.ew_outside.specs.Counts.{Rose}
 use Rattle.ew_outside.specs.Bytes.{IsFlushed}
-use Rattle.egw.specs.Outputs.{GrowsByFront}
-use Rattle.egw.specs.Text.{shelf_failed, source_failed, sink_failed, out_of_memory}
-use Rattle.egw.specs.declared.reply.Plan.{Plan}
-use Rattle.egw.specs.declared.reply.Plan.TheVariants as plan
-use Rattle.egw.specs.declared.reply.Stop.{Stop}
-use Rattle.egw.specs.declared.reply.Stop.TheVariants as stop
+use Rattle.command_table.specs.Outputs.{GrowsByFront}
+use Rattle.command_table.specs.Text.{shelf_failed, source_failed, sink_failed, out_of_memory}
+use Rattle.command_plans.specs.declared.reply.Plan.{Plan}
+use Rattle.command_plans.specs.declared.reply.Plan.TheVariants as plan
+use Rattle.command_plans.specs.declared.reply.Stop.{Stop}
+use Rattle.command_plans.specs.declared.reply.Stop.TheVariants as stop
 use Rattle.egw.specs.declared.ending.Ending.{Ending}
 use Rattle.egw.specs.declared.ending.Ending.TheVariants.{Done, Refused, ShelfFailed, SourceFailed, SinkFailed, OutOfMemory}
 
@@ -82,12 +82,6 @@ end_text ShelfFailed = shelf_failed
 end_text SourceFailed = source_failed
 end_text SinkFailed = sink_failed
 end_text OutOfMemory = out_of_memory
-
--- the text was told; where the count of faults rose, perhaps a front of it alone
-pub record Tells (old new : Option (List ℕ)) (before now : ℕ) (text : List ℕ) : Type 0 where
-  pub later : before ≤ now
-  pub front : GrowsByFront old new text
-  pub whole : IsQuiet before now → Appends old new text
 
 abbrev pub IsDoneOrSinkFailed : Ending → Type 0
 IsDoneOrSinkFailed Done = ⊤

@@ -1,6 +1,6 @@
 //! A run whose steps nobody counts.
 ghost use Rattle.std.specs.Prelude.{◌≡◌, ◌<◌, map, string_bytes};
-ghost use Rattle.egw.specs.Headline.{IsRun, seen};
+ghost use Rattle.command_table.specs.Headline.{IsRun, seen};
 
 use crate::top::run;
 use ew_model::limits::Limits;

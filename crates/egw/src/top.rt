@@ -1,12 +1,12 @@
 //! The top call.
 ghost use Rattle.std.specs.Prelude.{map, string_bytes};
 ghost use Rattle.std.specs.Option.{option_map};
-ghost use Rattle.egw.specs.Headline.{IsLineRun, IsRun, seen};
-ghost use Rattle.egw.specs.Views.{IsNamed, line_view};
+ghost use Rattle.command_table.specs.Headline.{IsLineRun, IsRun, seen};
+ghost use Rattle.command_words.specs.Words.{IsNamed, line_view};
 
 use crate::ending::{Ending, carry_out, tell};
-use crate::plan::make_plan;
-use crate::words::{Taken, read_words};
+use command_plans::plan::make_plan;
+use command_words::words::{Taken, read_words};
 use ew_model::limits::Limits;
 use ew_model::steps::Steps;
 use ew_outside::{Shelf, Sink, Source};

@@ -1,5 +1,5 @@
 use Rattle.std.proofs.Common.{None}
-use Rattle.egw.specs.Headline.{seen}
+use Rattle.command_table.specs.Headline.{seen}
 use Rattle.egw.proofs.Runs.{is_run}
 use Rattle.egw.proofs.top.run_line.Goals as goal
 

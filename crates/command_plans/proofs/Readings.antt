@@ -1,0 +1,82 @@
+-- What an input means is one reading at most, so that a plan which is right for one reading is right for each.
+use Rattle.std.proofs.Common.{◌≡◌, ◌≤◌, ◌∙◌, arith, List, ℕ, length, Option, Some, None, Result, Ok, Err, IfOk, IfSome, ap, sym, subst}
+use Rattle.std.specs.declared.alloc.AllocError.{AllocError}
+use Rattle.ew_outside.specs.Files.{Files}
+use Rattle.ew_model.specs.Limits.{LimitNumbers}
+use Rattle.ew_model.specs.Kept.{ReplicaState}
+use Rattle.ew_model.specs.Edits.{Edit}
+use Rattle.ew_model.specs.Scripts.{Numbered, IsScript, IsFirstBadLine}
+use Rattle.ew_model.proofs.ScriptReading.{scripts_are_unique, first_bad_lines_are_unique, scripts_have_no_bad_line}
+use Rattle.command_plans.specs.declared.reply.Plan.{Plan}
+use Rattle.command_plans.specs.declared.reply.Stop.{Stop}
+use Rattle.command_plans.specs.Edits.{EditsTo, PlansScript, PlansInput}
+use Rattle.command_table.specs.Scripts.{Reading, script, bad_line, Means}
+use Rattle.ew_model.specs.declared.event.Event.{Event}
+use Rattle.command_table.specs.Table.{Reply, refuses, script_reply, input_reply, edited_reply, made_reply, Opened, opened, open_file, over_events, over_both}
+use Rattle.command_table.specs.Text.{bad_line as bad_line_text}
+use Rattle.command_plans.specs.Views.{plan_view, PlansBy, ShelfCauses, MissesBy}
+
+means_once : (input : List ℕ) (x y : Reading) → Means input x → Means input y → x ≡ y
+means_once input (script xs) (script ys) left right = ap script (scripts_are_unique input xs ys left right)
+means_once input (script xs) (bad_line k) left right = let no : ⊥ = scripts_have_no_bad_line input xs k left right in absurd no
+means_once input (bad_line j) (script ys) left right = let no : ⊥ = scripts_have_no_bad_line input ys j right left in absurd no
+means_once input (bad_line j) (bad_line k) left right = ap bad_line (first_bad_lines_are_unique input j k left right)
+
+-- what holds of one reading of an input holds of each
+for_each : (input : List ℕ) (found : Reading) (P : Reading → Type 0) → Means input found → P found → (reading : Reading) → Means input reading → P reading
+for_each input found P left h reading right = subst P (means_once input found reading left right) h
+
+module _ (name agent input : List ℕ) (r new : ReplicaState) where
+  -- an input with a bad line
+  pub bad_script : (line : ℕ) (text : List ℕ) → IsFirstBadLine input line → text ≡ bad_line_text line → (reading : Reading) → Means input reading → refuses 5 text ≡ script_reply name agent r.limits r.held reading
+  bad_script line text bad is = for_each input (bad_line line) (λ reading. refuses 5 text ≡ script_reply name agent r.limits r.held reading) bad (ap (refuses 5) is)
+
+  -- a script of which a line is refused
+  pub stopped_script : (items : List (Numbered Edit)) (p : Plan) → IsScript input items → EditsTo agent items r new (Ok (Some p)) → (reading : Reading) → Means input reading → plan_view p ≡ script_reply name agent r.limits r.held reading
+  stopped_script items p is done =
+      for_each input (script items) (λ reading. plan_view p ≡ script_reply name agent r.limits r.held reading) is (done.3 ∙ ap (edited_reply name r.limits (length r.held)) (sym done.2))
+
+  -- a script that is done to its end
+  pub done_script : (items : List (Numbered Edit)) (result : Result Plan AllocError) → IsScript input items → EditsTo agent items r new (Ok None) → IfOk result (λ p. plan_view p ≡ made_reply name (length r.held) new.held) → PlansScript name agent r input result
+  done_script items (Ok p) is done told =
+      for_each input (script items) (λ reading. plan_view p ≡ script_reply name agent r.limits r.held reading) is (told ∙ ap (edited_reply name r.limits (length r.held)) (sym done))
+  done_script items (Err e) is done told = tt
+
+-- a plan over the replica of a file that was opened
+pub plans_opened :
+    (name agent : List ℕ) (limits : LimitNumbers) (r : ReplicaState) (files : Option Files) (left : Option (List ℕ)) (result : Result Plan Stop) →
+    r.limits ≡ limits → IfSome files (λ m. opened r.held ≡ open_file name limits m) → IfSome left (λ xs. PlansInput name agent r xs result) →
+    PlansBy (λ m xs reading. over_events (input_reply name agent limits xs reading) (open_file name limits m)) files left result
+plans_opened name agent limits r (Some m) (Some xs) (Ok p) same view plans =
+    λ reading means.
+    plans reading means ∙ ap (λ (l : LimitNumbers). input_reply name agent l xs reading r.held) same ∙ ap (over_events (input_reply name agent limits xs reading)) view
+plans_opened name agent limits r (Some m) (Some xs) (Err e) same view plans = tt
+plans_opened name agent limits r (Some m) None result same view plans = tt
+plans_opened name agent limits r None left result same view plans = tt
+
+-- what is shown of a file that was opened
+pub shown_opened : (reply : List Event → Reply) (name : List ℕ) (limits : LimitNumbers) (held : List Event) (files : Option Files) (p : Plan) → IfSome files (λ m. opened held ≡ open_file name limits m) → plan_view p ≡ reply held
+    → IfSome files (λ m. plan_view p ≡ over_events reply (open_file name limits m))
+shown_opened reply name limits held (Some m) p view is = is ∙ ap (over_events reply) view
+shown_opened reply name limits held None p view is = tt
+
+-- a plan over the second of two files that were opened, of which the first left the map as it was
+pub both_opened :
+    (reply : List Event → List Event → Reply) (name other : List ℕ) (limits : LimitNumbers) (held : List Event) (files later : Option Files) (result : Result Plan Stop) →
+    later ≡ files → IfSome files (λ m. opened held ≡ open_file name limits m) →
+    IfSome later (λ m. IfOk result (λ p. plan_view p ≡ over_events (reply held) (open_file other limits m))) →
+    IfSome files (λ m. IfOk result (λ p. plan_view p ≡ over_both reply (open_file name limits m) (open_file other limits m)))
+both_opened reply name other limits held (Some m) later (Ok p) same view plans =
+    let here : plan_view p ≡ over_events (reply held) (open_file other limits m) =
+    subst (λ x. IfSome x (λ m. plan_view p ≡ over_events (reply held) (open_file other limits m))) same plans in
+    here ∙ ap (λ (x : Opened). over_both reply x (open_file other limits m)) view
+both_opened reply name other limits held (Some m) later (Err e) same view plans = tt
+both_opened reply name other limits held None later result same view plans = tt
+
+-- a fault or a miss of a later step is one of the whole
+pub later_causes : (before mid now : ℕ) (result : Result Plan Stop) → mid ≡ before → ShelfCauses mid now result → ShelfCauses before now result
+later_causes before mid now result same cause = subst (λ n. ShelfCauses n now result) same cause
+
+pub later_misses : (before mid now : ℕ) (result : Result Plan Stop) → before ≤ mid → MissesBy mid now result → MissesBy before now result
+later_misses before mid now (Ok p) low missed = (omega (arith, missed.0), λ three. let rose = missed.1 three in omega (arith, rose))
+later_misses before mid now (Err e) low missed = omega arith

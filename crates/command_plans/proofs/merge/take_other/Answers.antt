@@ -1,0 +1,7 @@
+use Rattle.command_table.specs.Table.{merge_reply}
+use Rattle.command_plans.proofs.Readings.{shown_opened}
+use Rattle.command_plans.proofs.merge.take_other.Goals as goal
+
+pub returns-in_ok-plan-in-Open-clause-told : goal.returns-in_ok-plan-in-Open-clause-told
+returns-in_ok-plan-in-Open-clause-told g c =
+    shown_opened (merge_reply c.args.name.now c.args.limits.now c.args.replica.held) c.args.other.now c.args.limits.now c.in-Open.other.held (g.H.Shelf.files c.args.shelf.now) c.in_ok-plan-in-Open.plan (rw c.in-Open.is at c.in_ok-status.ensures.told) c.in_ok-plan-in-Open.ensures.told

@@ -1,0 +1,41 @@
+//! Reading the input whole, where it isn't above a bound.
+ghost use Rattle.std.specs.Prelude.{◌≡◌, ◌<◌, IfOk, IfSome};
+ghost use Rattle.command_plans.specs.Inputs.{input_view, input_of, EndsInput, IsWithin};
+ghost use Rattle.command_plans.specs.Views.{SourceCauses};
+
+use crate::reply::Stop;
+use ew_outside::{Failed, Source};
+use std::alloc::Global;
+
+/// The input, or that there is more of it.
+#[derive(Debug, Drop)]
+pub enum Input {
+    TooLong,
+    Whole(Vec<u8>),
+}
+
+const PIECE: usize = 4096;
+
+/// Reads to the end, but at most one byte more than `most`.
+pub fn read_input<S: Source>(alloc: Global, source: &mut S, most: u32) -> Result<Input, Stop>
+    ensures told { IfSome (S.left source.old) (λ xs. IfOk result (λ i. input_view i ≡ input_of most xs)) }
+    ensures short { IfOk result (IsWithin most) }
+    ensures end { EndsInput (S.left source.old) (S.left source.new) result }
+    ensures cause { SourceCauses (S.faults source.old) (S.faults source.new) result }
+{
+    let bound = most as usize;
+    let mut bytes = Vec::new(alloc);
+    let mut buffer = [0u8; PIECE];
+    'pieces: while bytes.len() <= bound {
+        let room = (bound + 1 - bytes.len()).min(PIECE);
+        let count = match source.read(&mut buffer[..room]) {
+            Ok(count) => count,
+            Err(Failed) => return Err(Stop::SourceFailed),
+        };
+        if count == 0 {
+            return Ok(Input::Whole(bytes));
+        }
+        bytes.extend_from_slice(&buffer[..count])?;
+    }
+    Ok(Input::TooLong)
+}

@@ -1,0 +1,11 @@
+//! From a command to what is to be stored, printed or said. The files and the input are read; nothing is written yet.
+#![tactic(auto)]
+
+mod commands;
+mod edit;
+mod input;
+mod load;
+mod merge;
+mod open;
+pub mod plan;
+pub mod reply;

@@ -1,0 +1,71 @@
+//! From a command to what is to be done.
+ghost use Rattle.std.specs.Prelude.{◌≡◌, false, true};
+ghost use Rattle.std.specs.Option.{option_map};
+ghost use Rattle.ew_model.specs.Names.{is_name};
+ghost use Rattle.command_table.specs.Table.{needs_file, reads_input, reply_of};
+ghost use Rattle.command_plans.specs.Views.{Causes, MissesFor, PlansBy, PlansLine, ReadsFor};
+ghost use Rattle.command_words.specs.Words.{IsNamed, line_view};
+
+use crate::commands::{create, show};
+use crate::edit::edit;
+use crate::merge::merge;
+use crate::reply::{Plan, Stop};
+use command_texts::texts::usage_text;
+use command_words::words::Taken;
+use ew_model::limits::Limits;
+use ew_model::name::Name;
+use ew_model::steps::Steps;
+use ew_outside::{Shelf, Source};
+use std::alloc::Global;
+use std::sync::ledger::Ledger;
+
+/// Reads what the command reads. Nothing is stored or printed yet.
+pub fn make_plan<'a, H: Shelf, S: Source, L: Ledger>(
+    alloc: Global,
+    line: Option<Taken<'a>>,
+    limits: &Limits,
+    shelf: &mut H,
+    input: &mut S,
+    steps: &mut Steps<L>,
+) -> Result<Plan<'a>, Stop>
+    requires { IsNamed (option_map line_view line) }
+    ensures told { PlansBy (reply_of (option_map line_view line.entry) limits.now) (H.files shelf.old) (S.left input.old) result }
+    ensures line { PlansLine (option_map line_view line.entry) result }
+    ensures same { H.files shelf.new ≡ H.files shelf.old }
+    ensures read { ReadsFor (reads_input (option_map line_view line.entry)) (S.left input.old) (S.left input.new) result }
+    ensures quiet { reads_input (option_map line_view line.entry) ≡ false → S.faults input.new ≡ S.faults input.old }
+    ensures cause { Causes (H.faults shelf.old) (H.faults shelf.new) (S.faults input.old) (S.faults input.new) result }
+    ensures misses { MissesFor (needs_file (option_map line_view line.entry)) (H.misses shelf.old) (H.misses shelf.new) result }
+{
+    let Some(line) = line else {
+        return Ok(Plan::Refuses {
+            status: 2,
+            text: usage_text(alloc)?,
+        });
+    };
+    match line {
+        Taken::New(name) => create(alloc, name, shelf),
+        Taken::Edit { file, agent } => edit(
+            alloc,
+            file,
+            name_of(agent),
+            limits,
+            shelf,
+            input,
+            steps,
+        ),
+        Taken::Show { listing, file } => show(alloc, listing, file, limits, shelf, steps),
+        Taken::Merge { file, other } => merge(alloc, file, other, limits, shelf, steps),
+    }
+}
+
+/// A word that is a name, as one.
+fn name_of(agent: &str) -> Name
+    requires { is_name agent.now ≡ true }
+    ensures { result ≡ agent.now }
+{
+    match Name::read(agent.as_bytes()) {
+        Ok(name) => name,
+        Err(_) => unreachable!(),
+    }
+}

@@ -1,0 +1,4 @@
+pub mod BothWays
+pub mod FileSizes
+pub mod MergedFiles
+pub mod Merges

@@ -1,0 +1,10 @@
+-- What a command line answers, and what a run is.
+pub mod Cli
+pub mod Headline
+pub mod Loads
+pub mod MergeLaws
+pub mod Outputs
+pub mod Scripts
+pub mod Sequences
+pub mod Table
+pub mod Text

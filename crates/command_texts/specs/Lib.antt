@@ -1,0 +1,2 @@
+-- What is told of received events.
+pub mod Told

@@ -1,0 +1,237 @@
+//! The lines that the program prints, and those that it writes to its error output. Each ends with a newline; a name stands in it
+//! as it was given. The only error is want of memory.
+ghost use Rattle.std.specs.Prelude.{◌≡◌, IfOk, string_bytes};
+ghost use Rattle.ew_model.specs.Answers.{ruling_of};
+ghost use Rattle.event_file.specs.Faults.{kind_of};
+ghost use Rattle.command_texts.specs.Told.{took_text};
+ghost use Rattle.command_table.specs.Text.{bad_digest, bad_event, bad_field, bad_line, clash, line_out_of_range, too_many_events, too_many_heads, field_words, file_there, file_too_long, file_too_many, input_too_long, no_event_file, no_file, short_file, unknown_version, usage, verdict_words};
+
+use event_file::RecordFault;
+use event_words::print::print_id;
+use ew_model::id::Id;
+use ew_model::verdict::Verdict;
+use replica::Took;
+use std::alloc::{AllocError, Global};
+
+const USAGE: &str =
+    "usage: egw new FILE\n       egw edit FILE --agent NAME\n       egw cat FILE [--at VERSION]\n       egw heads FILE\n       egw log FILE\n       egw replay FILE\n       egw check FILE\n       egw merge FILE OTHER\n       egw ask FILE\n       egw serve FILE\n       egw net\n       egw make --seed N --count N\n";
+
+/// The usage: every command that the program is to have.
+pub fn usage_text(alloc: Global) -> Result<Vec<u8>, AllocError>
+    ensures { IfOk result (λ t. t.items ≡ usage) }
+{
+    USAGE.as_bytes().to_vec(alloc)
+}
+
+/// That the file isn't there.
+pub fn no_file_text(alloc: Global, name: &str) -> Result<Vec<u8>, AllocError>
+    ensures { IfOk result (λ t. t.items ≡ no_file name.now) }
+{
+    let text = format!(in alloc; "egw: no file {name}\n")?;
+    Ok(text.into_bytes())
+}
+
+/// That the file is there already.
+pub fn file_there_text(alloc: Global, name: &str) -> Result<Vec<u8>, AllocError>
+    ensures { IfOk result (λ t. t.items ≡ file_there name.now) }
+{
+    let text = format!(in alloc; "egw: file {name} is there\n")?;
+    Ok(text.into_bytes())
+}
+
+/// That a file of so many bytes is too short to be an event file.
+pub fn short_file_text(alloc: Global, name: &str, len: u64) -> Result<Vec<u8>, AllocError>
+    ensures { IfOk result (λ t. t.items ≡ short_file name.now len) }
+{
+    let text = format!(in alloc; "egw: {name}: short, {len} bytes\n")?;
+    Ok(text.into_bytes())
+}
+
+/// That the file doesn't begin as an event file does.
+pub fn no_event_file_text(alloc: Global, name: &str) -> Result<Vec<u8>, AllocError>
+    ensures { IfOk result (λ t. t.items ≡ no_event_file name.now) }
+{
+    let text = format!(in alloc; "egw: {name}: not an event file\n")?;
+    Ok(text.into_bytes())
+}
+
+/// That the file is of a version that isn't known.
+pub fn unknown_version_text(alloc: Global, name: &str, version: u8) -> Result<Vec<u8>, AllocError>
+    ensures { IfOk result (λ t. t.items ≡ unknown_version name.now version) }
+{
+    let text = format!(in alloc; "egw: {name}: version {version}\n")?;
+    Ok(text.into_bytes())
+}
+
+/// That the digest stored in the file isn't the one found of its bytes.
+pub fn bad_digest_text(
+    alloc: Global,
+    name: &str,
+    stored: &[u8],
+    found: &[u8],
+) -> Result<Vec<u8>, AllocError>
+    ensures { IfOk result (λ t. t.items ≡ bad_digest name.now stored.now found.now) }
+{
+    let stored = hex::encode(alloc, stored)?;
+    let found = hex::encode(alloc, found)?;
+    let text = format!(in alloc; "egw: {name}: digest {stored}, found {found}\n")?;
+    Ok(text.into_bytes())
+}
+
+/// What is wrong with a field, in words.
+fn words_of_field(kind: RecordFault) -> &'static str
+    ensures { result.now ≡ field_words (kind_of kind) }
+{
+    match kind {
+        RecordFault::Cut => "cut",
+        RecordFault::NameBad => "bad name",
+        RecordFault::NameTwice => "name twice",
+        RecordFault::AgentNumber => "agent number",
+        RecordFault::IdTwice => "id twice",
+        RecordFault::ParentCount => "parent count",
+        RecordFault::ParentPosition => "parent position",
+        RecordFault::ParentOrder => "parent order",
+        RecordFault::KindBad => "kind",
+        RecordFault::Scalar => "scalar",
+        RecordFault::Trailing => "trailing bytes",
+        RecordFault::UnusedAgent => "unused agent",
+    }
+}
+
+/// What is wrong with a field of the file, which begins at this byte.
+pub fn bad_field_text(
+    alloc: Global,
+    name: &str,
+    offset: u64,
+    kind: RecordFault,
+) -> Result<Vec<u8>, AllocError>
+    ensures { IfOk result (λ t. t.items ≡ bad_field name.now offset (kind_of kind)) }
+{
+    let words = words_of_field(kind);
+    let text = format!(in alloc; "egw: {name}: byte {offset}: {words}\n")?;
+    Ok(text.into_bytes())
+}
+
+/// Why an event isn't good, in words.
+fn words_of_verdict(alloc: Global, verdict: Verdict) -> Result<String, AllocError>
+    ensures { IfOk result (λ t. string_bytes t ≡ verdict_words (ruling_of verdict)) }
+{
+    match verdict {
+        Verdict::Repeat => String::from_str(alloc, "repeat"),
+        Verdict::Clash => String::from_str(alloc, "clash"),
+        Verdict::SelfParent => String::from_str(alloc, "own parent"),
+        Verdict::TooManyParents => String::from_str(alloc, "too many parents"),
+        Verdict::ParentsUnsorted => String::from_str(alloc, "parents unsorted"),
+        Verdict::Unknown(_) => String::from_str(alloc, "unknown parent"),
+        Verdict::NotReduced => String::from_str(alloc, "not reduced"),
+        Verdict::Skipped => String::from_str(alloc, "skipped"),
+        Verdict::OutOfRange { len } => format!(in alloc; "out of range, length {len}"),
+        Verdict::Good => String::from_str(alloc, "good"),
+    }
+}
+
+/// Why the event at a position of the file isn't good behind those before it.
+pub fn bad_event_text(
+    alloc: Global,
+    name: &str,
+    position: u32,
+    verdict: Verdict,
+) -> Result<Vec<u8>, AllocError>
+    ensures { IfOk result (λ t. t.items ≡ bad_event name.now position (ruling_of verdict)) }
+{
+    let words = words_of_verdict(alloc, verdict)?;
+    let text = format!(in alloc; "egw: {name}: event {position}: {words}\n")?;
+    Ok(text.into_bytes())
+}
+
+/// That the file has more than `most` bytes.
+pub fn file_too_long_text(alloc: Global, name: &str, most: u64) -> Result<Vec<u8>, AllocError>
+    ensures { IfOk result (λ t. t.items ≡ file_too_long name.now most) }
+{
+    let text = format!(in alloc; "egw: {name}: more than {most} bytes\n")?;
+    Ok(text.into_bytes())
+}
+
+/// That the file has more than `most` events.
+pub fn file_too_many_text(alloc: Global, name: &str, most: u32) -> Result<Vec<u8>, AllocError>
+    ensures { IfOk result (λ t. t.items ≡ file_too_many name.now most) }
+{
+    let text = format!(in alloc; "egw: {name}: more than {most} events\n")?;
+    Ok(text.into_bytes())
+}
+
+/// That the input has more than `most` bytes.
+pub fn input_too_long_text(alloc: Global, most: u32) -> Result<Vec<u8>, AllocError>
+    ensures { IfOk result (λ t. t.items ≡ input_too_long most) }
+{
+    let text = format!(in alloc; "egw: input: more than {most} bytes\n")?;
+    Ok(text.into_bytes())
+}
+
+/// That a line of the script, counted from 1, can't be read.
+pub fn bad_line_text(alloc: Global, line: u32) -> Result<Vec<u8>, AllocError>
+    ensures { IfOk result (λ t. t.items ≡ bad_line line) }
+{
+    let text = format!(in alloc; "egw: line {line}: unreadable\n")?;
+    Ok(text.into_bytes())
+}
+
+/// That the index of a line is behind the end of the text, which has `len` characters.
+pub fn line_out_of_range_text(alloc: Global, line: u32, len: u32) -> Result<Vec<u8>, AllocError>
+    ensures { IfOk result (λ t. t.items ≡ line_out_of_range line len) }
+{
+    let text = format!(in alloc; "egw: line {line}: out of range, length {len}\n")?;
+    Ok(text.into_bytes())
+}
+
+/// That there would be more than `most` events.
+pub fn too_many_events_text(alloc: Global, most: u32) -> Result<Vec<u8>, AllocError>
+    ensures { IfOk result (λ t. t.items ≡ too_many_events most) }
+{
+    let text = format!(in alloc; "egw: more than {most} events\n")?;
+    Ok(text.into_bytes())
+}
+
+/// That the history has so many heads, more than one event may have parents.
+pub fn too_many_heads_text(alloc: Global, heads: u32) -> Result<Vec<u8>, AllocError>
+    ensures { IfOk result (λ t. t.items ≡ too_many_heads heads) }
+{
+    let text = format!(in alloc; "egw: {heads} heads, more than 16\n")?;
+    Ok(text.into_bytes())
+}
+
+/// How many events an edit made.
+pub fn made_text(alloc: Global, made: u64) -> Result<Vec<u8>, AllocError>
+    ensures { IfOk result (λ t. t.items ≡ Rattle.command_table.specs.Text.made_text made) }
+{
+    let text = format!(in alloc; "made {made}\n")?;
+    Ok(text.into_bytes())
+}
+
+/// That another event has this id.
+pub fn clash_text(alloc: Global, id: &Id) -> Result<Vec<u8>, AllocError>
+    ensures { IfOk result (λ t. t.items ≡ clash id.now) }
+{
+    let mut text = Vec::from_slice(alloc, b"egw: clash ")?;
+    text.extend_from_slice(&print_id(alloc, id)?)?;
+    text.push(b'\n')?;
+    Ok(text)
+}
+
+/// What was answered to received events.
+pub fn received_text(alloc: Global, took: &Took) -> Result<Vec<u8>, AllocError>
+    ensures { IfOk result (λ t. t.items ≡ took_text took.now) }
+{
+    let Took {
+        accepted,
+        waiting,
+        repeats,
+        refused,
+        cut,
+    } = took;
+    let refused = refused.len();
+    let text = format!(in alloc;
+        "accepted {accepted} waiting {waiting} repeats {repeats} refused {refused} cut {cut}\n"
+    )?;
+    Ok(text.into_bytes())
+}

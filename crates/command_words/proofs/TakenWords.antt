@@ -1,0 +1,87 @@
+-- When words are taken.
+use Rattle.std.proofs.Common.{◌≡◌, ◌⊎◌, inl, inr, codes, true, refl, sym, ◌∙◌, ap, List, [], ◌∷◌, Option, None, Some}
+use Rattle.clap.specs.Words.{Row, Kinds, IsAmong, fault_of, subcommand_of, is_simple, is_simple_and_free}
+use Rattle.clap.specs.declared.error.kind.ErrorKind.{ErrorKind}
+use Rattle.clap.specs.declared.error.kind.ErrorKind.TheVariants.{OutOfMemory}
+use Rattle.clap.proofs.OnLiterals.{clap_on_literals}
+use Rattle.command_table.specs.Table.{Text, content, log, numbers, Command, edit, show, merge, line_in, where_none, line_of}
+use Rattle.command_table.specs.Cli.{edit_app, egw_app, merge_app}
+
+pub egw_is_simple : is_simple egw_app ≡ true
+unfolding egw_app edit_app merge_app clap_on_literals
+egw_is_simple = refl
+
+pub egw_is_free : is_simple_and_free egw_app ≡ true
+unfolding egw_app edit_app merge_app clap_on_literals
+egw_is_free = refl
+
+-- without a fault the line is that of the matches
+pub taken : (words : List Text) (found : Option (Text × List Row)) → fault_of egw_app words ≡ [] → found ≡ subcommand_of egw_app words → line_in found ≡ line_of words
+unfolding line_of
+taken words found none is = ap line_in is ∙ ap (λ kinds. where_none kinds (line_in (subcommand_of egw_app words))) (sym none)
+
+refused_by : (kinds : Kinds) (l : Option Command) (k : ErrorKind) → IsAmong k kinds → None ≡ where_none kinds l
+refused_by [] l k among = absurd among
+refused_by (x ∷ xs) l k among = refl
+
+-- with a fault there is no line
+pub refused : (words : List Text) (k : ErrorKind) → (k ≡ OutOfMemory → ⊥) → (k ≡ OutOfMemory) ⊎ IsAmong k (fault_of egw_app words) → None ≡ line_of words
+unfolding line_of
+refused words k other has = elim has [ inl memory ↦ absurd (other memory) | inr among ↦ refused_by (fault_of egw_app words) _ k among ]
+
+-- worked lines
+taken_file : line_of (codes "cat" ∷ codes "F" ∷ []) ≡ Some (show content (codes "F"))
+unfolding line_of egw_app edit_app merge_app clap_on_literals
+taken_file = refl
+
+no_version_yet : line_of (codes "cat" ∷ codes "F" ∷ codes "--at" ∷ codes "root" ∷ []) ≡ None
+unfolding line_of egw_app edit_app merge_app clap_on_literals
+no_version_yet = refl
+
+no_help : line_of (codes "--help" ∷ []) ≡ None
+unfolding line_of egw_app edit_app merge_app clap_on_literals
+no_help = refl
+
+a_file_named_cat : line_of (codes "cat" ∷ codes "cat" ∷ []) ≡ Some (show content (codes "cat"))
+unfolding line_of egw_app edit_app merge_app clap_on_literals
+a_file_named_cat = refl
+
+no_words : line_of [] ≡ None
+unfolding line_of egw_app edit_app merge_app clap_on_literals
+no_words = refl
+
+without_file : line_of (codes "cat" ∷ []) ≡ None
+unfolding line_of egw_app edit_app merge_app clap_on_literals
+without_file = refl
+
+an_edit : line_of (codes "edit" ∷ codes "F" ∷ codes "--agent" ∷ codes "a" ∷ []) ≡ Some (edit (codes "F") (codes "a"))
+unfolding line_of egw_app edit_app merge_app clap_on_literals
+an_edit = refl
+
+no_agent : line_of (codes "edit" ∷ codes "F" ∷ []) ≡ None
+unfolding line_of egw_app edit_app merge_app clap_on_literals
+no_agent = refl
+
+an_agent_with_a_dash : line_of (codes "edit" ∷ codes "F" ∷ codes "--agent=-a" ∷ []) ≡ None
+unfolding line_of egw_app edit_app merge_app clap_on_literals
+an_agent_with_a_dash = refl
+
+a_log : line_of (codes "log" ∷ codes "F" ∷ []) ≡ Some (show log (codes "F"))
+unfolding line_of egw_app edit_app merge_app clap_on_literals
+a_log = refl
+
+a_check : line_of (codes "check" ∷ codes "F" ∷ []) ≡ Some (show numbers (codes "F"))
+unfolding line_of egw_app edit_app merge_app clap_on_literals
+a_check = refl
+
+a_check_of_two : line_of (codes "check" ∷ codes "F" ∷ codes "G" ∷ []) ≡ None
+unfolding line_of egw_app edit_app merge_app clap_on_literals
+a_check_of_two = refl
+
+two_files : line_of (codes "merge" ∷ codes "F" ∷ codes "G" ∷ []) ≡ Some (merge (codes "F") (codes "G"))
+unfolding line_of egw_app edit_app merge_app clap_on_literals
+two_files = refl
+
+a_merge_of_one : line_of (codes "merge" ∷ codes "F" ∷ []) ≡ None
+unfolding line_of egw_app edit_app merge_app clap_on_literals
+a_merge_of_one = refl

@@ -1,0 +1,27 @@
+-- What the words of a command line were read as.
+use Rattle.std.specs.Prelude.{◌≡◌, ⊤, true, Option, Some}
+use Rattle.ew_model.specs.Names.{is_name}
+use Rattle.command_table.specs.Table.{Listing, content, head_ids, log, numbers, Command, create, edit, show, merge}
+use Rattle.command_words.specs.declared.words as words
+use Rattle.command_words.specs.declared.words.Listing.TheVariants as shown
+use Rattle.command_words.specs.declared.words.Taken.{Taken}
+use Rattle.command_words.specs.declared.words.Taken.TheVariants as taken
+
+-- what is shown
+abbrev pub listing_view : words.Listing.Listing → Listing
+listing_view shown.Content = content
+listing_view shown.Heads = head_ids
+listing_view shown.Log = log
+listing_view shown.Numbers = numbers
+
+-- the command that the words were read as
+abbrev pub line_view : Taken → Command
+line_view (taken.New name) = create name.now
+line_view (taken.Edit name agent) = edit name.now agent.now
+line_view (taken.Show listing name) = show (listing_view listing) name.now
+line_view (taken.Merge name other) = merge name.now other.now
+
+-- the agent of an edit is a name
+abbrev pub IsNamed : Option Command → Type 0
+IsNamed (Some (edit name agent)) = is_name agent ≡ true
+IsNamed _ = ⊤

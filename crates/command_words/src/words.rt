@@ -1,0 +1,123 @@
+//! The words of a command line.
+ghost use Rattle.std.specs.Prelude.{◌≡◌, IfOk, map, string_bytes};
+ghost use Rattle.std.specs.Option.{option_map};
+ghost use Rattle.clap.specs.Words.{first_of, found_of, rows_of, subcommand_rows_of};
+ghost use Rattle.command_table.specs.Table.{create, edit_line, file_line, line_in, line_of, merge_line, show};
+ghost use Rattle.command_words.specs.Words.{IsNamed, line_view, listing_view};
+
+use crate::cli::egw_command;
+use clap::ArgMatches;
+use clap::error::ErrorKind;
+use ew_model::name::Name;
+use std::alloc::{AllocError, Global};
+
+/// What is shown of a file.
+#[derive(Clone, Copy, Debug)]
+pub enum Listing {
+    /// The text.
+    Content,
+    /// The ids of the heads.
+    Heads,
+    /// The events.
+    Log,
+    /// How many events, agents, heads, cuts and characters there are.
+    Numbers,
+}
+
+/// A command line that is taken.
+#[derive(Clone, Copy, Debug)]
+pub enum Taken<'a> {
+    New(&'a str),
+    /// The agent is a name.
+    Edit { file: &'a str, agent: &'a str },
+    Show { listing: Listing, file: &'a str },
+    Merge { file: &'a str, other: &'a str },
+}
+
+/// The first value of an argument.
+fn value<'a>(values: &ArgMatches<'a>, id: &str) -> Option<&'a str>
+    ensures { option_map (λ s. s.now) result ≡ first_of id.now (rows_of (found_of values.now)) }
+{
+    values.get_str(id)
+}
+
+fn read_new<'a>(values: &ArgMatches<'a>) -> Option<Taken<'a>>
+    ensures { option_map line_view result ≡ file_line create (rows_of (found_of values.now)) }
+{
+    let file = value(values, "file")?;
+    Some(Taken::New(file))
+}
+
+fn read_edit<'a>(values: &ArgMatches<'a>) -> Option<Taken<'a>>
+    ensures line { option_map line_view result ≡ edit_line (rows_of (found_of values.now)) }
+    ensures named { IsNamed (option_map line_view result) }
+{
+    let file = value(values, "file")?;
+    let agent = value(values, "agent")?;
+    if Name::read(agent.as_bytes()).is_ok() {
+        Some(Taken::Edit { file, agent })
+    } else {
+        None
+    }
+}
+
+fn read_show<'a>(listing: Listing, values: &ArgMatches<'a>) -> Option<Taken<'a>>
+    ensures line { option_map line_view result ≡ file_line (show (listing_view listing)) (rows_of (found_of values.now)) }
+    ensures named { IsNamed (option_map line_view result) }
+{
+    let file = value(values, "file")?;
+    Some(Taken::Show { listing, file })
+}
+
+fn read_merge<'a>(values: &ArgMatches<'a>) -> Option<Taken<'a>>
+    ensures line { option_map line_view result ≡ merge_line (rows_of (found_of values.now)) }
+    ensures named { IsNamed (option_map line_view result) }
+{
+    let file = value(values, "file")?;
+    let other = value(values, "other")?;
+    Some(Taken::Merge { file, other })
+}
+
+fn read_matches<'a>(matches: &ArgMatches<'a>) -> Option<Taken<'a>>
+    ensures line { option_map line_view result ≡ line_in (subcommand_rows_of matches.now) }
+    ensures named { IsNamed (option_map line_view result) }
+{
+    let (name, values) = matches.subcommand()?;
+    if name == "new" {
+        return read_new(values);
+    }
+    if name == "edit" {
+        return read_edit(values);
+    }
+    if name == "cat" {
+        return read_show(Listing::Content, values);
+    }
+    if name == "heads" {
+        return read_show(Listing::Heads, values);
+    }
+    if name == "log" {
+        return read_show(Listing::Log, values);
+    }
+    if name == "check" {
+        return read_show(Listing::Numbers, values);
+    }
+    if name == "merge" {
+        return read_merge(values);
+    }
+    None
+}
+
+/// Takes the words, or `None` where `clap` doesn't or the agent is no name.
+pub fn read_words<'a>(alloc: Global, words: &'a [String]) -> Result<Option<Taken<'a>>, AllocError>
+    ensures line { IfOk result (λ l. option_map line_view l ≡ line_of (map string_bytes words.now)) }
+    ensures named { IfOk result (λ l. IsNamed (option_map line_view l)) }
+{
+    let command = egw_command(alloc)?;
+    match command.try_get_matches_from(words) {
+        Ok(matches) => Ok(read_matches(&matches)),
+        Err(error) => match error.kind() {
+            ErrorKind::OutOfMemory => Err(AllocError),
+            _ => Ok(None),
+        },
+    }
+}
