@@ -1,0 +1,109 @@
+//! Receiving in pieces, and what is told of all of them together.
+
+ghost use Rattle.std.specs.Prelude.{◌≡◌, ◌<◌, ◌^◌, length};
+
+use crate::readback::is_read_back;
+use ew_model::NoMem;
+use ew_model::event::Event;
+use ew_model::id::Id;
+use ew_model::steps::Steps;
+use ew_model::verdict::Refusal;
+use replica::{Replica, Stopped, Took};
+use std::alloc::Global;
+use std::marker::Brand;
+use std::sync::ledger::{Blank, Ledger};
+
+/// What was told of the pieces so far.
+#[derive(Drop)]
+pub struct Pieces {
+    pub accepted: u64,
+    pub repeats: u64,
+    pub refused: Vec<(Id, Refusal)>,
+    /// How many events wait.
+    pub waiting: u32,
+    /// Whether receiving stopped for want of memory.
+    pub stopped: bool,
+    /// Whether each state on the way was read back, and each event that was judged was counted once.
+    pub sound: bool,
+}
+
+impl Pieces {
+    pub fn new(alloc: Global) -> Pieces {
+        Pieces {
+            accepted: 0,
+            repeats: 0,
+            refused: Vec::new(alloc),
+            waiting: 0,
+            stopped: false,
+            sound: true,
+        }
+    }
+
+    /// Takes in what was told of so many judged events.
+    fn add(&mut self, took: &Took, judged: usize) -> Result<(), NoMem> {
+        let refused = took.refused.len() as u64;
+        let kept = u64::from(took.accepted)
+            .saturating_add(u64::from(took.waiting))
+            .saturating_add(u64::from(took.repeats));
+        let before = (judged as u64).saturating_add(u64::from(self.waiting));
+        self.sound = self.sound && kept.saturating_add(refused) == before;
+        self.accepted = self.accepted.saturating_add(u64::from(took.accepted));
+        self.repeats = self.repeats.saturating_add(u64::from(took.repeats));
+        self.waiting = took.waiting;
+        for (id, refusal) in &took.refused {
+            self.refused.push((*id, *refusal))?;
+        }
+        Ok(())
+    }
+}
+
+fn receive_by<L: Ledger>(
+    replica: &mut Replica,
+    events: Vec<Event>,
+    blank: Blank,
+) -> Result<Took, Stopped>
+    requires name { blank.name ≡ L.name }
+    requires parts { blank.parts ≡ L.parts }
+    requires some { 0 < blank.parts }
+    requires few { length events.items < 2 ^ 32 }
+{
+    let mut steps: Steps<L> = Steps::new(blank);
+    replica.receive(events, &mut steps)
+}
+
+/// Receives events, and answers those that weren't judged, for want of memory.
+fn receive_piece(
+    alloc: Global,
+    replica: &mut Replica,
+    events: Vec<Event>,
+    pieces: &mut Pieces,
+) -> Result<Vec<Event>, NoMem> {
+    let given = events.len();
+    if given > u32::MAX as usize {
+        return Err(NoMem);
+    }
+    let (took, rest) = match receive_by::<Brand>(replica, events, Blank::new(1)) {
+        Ok(took) => (took, Vec::new(alloc)),
+        Err(Stopped { took, rest }) => (took, rest),
+    };
+    pieces.add(&took, given.saturating_sub(rest.len()))?;
+    pieces.sound = pieces.sound && is_read_back(alloc, replica)?;
+    Ok(rest)
+}
+
+/// Receives events, and again what was handed back of them.
+pub fn receive_all(
+    alloc: Global,
+    replica: &mut Replica,
+    events: Vec<Event>,
+    pieces: &mut Pieces,
+) -> Result<(), NoMem> {
+    let rest = receive_piece(alloc, replica, events, pieces)?;
+    if rest.is_empty() {
+        return Ok(());
+    }
+    pieces.stopped = true;
+    let rest = receive_piece(alloc, replica, rest, pieces)?;
+    pieces.sound = pieces.sound && rest.is_empty();
+    Ok(())
+}
