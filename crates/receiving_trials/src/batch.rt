@@ -11,9 +11,12 @@ use std::alloc::Global;
 type Line = (u8, u32, &'static [(u8, u32)], Op);
 
 /// Behind the three events of a typed `abc`: a repeat, a clash, an event behind the first, one that waits for another to come,
-/// three that are out of range, one of them while it is taken from those that wait, the one that was waited for, each event that
-/// the graph refuses, two that wait for ever, one for which there is no room to wait, one that joins the branches, and one too many.
+/// three that are out of range, one of them when it waits no more, the one that was waited for, each kind of event that the graph
+/// refuses, three that wait for ever, one for which there is no room to wait, one that joins the branches, and one too many.
 const BATCH: &[Line] = &[
+    (b'a', 0, &[], Op::Ins { at: 0, ch: 'a' }),
+    (b'a', 1, &[(b'a', 0)], Op::Ins { at: 1, ch: 'b' }),
+    (b'a', 2, &[(b'a', 1)], Op::Ins { at: 2, ch: 'c' }),
     (b'a', 0, &[], Op::Ins { at: 0, ch: 'a' }),
     (b'a', 1, &[(b'a', 0)], Op::Ins { at: 0, ch: 'b' }),
     (b'b', 0, &[(b'a', 0)], Op::Ins { at: 1, ch: 'X' }),

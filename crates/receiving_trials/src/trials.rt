@@ -1,40 +1,14 @@
 //! The trials, each from an empty replica to what is printed.
 
-ghost use Rattle.std.specs.Prelude.{◌≡◌, ◌<◌};
-
 use crate::batch::batch;
 use crate::chain::{first, others_backwards};
 use crate::pieces::{Pieces, receive_all};
 use ew_model::NoMem;
 use ew_model::limits::Limits;
 use ew_model::name::Name;
-use ew_model::steps::Steps;
 use replica::Replica;
 use std::alloc::Global;
 use std::fmt::Write;
-use std::marker::Brand;
-use std::sync::ledger::{Blank, Ledger};
-
-fn insert_by<L: Ledger>(replica: &mut Replica, agent: Name, blank: Blank) -> Result<(), NoMem>
-    requires name { blank.name ≡ L.name }
-    requires parts { blank.parts ≡ L.parts }
-    requires some { 0 < blank.parts }
-{
-    let mut steps: Steps<L> = Steps::new(blank);
-    if !replica.awaits(&agent) && replica.insert(agent, 0, "abc", &mut steps).is_err() {
-        return Err(NoMem);
-    }
-    Ok(())
-}
-
-/// A replica that holds the three events of a typed text. It has room for ten, and for three that wait.
-fn begin(alloc: Global) -> Result<Replica, NoMem> {
-    let limits = Limits::new(10, 3, 64, 643).ok_or(NoMem)?;
-    let agent = Name::read(b"a").map_err(|_| NoMem)?;
-    let mut replica = Replica::new(alloc, limits)?;
-    insert_by::<Brand>(&mut replica, agent, Blank::new(1))?;
-    Ok(replica)
-}
 
 fn tell_pieces(told: &mut String, pieces: &Pieces) -> Result<(), NoMem> {
     let Pieces {
@@ -64,9 +38,10 @@ fn tell_replica(told: &mut String, replica: &Replica) -> Result<(), NoMem> {
     Ok(())
 }
 
-/// Receives the batch. Answers whether receiving stopped on the way.
+/// Receives the batch, with room for ten events, and for three that wait. Answers whether receiving stopped on the way.
 fn receive_batch(alloc: Global, told: &mut String) -> Result<bool, NoMem> {
-    let mut replica = begin(alloc)?;
+    let limits = Limits::new(10, 3, 64, 643).ok_or(NoMem)?;
+    let mut replica = Replica::new(alloc, limits)?;
     let mut pieces = Pieces::new(alloc);
     receive_all(alloc, &mut replica, batch(alloc)?, &mut pieces)?;
     tell_pieces(told, &pieces)?;

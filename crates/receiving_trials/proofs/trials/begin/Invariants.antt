@@ -1,4 +1,0 @@
-use Rattle.receiving_trials.proofs.trials.begin.Given as goal
-
-abbrev pub ghosts-insert_by : goal.ghosts-insert_by
-ghosts-insert_by a = record { name = a.blank.name; parts = a.blank.parts }
