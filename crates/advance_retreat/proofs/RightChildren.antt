@@ -6,7 +6,7 @@ use Rattle.ew_model.specs.Paths.{Side, Step, side_cmp, step_cmp, path_cmp, path_
 use Rattle.ew_model.specs.Paths.Side.{Left, Right}
 use Rattle.ew_model.proofs.PathOrder.{step_exact}
 use Rattle.ew_model.proofs.GapLaws.{eq_from}
-use Rattle.ew_model.proofs.StemLaws.{front_cancel}
+use Rattle.ew_model.proofs.SiblingLaws.{common_front}
 
 right_side : (s : Side) → is_eq (side_cmp s Right) ≡ true → s ≡ Right
 right_side Left h = absurd (false≢true h)
@@ -28,4 +28,4 @@ child_form (s ∷ v) (t ∷ q) h =
 pub child_behind : (v z : List Step) → is_right_child v z ≡ true → path_lt v z ≡ true
 child_behind v z h =
     let form = child_form v z h in
-    (λ i. path_lt (sym (append-nil v) i) (form.1 i)) ∙ ap is_lt (front_cancel v [] (form.0 ∷ [])) ∙ ap (λ side. is_lt (path_cmp [] (record { side = side; child = form.0.child } ∷ []))) form.2
+    (λ i. path_lt (sym (append-nil v) i) (form.1 i)) ∙ ap is_lt (common_front v [] (form.0 ∷ [])) ∙ ap (λ side. is_lt (path_cmp [] (record { side = side; child = form.0.child } ∷ []))) form.2

@@ -1,14 +1,13 @@
 -- What is known of every event while events are judged: it is still to come, or held, or waits, or was refused and would be again.
-use Rattle.std.proofs.Common.{◌≡◌, ℕ, zero, suc, Bool, true, false, cond, ◌&&◌, ◌||◌, ◌⊎◌, inl, inr, ⊎_elim, List, [], ◌∷◌, ◌++◌, find, Option, Some, None, refl, sym, ap, ◌∙◌, subst}
+use Rattle.std.proofs.Common.{◌≡◌, ℕ, zero, suc, Bool, true, false, cond, ◌||◌, ◌⊎◌, inl, inr, ⊎_elim, List, [], ◌∷◌, ◌++◌, find, Option, Some, None, refl, sym, ap, ◌∙◌, subst}
 use Rattle.std.specs.List.{list_any}
 use Rattle.std.specs.Bool.{then_some}
 use Rattle.std.specs.Option.{option_map_or}
-use Rattle.std.specs.Cmp.Lexicographic.{pointwise}
 use Rattle.std.proofs.lemmas.Bool.{false≢true, or_parts, or_from, cases_Bool}
 use Rattle.ew_model.specs.declared.event.Event.{Event}
 use Rattle.ew_model.specs.Sets.{Among}
 use Rattle.ew_model.specs.Ids.{id_eq}
-use Rattle.ew_model.specs.Events.{op_eq, event_eq}
+use Rattle.ew_model.specs.Events.{event_eq}
 use Rattle.ew_model.specs.Ancestors.{is_held}
 use Rattle.ew_model.specs.Limits.{LimitNumbers}
 use Rattle.ew_model.specs.Verdicts.{Ruling, first_row, id_rows, IsGood, later_rows}
@@ -20,7 +19,7 @@ use Rattle.ew_model.proofs.SetLaws.{among_joined, joined_left, joined_right}
 use Rattle.ew_model.proofs.SortingLaws.{all_at}
 use Rattle.ew_model.proofs.VersionLaws.{find_none}
 use Rattle.ew_model.proofs.ArrivalLaws.{is_unknown, ready_found}
-use Rattle.ew_model.proofs.KeptLaws.{held_joined, kept_next}
+use Rattle.ew_model.proofs.KeptLaws.{held_joined, kept_next, no_repeat}
 use Rattle.ew_model.proofs.CoverLaws.{ids_alike, event_of, held_of}
 use Rattle.ew_model.proofs.RulingLaws.{is_malformed, ruled, ruled_cases, ruled_by_later, pool_kept, ready_more, stays}
 
@@ -196,13 +195,6 @@ module _ (U : Event → Type 0) (old : List Event) (one : (f g : Event) → U f 
     by_id : Accounted old d.held less e → (r : Ruling) → is_unknown r ≡ false → IsOrderly (desk_after r e rest).held (desk_after r e rest).waiting → IsRun U old (desk_after r e rest)
     by_id a r n k = by_ruling r (λ u. absurd (false≢true (sym n ∙ u))) (λ g u. a) k
 
--- what isn't there by its id isn't there
-pub not_there : (events : List Event) (e : Event) → is_held events e.id ≡ false → list_any (event_eq e) events ≡ false
-not_there [] e h = refl
-not_there (f ∷ events) e h =
-    let parts = or_parts (id_eq e.id f.id) (is_held events e.id) h in
-    ap (λ b. (b && pointwise id_eq e.parents f.parents && op_eq e.op f.op) || list_any (event_eq e) events) parts.0 ∙ not_there events e parts.1
-
 id_known : (b c : Bool) (rows : List (Option Ruling)) → c ≡ true → is_unknown (first_row (then_some b Repeat ∷ then_some c Clash ∷ rows)) ≡ false
 id_known true c rows q = refl
 id_known false true rows q = refl
@@ -252,7 +244,7 @@ module _ (U : Event → Type 0) (old : List Event) (one : (f g : Event) → U f 
       first (id_known (list_any (event_eq x) (d.held ++ d.waiting)) (is_held (d.held ++ d.waiting) x.id) (later_rows limits true d.held x) there) l)
       (λ free.
       let parts = or_parts (is_held d.held x.id) (is_held d.waiting x.id) (sym (held_joined d.held d.waiting x.id) ∙ free) in
-      let later : first ≡ first_row (later_rows limits true d.held x) = no_id (list_any (event_eq x) (d.held ++ d.waiting)) (is_held (d.held ++ d.waiting) x.id) (later_rows limits true d.held x) (not_there (d.held ++ d.waiting) x free) free in
+      let later : first ≡ first_row (later_rows limits true d.held x) = no_id (list_any (event_eq x) (d.held ++ d.waiting)) (is_held (d.held ++ d.waiting) x.id) (later_rows limits true d.held x) (no_repeat (d.held ++ d.waiting) x free) free in
       by_rows U old one d d.waiting coming x run given (λ u m. inr m) (λ u m. m) to_come in_coming
       limits parts.0 first (sym later) (sym (ap is_full is) ∙ f) (λ b m. old_ready d x run parts.0 parts.1 m) l)
       (cases_Bool (is_held (d.held ++ d.waiting) x.id)))

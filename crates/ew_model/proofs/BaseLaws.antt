@@ -24,32 +24,30 @@ use Rattle.ew_model.proofs.TextLaws.{IdsApart}
 use Rattle.ew_model.proofs.OwnIndex.{base_behind}
 use Rattle.ew_model.proofs.ClearLaws.{sorted_ties, all_pass}
 use Rattle.ew_model.proofs.LikeLaws.{IsNew}
-use Rattle.ew_model.proofs.StemLaws.{IsStem, front_cancel}
+use Rattle.ew_model.proofs.StemLaws.{IsStem}
+use Rattle.ew_model.proofs.EntryLaws.{all_mapped}
+use Rattle.ew_model.proofs.SiblingLaws.{common_front}
 
 abbrev base_char : ℕ → Inserted
 base_char n = record { id = base_id n; path = base_path n; ch = 0 }
 
-base_next : (n : ℕ) → insertions (based (suc n)) ≡ insertions (based n) ++ base_char n ∷ []
+pub base_next : (n : ℕ) → insertions (based (suc n)) ≡ insertions (based n) ++ base_char n ∷ []
 base_next n = insertions-append (based n) (Insertion (base_char n) ∷ [])
 
 joined_all : {X : Type 0} (P : X → Type 0) (xs : List X) (y : X) → AllByRecursion P xs → P y → AllByRecursion P (xs ++ y ∷ [])
 joined_all P [] y h k = (k, tt)
 joined_all P (x ∷ xs) y h k = (h.0, joined_all P xs y h.1 k)
 
-all_weaker : {X : Type 0} (P Q : X → Type 0) (xs : List X) → ((x : X) → P x → Q x) → AllByRecursion P xs → AllByRecursion Q xs
-all_weaker P Q [] f h = tt
-all_weaker P Q (x ∷ xs) f h = (f x h.0, all_weaker P Q xs f h.1)
-
 path_rises : (n : ℕ) → path_cmp (base_path n) (base_path (suc n)) ≡ Less
 path_rises n =
-    ap (λ p. path_cmp p (base_path (suc n))) (sym (append-nil (base_path n))) ∙ front_cancel (base_path n) [] (record { side = Right; child = base_id (suc n) } ∷ [])
+    ap (λ p. path_cmp p (base_path (suc n))) (sym (append-nil (base_path n))) ∙ common_front (base_path n) [] (record { side = Right; child = base_id (suc n) } ∷ [])
 
 base_below : (n : ℕ) → AllByRecursion (λ z. path_cmp z.path (base_path n) ≡ Less) (insertions (based n))
 base_below zero = tt
 base_below (suc n) =
     subst (AllByRecursion (λ (z : Inserted). path_cmp z.path (base_path (suc n)) ≡ Less)) (sym (base_next n))
     (joined_all (λ z. path_cmp z.path (base_path (suc n)) ≡ Less) (insertions (based n)) (base_char n)
-    (all_weaker (λ z. path_cmp z.path (base_path n) ≡ Less) (λ z. path_cmp z.path (base_path (suc n)) ≡ Less) (insertions (based n)) (λ z l. path_total.trans z.path (base_path n) (base_path (suc n)) l (path_rises n)) (base_below n))
+    (all_mapped (λ z. path_cmp z.path (base_path n) ≡ Less) (λ z. path_cmp z.path (base_path (suc n)) ≡ Less) (insertions (based n)) (λ z l. path_total.trans z.path (base_path n) (base_path (suc n)) l (path_rises n)) (base_below n))
     (path_rises n))
 
 sorted_push : (xs : List Inserted) (y : Inserted) → IsStrictlySortedBy inserted_cmp xs → AllByRecursion (λ z. path_cmp z.path y.path ≡ Less) xs → IsStrictlySortedBy inserted_cmp (xs ++ y ∷ [])
@@ -65,7 +63,7 @@ base_sorted (suc n) = subst (IsStrictlySortedBy inserted_cmp) (sym (base_next n)
 sort_same : (xs : List Inserted) → IsStrictlySortedBy inserted_cmp xs → sort_by inserted_cmp xs ≡ xs
 sort_same xs s = sorted_unique placed_total (sort_by inserted_cmp xs) xs (sort_sorted placed_total xs (sorted_ties xs s)) s (sort_among placed_total xs) (among_sort placed_total xs)
 
-base_kept : (n : ℕ) (x : Id) → is_deleted (based n) x ≡ false
+pub base_kept : (n : ℕ) (x : Id) → is_deleted (based n) x ≡ false
 base_kept zero x = refl
 base_kept (suc n) x = list_any-append (deletes x) (based n) (Insertion (base_char n) ∷ []) ∙ or-false (is_deleted (based n) x) ∙ base_kept n x
 

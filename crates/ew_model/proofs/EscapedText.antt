@@ -25,7 +25,7 @@ plain_begins : (c b : ℕ) (r bytes : List ℕ) → c ≢ b → b < 128 → enco
 plain_begins c b r bytes differ low e = differ (char_from_byte (b ∷ bytes) r c (sym e) low (omega arith))
 
 -- lists with different heads differ
-heads_differ : (a b : ℕ) (xs ys : List ℕ) → (a ≡ b → ⊥) → a ∷ xs ≡ b ∷ ys → ⊥
+pub heads_differ : (a b : ℕ) (xs ys : List ℕ) → (a ≡ b → ⊥) → a ∷ xs ≡ b ∷ ys → ⊥
 heads_differ a b xs ys differ e = differ cc
 
 -- each writing has a byte

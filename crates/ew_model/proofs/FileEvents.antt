@@ -25,7 +25,7 @@ use Rattle.ew_model.proofs.FileRecords.{names_equal, name_exact, id_eq_exact, pa
 
 -- ---- agents
 
-agents_push : (before : List Event) (e : Event) → agents_of (before ++ e ∷ []) ≡ with_agent (agents_of before) e
+pub agents_push : (before : List Event) (e : Event) → agents_of (before ++ e ∷ []) ≡ with_agent (agents_of before) e
 agents_push before e = fold_push with_agent [] before e
 
 known_agent : (agents : List (List ℕ)) (e : Event) → list_any (name_eq e.id.agent) agents ≡ true → with_agent agents e ≡ agents
@@ -78,6 +78,10 @@ agents_few_from agents (e ∷ events) =
       | inl t ↦ let same = ap (λ (xs : List (List ℕ)). length xs) (known_agent agents e t) in omega arith
       | inr f ↦ let more = ap (λ (xs : List (List ℕ)). length xs) (next_agent agents e f) ∙ length-append agents (e.id.agent ∷ []) in omega arith
     ]
+
+-- no more agents than events
+pub few_agents : (events : List Event) → length (agents_of events) ≤ length events
+few_agents events = omega (arith, agents_few_from [] events)
 
 -- ---- records
 
@@ -174,7 +178,7 @@ agent_open before e later =
       | inr f ↦ subst P (sym (after.1 ∙ ap (λ xs. xs ++ after.0) (next_agent used e f) ∙ append_assoc used (e.id.agent ∷ []) after.0)) (next_is_open name_eq names_equal name_exact used after.0 e.id.agent f)
     ]
 
-ids_count : (events : List Event) → length (ids_of events) ≡ length events
+pub ids_count : (events : List Event) → length (ids_of events) ≡ length events
 ids_count [] = refl
 ids_count (e ∷ events) = ap suc (ids_count events)
 

@@ -3,7 +3,7 @@ use Rattle.std.proofs.Common.{◌≡◌, ℕ, zero, suc, ◌+◌, ◌-◌, ◌^�
 use Rattle.std.specs.Prelude.{nat_eq, codes}
 use Rattle.std.specs.Cmp.Lexicographic.{pointwise}
 use Rattle.std.proofs.Math.Seq.{drop-cons}
-use Rattle.std.proofs.lemmas.Bool.{and_parts, not-false, ltb-false, le-ltb, eqb-true, cond-true, cond-false}
+use Rattle.std.proofs.lemmas.Bool.{not-false, ltb-false, le-ltb, eqb-true, cond-true, cond-false}
 use Rattle.std.proofs.lemmas.Cmp.{nat_list_eq_equiv}
 use Rattle.std.proofs.lemmas.List.{take_at, drop_at, take-append-drop, length-append, length-take, get_or-take}
 use Rattle.sha2.specs.Sha256.{sha256}
@@ -17,15 +17,7 @@ use Rattle.ew_model.specs.FileFaults.FileFinding.{IsFile, Short, BadMagic, BadVe
 use Rattle.ew_model.specs.FileLaws.{AreBytes, IsFileOf, FilesAreRead, FilesDiffer}
 use Rattle.ew_model.proofs.FileFields.{AreBytes-take, AreBytes-drop}
 use Rattle.ew_model.proofs.FileEvents.{events_text, AreEventsRead, events_take, events_again}
-
-bytes_exact : (xs ys : List ℕ) → pointwise nat_eq xs ys ≡ true → xs ≡ ys
-bytes_exact [] [] h = refl
-bytes_exact [] (y ∷ ys) h = absurd cc
-bytes_exact (x ∷ xs) [] h = absurd cc
-bytes_exact (x ∷ xs) (y ∷ ys) h =
-    let p = and_parts (nat_eq x y) (pointwise nat_eq xs ys) h in
-    let first : x ≡ y = eqb-true x y p.0 in
-    λ i. first i ∷ bytes_exact xs ys p.1 i
+use Rattle.ew_model.proofs.RisingLists.{pointwise_same}
 
 -- the mark and the version
 abbrev mark : List ℕ
@@ -57,7 +49,7 @@ eight_first xs long front version =
     let lt : 7 < length xs = omega arith in
     sym (take-append-drop 7 xs) ∙ ap (λ t. t ++ drop 7 xs) front ∙ ap (λ t. mark ++ t) (drop-cons xs 7 0 lt ∙ ap (λ b. b ∷ drop 8 xs) version)
 
-take_first : (n m : ℕ) (xs : List ℕ) → n ≤ m → take n (take m xs) ≡ take n xs
+pub take_first : (n m : ℕ) (xs : List ℕ) → n ≤ m → take n (take m xs) ≡ take n xs
 take_first zero m xs le = refl
 take_first (suc n) zero xs le = absurd (omega arith)
 take_first (suc n) (suc m) [] le = refl
@@ -68,7 +60,7 @@ unfolding content_finding
 content_take most content digest events fits e =
     let c = checked (pointwise nat_eq digest (sha256 content)) (finding_of (length content) (read_events most (drop 8 content))) (BadDigest digest (sha256 content)) (IsFile events) (λ n. absurd cc) e in
     let f = is_file_of (length content) (read_events most (drop 8 content)) events c.1 in
-    (bytes_exact digest (sha256 content) c.0, events_take most (drop 8 content) (events, f.0) (AreBytes-drop 8 content fits) f.1)
+    (pointwise_same digest (sha256 content) c.0, events_take most (drop 8 content) (events, f.0) (AreBytes-drop 8 content fits) f.1)
 
 pub file_take : (most : ℕ) (bytes : List ℕ) (events : List Event) → AreBytes bytes → file_finding most bytes ≡ IsFile events → IsFileOf most events bytes
 unfolding file_finding file_of
@@ -85,7 +77,7 @@ file_take most bytes events fits e =
     let c = passed wrong_version (BadVersion (get_or bytes 7 0)) by_content (IsFile events) (λ n. absurd cc) b.1 in
     let long : 48 ≤ length bytes = ltb-false (length bytes) 48 a.0 in
     let d = content_take most content digest events (AreBytes-take end bytes fits) c.1 in
-    let front : take 7 content ≡ mark = take_first 7 end bytes (omega arith) ∙ bytes_exact (take 7 bytes) mark (not-false (pointwise nat_eq (take 7 bytes) mark) b.0) in
+    let front : take 7 content ≡ mark = take_first 7 end bytes (omega arith) ∙ pointwise_same (take 7 bytes) mark (not-false (pointwise nat_eq (take 7 bytes) mark) b.0) in
     let version : get_or content 7 0 ≡ 1 = get_or-take end bytes 7 0 (omega arith) ∙ eqb-true (get_or bytes 7 0) 1 (not-false (eqb (get_or bytes 7 0) 1) c.0) in
     let is : content ≡ file_content events = eight_first content (omega (arith, length-take end bytes)) front version ∙ ap (λ t. mark ++ (1 ∷ t)) d.1.spelled ∙ sym (content_is events) in
     record {
@@ -131,7 +123,7 @@ pub files_are_read : FilesAreRead
 files_are_read most bytes events fits =
     (λ e. file_take most bytes events fits e, λ f. ap (file_finding most) f.spelled ∙ file_again most events f.sound f.writable f.few)
 
-file_is : (xs ys : List Event) → IsFile xs ≡ IsFile ys → xs ≡ ys
+pub file_is : (xs ys : List Event) → IsFile xs ≡ IsFile ys → xs ≡ ys
 file_is xs ys e = cc
 
 pub files_differ : FilesDiffer

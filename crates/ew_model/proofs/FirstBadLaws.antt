@@ -6,7 +6,7 @@ use Rattle.ew_model.specs.Verdicts.{Ruling, next_verdict, IsGoodAfter, IsGood, i
 use Rattle.ew_model.specs.Verdicts.Ruling.{Repeat, Clash, SelfParent, TooManyParents, ParentsUnsorted, Unknown, PoolFull, NotReduced, Skipped, GraphFull, OutOfRange, Good}
 use Rattle.ew_model.specs.ReceivingLaws.{GoodHasNoBad}
 
-good_of : (r : Ruling) → is_verdict_good r ≡ true → r ≡ Good
+pub good_of : (r : Ruling) → is_verdict_good r ≡ true → r ≡ Good
 good_of Good h = refl
 good_of Repeat h = absurd (false≢true h)
 good_of Clash h = absurd (false≢true h)

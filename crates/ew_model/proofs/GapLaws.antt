@@ -2,7 +2,7 @@
 use Rattle.std.proofs.Common.{◌≡◌, Bool, true, false, cond, ◌&&◌, ◌⊎◌, inl, inr, ⊎_elim, List, [], ◌∷◌, ◌++◌, Option, Some, None, find, refl, sym, ap, ◌∙◌, subst, append_assoc}
 use Rattle.std.specs.List.{list_any}
 use Rattle.std.specs.List.Sorted.{IsStrictlySortedBy}
-use Rattle.std.specs.Ordering.{ordering_then, is_eq, is_lt, is_gt, ordering_reverse}
+use Rattle.std.specs.Ordering.{ordering_then, is_eq, is_lt, is_gt}
 use Rattle.std.specs.declared.cmp.Ordering.{Ordering}
 use Rattle.std.specs.declared.cmp.Ordering.TheVariants.{Less, Equal, Greater}
 use Rattle.std.specs.Cmp.{tied_itself}
@@ -13,7 +13,7 @@ use Rattle.ew_model.specs.Paths.{Side, Step, side_cmp, step_cmp, path_cmp, path_
 use Rattle.ew_model.specs.Entries.{Inserted, inserted_cmp}
 use Rattle.ew_model.specs.Places.{left_of_or_right_of, new_path}
 use Rattle.ew_model.specs.Paths.Side.{Left, Right}
-use Rattle.ew_model.proofs.PathOrder.{path_total, step_total, step_exact}
+use Rattle.ew_model.proofs.PathOrder.{path_total, step_total, step_exact, turned_back, turned_on}
 use Rattle.ew_model.proofs.SortingLaws.{all_at}
 use Rattle.ew_model.proofs.VersionLaws.{any_from, found_by, find_none}
 
@@ -189,12 +189,6 @@ is_less : (o : Ordering) → is_lt o ≡ true → o ≡ Less
 is_less Less e = refl
 is_less Equal e = absurd (false≢true e)
 is_less Greater e = absurd (false≢true e)
-
-turned_back : (p q : List Step) → path_cmp p q ≡ Less → path_cmp q p ≡ Greater
-turned_back p q e = path_total.antisymm q p ∙ ap ordering_reverse e
-
-turned_on : (p q : List Step) → path_cmp p q ≡ Greater → path_cmp q p ≡ Less
-turned_on p q e = path_total.antisymm q p ∙ ap ordering_reverse e
 
 -- a node of the walk against the first node behind v
 against_next : (walk : List Inserted) (v : List Step) (w z : Inserted) → Among w walk → (path_cmp v w.path ≡ Less) → ((y : Inserted) → Among y walk → path_lt v y.path ≡ true → (y ≡ w) ⊎ (inserted_cmp w y ≡ Less)) → Among z walk → before (path_cmp z.path w.path) ≡ behind (path_cmp z.path v)

@@ -55,7 +55,7 @@ pub record IsNext (held : List Event) (e : Event) : Type 0 where
   pub follows : follows_its_agent held e ≡ true
   pub range : is_outside (length (text_at held e.parents)) e.op ≡ false
 
-held_from : (held : List Event) (ps : List Id) → AllByRecursion (λ p. not (is_held held p) ≡ false) ps → AllByRecursion (λ p. is_held held p ≡ true) ps
+pub held_from : (held : List Event) (ps : List Id) → AllByRecursion (λ p. not (is_held held p) ≡ false) ps → AllByRecursion (λ p. is_held held p ≡ true) ps
 held_from held [] h = tt
 held_from held (p ∷ ps) h = (not-false (is_held held p) h.0, held_from held ps h.1)
 

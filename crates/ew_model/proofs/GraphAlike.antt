@@ -12,16 +12,13 @@ use Rattle.ew_model.proofs.SortingLaws.{all_at, all_from}
 use Rattle.ew_model.proofs.GraphVersions.{taken_held, version_none}
 use Rattle.ew_model.proofs.GraphOrder.{event_of, known_held, named_alike, equal_through, AreLaidOut, laid_new, other_name}
 use Rattle.ew_model.proofs.GraphHeads.{AreReduced, reduced_from, reduced_to}
+use Rattle.ew_model.proofs.RecordLaws.{map_map}
 
 pub among_take : {X : Type 0} (k : ℕ) (xs : List X) (x : X) → Among x (take k xs) → Among x xs
 among_take k xs x m = subst (Among x) (take-append-drop k xs) (joined_left (take k xs) (drop k xs) x m)
 
 pub among_drop : {X : Type 0} (k : ℕ) (xs : List X) (x : X) → Among x (drop k xs) → Among x xs
 among_drop k xs x m = subst (Among x) (take-append-drop k xs) (joined_right (take k xs) (drop k xs) x m)
-
-map_twice : {X Y Z : Type 0} (f : X → Y) (g : Y → Z) (xs : List X) → map g (map f xs) ≡ map (λ x. g (f x)) xs
-map_twice f g [] = refl
-map_twice f g (x ∷ xs) = ap (λ zs. g (f x) ∷ zs) (map_twice f g xs)
 
 -- Events made from others: the names and the parents of what they are made from.
 module _ {Z E N : Type 0} (made : Z → E) (name : E → N) (parents : E → List N) (same : N → N → Bool) where
@@ -41,11 +38,11 @@ module _ {Z E N : Type 0} (made : Z → E) (name : E → N) (parents : E → Lis
       ∙ kept_made (is_named same named (name (made z)) || has_child (λ z. name (made z)) (λ z. parents (made z)) same taken (name (made z))) z taken
 
   pub known_made : (zs : List Z) (named : List N) → names_known name parents same (map made zs) named ≡ names_known (λ z. name (made z)) (λ z. parents (made z)) same zs named
-  known_made zs named = ap (map name) (version_made zs named) ∙ map_twice made name (version_of (λ z. name (made z)) (λ z. parents (made z)) same zs named)
+  known_made zs named = ap (map name) (version_made zs named) ∙ map_map made name (version_of (λ z. name (made z)) (λ z. parents (made z)) same zs named)
 
   pub childless_made : (zs : List Z) → childless name parents same (map made zs) ≡ childless (λ z. name (made z)) (λ z. parents (made z)) same zs
   childless_made zs =
-      ap (filter (λ x. not (has_child name parents same (map made zs) x))) (map_twice made name zs)
+      ap (filter (λ x. not (has_child name parents same (map made zs) x))) (map_map made name zs)
       ∙ filter_alike (λ x. not (has_child name parents same (map made zs) x)) (λ x. not (has_child (λ z. name (made z)) (λ z. parents (made z)) same zs x)) (map (λ z. name (made z)) zs) (λ x m. ap not (child_made zs x))
 
   pub none_below_made : (zs : List Z) (names : List N) → none_below name parents same (map made zs) names ≡ none_below (λ z. name (made z)) (λ z. parents (made z)) same zs names
@@ -56,7 +53,7 @@ module _ {Z E N : Type 0} (made : Z → E) (name : E → N) (parents : E → Lis
 
   pub cut_made : (zs : List Z) (k : ℕ) → is_cut name parents same (map made zs) k ≡ is_cut (λ z. name (made z)) (λ z. parents (made z)) same zs k
   cut_made zs k =
-      let below : map name (take k (map made zs)) ≡ map (λ z. name (made z)) (take k zs) = ap (map name) (take-map made k zs) ∙ map_twice made name (take k zs) in
+      let below : map name (take k (map made zs)) ≡ map (λ z. name (made z)) (take k zs) = ap (map name) (take-map made k zs) ∙ map_map made name (take k zs) in
       let knows = λ (e : E). are_named same (names_known name parents same (map made zs) (parents e)) (map name (take k (map made zs))) in
       let each : list_all knows (drop k (map made zs)) ≡ list_all (λ z. are_named same (names_known (λ z. name (made z)) (λ z. parents (made z)) same zs (parents (made z))) (map (λ z. name (made z)) (take k zs))) (drop k zs) =
       ap (list_all knows) (drop-map made k zs)

@@ -22,7 +22,7 @@ use Rattle.ew_model.proofs.GoodLaws.{IsNext, next_from_good, good_laid_out}
 use Rattle.ew_model.proofs.CutSteps.{good_last}
 use Rattle.ew_model.proofs.CoverLaws.{ids_alike, held_of}
 
-unequal_back : (x y : Id) → id_eq x y ≡ false → id_eq y x ≡ false
+pub unequal_back : (x y : Id) → id_eq x y ≡ false → id_eq y x ≡ false
 unequal_back x y h = ids_alike.symm y x ∙ h
 
 off_left : (a b : Bool) → (a || b) ≡ false → a ≡ false
@@ -34,7 +34,7 @@ off_right true b h = absurd cc
 off_right false b h = h
 
 -- an id that isn't held counts for nothing
-unheld : (history : List Event) (x : Id) (named : List Id) → is_held history x ≡ false → version_events history (x ∷ named) ≡ version_events history named
+pub unheld : (history : List Event) (x : Id) (named : List Id) → is_held history x ≡ false → version_events history (x ∷ named) ≡ version_events history named
 unheld [] x named h = refl
 unheld (f ∷ later) x named h =
     let ih : version_events later (x ∷ named) ≡ version_events later named = unheld later x named (off_right (id_eq x f.id) (is_held later x) h) in

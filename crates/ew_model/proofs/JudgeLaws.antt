@@ -15,8 +15,8 @@ use Rattle.ew_model.specs.Ancestors.{is_reduced}
 use Rattle.ew_model.specs.Verdicts.Ruling.{SelfParent, TooManyParents, ParentsUnsorted, Unknown, NotReduced, Skipped, OutOfRange}
 use Rattle.ew_model.specs.ReceivingLaws.{AncestorsJudge}
 use Rattle.ew_model.proofs.PathOrder.{id_total}
-use Rattle.ew_model.proofs.SetLaws.{among_map, map_among}
-use Rattle.ew_model.proofs.VersionLaws.{any_from, found_by, in_kept, front_kept, kept_cases, version_held}
+use Rattle.ew_model.proofs.SetLaws.{among_map, map_among, kept_more, kept_front}
+use Rattle.ew_model.proofs.VersionLaws.{any_from, found_by, kept_cases, version_held}
 use Rattle.ew_model.proofs.PlaceLaws.{turned, same_any}
 use Rattle.ew_model.proofs.EntryLaws.{LaidOut, points_back}
 use Rattle.ew_model.proofs.EqualSets.{same_text_of}
@@ -48,8 +48,8 @@ wider (e ∷ later) xs ys h z m =
     (λ parent. let f = found_by (λ (f : Event). is_among f.parents e.id) tx parent in second (is_among ys e.id) (is_parent ty e.id) (any_from (λ (f : Event). is_among f.parents e.id) ty f.0 (more f.0 f.1) f.2))
     (one_of (is_among xs e.id) (is_parent tx e.id) t) in
     ⊎_elim
-    (λ first. subst (λ (x : Event). Among x (version_events (e ∷ later) ys)) (sym first.0) (front_kept (is_among ys e.id || is_parent ty e.id) e ty (taken first.1)))
-    (λ rest. in_kept (is_among ys e.id || is_parent ty e.id) e z ty (more z rest))
+    (λ first. subst (λ (x : Event). Among x (version_events (e ∷ later) ys)) (sym first.0) (kept_front (is_among ys e.id || is_parent ty e.id) e ty (taken first.1)))
+    (λ rest. kept_more (is_among ys e.id || is_parent ty e.id) e z ty (more z rest))
     (kept_cases (is_among xs e.id || is_parent tx e.id) e z tx m)
 
 -- an id that is named, alone

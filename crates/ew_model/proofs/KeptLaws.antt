@@ -5,7 +5,7 @@ use Rattle.std.specs.Cmp.Lexicographic.{pointwise}
 use Rattle.std.specs.Bool.{then_some}
 use Rattle.std.specs.Option.{option_map_or}
 use Rattle.std.specs.Cmp.{eq_by_cmp_equiv, IsEquivalence}
-use Rattle.std.proofs.lemmas.Bool.{false≢true, or_parts}
+use Rattle.std.proofs.lemmas.Bool.{false≢true, or_parts, or_from}
 use Rattle.std.proofs.lemmas.List.{map-append}
 use Rattle.ew_model.specs.declared.id.Id.{Id}
 use Rattle.ew_model.specs.declared.event.Event.{Event}
@@ -60,26 +60,23 @@ good_next limits held e new good =
     ∙ (λ i. first_row (then_some (no_repeat held e new i) Repeat ∷ then_some (new i) Clash ∷ (parent_rows held e ++ range_rows held e)))
     ∙ without_row (parent_rows held e) (nat_le limits.events (length held)) GraphFull (range_rows held e) (λ q. cc) good
 
-both_false : (b c : Bool) → b ≡ false → c ≡ false → (b || c) ≡ false
-both_false b c p q = (λ i. p i || c) ∙ q
-
-fresh-push : (held waiting : List Event) (e : Event) → AreFresh held waiting → is_held waiting e.id ≡ false → AreFresh (held ++ e ∷ []) waiting
+pub fresh-push : (held waiting : List Event) (e : Event) → AreFresh held waiting → is_held waiting e.id ≡ false → AreFresh (held ++ e ∷ []) waiting
 fresh-push held [] e f n = tt
 fresh-push held (w ∷ waiting) e f n =
     let parts = or_parts (id_eq e.id w.id) (is_held waiting e.id) n in (
-      held_joined held (e ∷ []) w.id ∙ both_false (is_held held w.id) (id_eq w.id e.id || false) f.0 (both_false (id_eq w.id e.id) false (equal_ids.symm w.id e.id ∙ parts.0) refl),
+      held_joined held (e ∷ []) w.id ∙ or_from (is_held held w.id) (id_eq w.id e.id || false) f.0 (or_from (id_eq w.id e.id) false (equal_ids.symm w.id e.id ∙ parts.0) refl),
       fresh-push held waiting e f.1 parts.1,
     )
 
-fresh-wait : (held waiting : List Event) (e : Event) → AreFresh held waiting → is_held held e.id ≡ false → AreFresh held (waiting ++ e ∷ [])
+pub fresh-wait : (held waiting : List Event) (e : Event) → AreFresh held waiting → is_held held e.id ≡ false → AreFresh held (waiting ++ e ∷ [])
 fresh-wait held [] e f n = (n, tt)
 fresh-wait held (w ∷ waiting) e f n = (f.0, fresh-wait held waiting e f.1 n)
 
-apart-wait : (waiting : List Event) (e : Event) → AreApart waiting → is_held waiting e.id ≡ false → AreApart (waiting ++ e ∷ [])
+pub apart-wait : (waiting : List Event) (e : Event) → AreApart waiting → is_held waiting e.id ≡ false → AreApart (waiting ++ e ∷ [])
 apart-wait [] e a n = (refl, tt)
 apart-wait (w ∷ waiting) e a n =
     let parts = or_parts (id_eq e.id w.id) (is_held waiting e.id) n in (
-      held_joined waiting (e ∷ []) w.id ∙ both_false (is_held waiting w.id) (id_eq w.id e.id || false) a.0 (both_false (id_eq w.id e.id) false (equal_ids.symm w.id e.id ∙ parts.0) refl),
+      held_joined waiting (e ∷ []) w.id ∙ or_from (is_held waiting w.id) (id_eq w.id e.id || false) a.0 (or_from (id_eq w.id e.id) false (equal_ids.symm w.id e.id ∙ parts.0) refl),
       apart-wait waiting e a.1 parts.1,
     )
 
@@ -160,7 +157,7 @@ held_less held (x ∷ waiting) y h = at (is_ready held x) (or_parts (id_eq y x.i
   where
     at : (b : Bool) → (id_eq y x.id ≡ false) × (is_held waiting y ≡ false) → is_held (without_ready held waiting) y ≡ false → is_held (cond b waiting (x ∷ without_ready held waiting)) y ≡ false
     at true p q = p.1
-    at false p q = both_false (id_eq y x.id) (is_held (without_ready held waiting) y) p.0 q
+    at false p q = or_from (id_eq y x.id) (is_held (without_ready held waiting) y) p.0 q
 
 -- what is known of a ready event that was found, and of the others
 record IsTaken (held waiting less : List Event) (e : Event) : Type 0 where
@@ -181,7 +178,7 @@ taken_at false held x waiting e found f a more =
       new = rest.new;
       fresh = (f.0, rest.fresh);
       apart = (held_less held waiting x.id a.0, rest.apart);
-      gone = both_false (id_eq e.id x.id) (is_held (without_ready held waiting) e.id) (equal_ids.symm e.id x.id ∙ rest.was x.id a.0) rest.gone;
+      gone = or_from (id_eq e.id x.id) (is_held (without_ready held waiting) e.id) (equal_ids.symm e.id x.id ∙ rest.was x.id a.0) rest.gone;
       was = λ y h. rest.was y (or_parts (id_eq y x.id) (is_held waiting y) h).1;
     }
 

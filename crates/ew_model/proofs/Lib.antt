@@ -49,6 +49,7 @@ pub mod LikeLaws
 pub mod LikeSteps
 pub mod LimitsKept
 pub mod LineLaws
+pub mod ListParts
 pub mod ListTests
 pub mod LocalEdit
 pub mod MergeByAnswers

@@ -16,6 +16,7 @@ use Rattle.ew_model.specs.Arrival.{Desk, Judgement, is_ready, without_ready, des
 use Rattle.ew_model.specs.Kept.{IsKept}
 use Rattle.ew_model.specs.ReceivingLaws.{ArrivalsKeep}
 use Rattle.ew_model.proofs.KeptLaws.{judgements_keep}
+use Rattle.ew_model.proofs.RulingLaws.{behind_ids}
 
 -- neither list of a desk is too long
 record IsShort (limits : LimitNumbers) (held waiting : List Event) : Type 0 where
@@ -39,12 +40,6 @@ unfolding parent_rows size_rows
 room_left limits held x e =
     room (is_among x.parents x.id) (nat_lt 16 (length x.parents)) (not (ids_ascend x.parents)) (find (λ p. not (is_held held p)) x.parents) (not (is_reduced held x.parents))
     (not (follows_its_agent held x)) (nat_le limits.events (length held)) (range_rows held x) e
-
--- an event that is judged Good by all rows is so by the later ones
-later_good : (u v : Bool) (rows : List (Option Ruling)) → first_row (then_some u Repeat ∷ then_some v Clash ∷ rows) ≡ Good → first_row rows ≡ Good
-later_good true v rows e = absurd cc
-later_good false true rows e = absurd cc
-later_good false false rows e = e
 
 one_more : (n m : ℕ) → nat_le m n ≡ false → n + 1 ≤ m
 one_more n m h = let k = leb-false m n h in omega (arith, k)
@@ -88,7 +83,7 @@ short_coming limits d (x ∷ coming) j k e =
     let same : judgement_of limits rest x first ≡ j = cc in
     subst (λ (i : Judgement). IsShort limits i.desk.held i.desk.waiting) same
     (short_by limits first x rest k
-    (λ good. room_left limits d.held x (later_good (list_any (event_eq x) (d.held ++ d.waiting)) (is_held (d.held ++ d.waiting) x.id) (later_rows limits true d.held x) good)))
+    (λ good. room_left limits d.held x (behind_ids (list_any (event_eq x) (d.held ++ d.waiting)) (is_held (d.held ++ d.waiting) x.id) (later_rows limits true d.held x) good)))
 
 -- with one taken out, no more wait
 fewer : (held waiting : List Event) → length (without_ready held waiting) ≤ length waiting

@@ -13,8 +13,8 @@ use Rattle.ew_model.specs.Arrival.{Desk, Outcome, judgement_of, next_judgement, 
 use Rattle.ew_model.specs.Kept.{IsOrderly}
 use Rattle.ew_model.specs.Verdicts.Ruling.{Repeat, Clash, Good, GraphFull}
 use Rattle.ew_model.proofs.SetLaws.{among_joined, joined_left, joined_right}
-use Rattle.ew_model.proofs.KeptLaws.{good-push, kept_next}
-use Rattle.ew_model.proofs.ArrivalRuns.{not_there, no_id}
+use Rattle.ew_model.proofs.KeptLaws.{good-push, kept_next, no_repeat}
+use Rattle.ew_model.proofs.ArrivalRuns.{no_id}
 use Rattle.ew_model.proofs.RoundLaws.{then}
 use Rattle.ew_model.proofs.RulingLaws.{IsRight, next_right, stays}
 use Rattle.ew_model.specs.MergeLaw.{NoneClashes, HistoriesMergeUnlessTheyClash}
@@ -42,7 +42,7 @@ new_ways : (limits : LimitNumbers) (held before : List Event) (x : Event) → Is
 unfolding id_rows
 new_ways limits held before x kept good sub right free =
     let later : first_row (id_rows held [] x ++ later_rows limits true held x) ≡ first_row (later_rows limits true held x) =
-    no_id (list_any (event_eq x) (held ++ [])) (is_held (held ++ []) x.id) (later_rows limits true held x) (not_there (held ++ []) x free) free in
+    no_id (list_any (event_eq x) (held ++ [])) (is_held (held ++ []) x.id) (later_rows limits true held x) (no_repeat (held ++ []) x free) free in
     ⊎_elim (λ q. inl (later ∙ q)) (λ q. inr (later ∙ q)) (good_or_full limits held x (sym (stays before held x good kept.good sub right.ready) ∙ right.good))
 
 module _ (limits : LimitNumbers) (U : Event → Type 0) where

@@ -21,9 +21,9 @@ use Rattle.ew_model.specs.ArrivalLaw.{NoneFull}
 use Rattle.ew_model.specs.MergeLaw.{is_taken, HistoriesMerge}
 use Rattle.ew_model.proofs.SetLaws.{among_joined, joined_left, joined_right}
 use Rattle.ew_model.proofs.VersionLaws.{any_from}
-use Rattle.ew_model.proofs.KeptLaws.{good-push}
+use Rattle.ew_model.proofs.KeptLaws.{good-push, no_repeat}
 use Rattle.ew_model.proofs.CoverLaws.{ids_alike, event_of}
-use Rattle.ew_model.proofs.ArrivalRuns.{not_there, no_id}
+use Rattle.ew_model.proofs.ArrivalRuns.{no_id}
 use Rattle.ew_model.proofs.RoundLaws.{then}
 use Rattle.ew_model.proofs.KeptLaws.{kept_next}
 use Rattle.ew_model.proofs.RulingLaws.{IsRight, next_right, ruled, stays}
@@ -81,7 +81,7 @@ three_ways limits held before x kept good sub right one =
     inl (repeat_row (list_any (event_eq x) (held ++ [])) (is_held (held ++ []) x.id) (later_rows limits true held x) (any_from (event_eq x) (held ++ []) x here (same_event x)), subst (Among x) (append-nil held) here))
     (λ free.
     let later : first_row (id_rows held [] x ++ later_rows limits true held x) ≡ first_row (later_rows limits true held x) =
-    no_id (list_any (event_eq x) (held ++ [])) (is_held (held ++ []) x.id) (later_rows limits true held x) (not_there (held ++ []) x free) free in
+    no_id (list_any (event_eq x) (held ++ [])) (is_held (held ++ []) x.id) (later_rows limits true held x) (no_repeat (held ++ []) x free) free in
     inr (⊎_elim (λ q. inl (later ∙ q)) (λ q. inr (later ∙ q)) (good_or_full limits held x (sym (stays before held x good kept.good sub right.ready) ∙ right.good))))
     (cases_Bool (is_held (held ++ []) x.id))
 

@@ -17,7 +17,7 @@ use Rattle.ew_model.specs.Paths.{Step, step_cmp, path_cmp, path_lt, is_right_chi
 use Rattle.ew_model.specs.Entries.{Inserted, Entry, inserted_cmp, order, visible}
 use Rattle.ew_model.specs.Places.{left_of_or_right_of, new_path, path_before}
 use Rattle.ew_model.specs.Paths.Side.{Left, Right}
-use Rattle.ew_model.proofs.PathOrder.{path_total, id_total, id_exact, step_exact}
+use Rattle.ew_model.proofs.PathOrder.{path_total, id_total, id_exact, step_exact, turned_back}
 use Rattle.ew_model.proofs.SortingLaws.{all_at}
 use Rattle.ew_model.proofs.VersionLaws.{any_from, found_by}
 use Rattle.ew_model.proofs.GapLaws.{extends, behind, gap, right_of, right_greater, first_right, child_is, child_extends, none_extends, right_side, eq_from, first_found, none_found}
@@ -88,9 +88,6 @@ is_less : (o : Ordering) → is_lt o ≡ true → o ≡ Less
 is_less Less e = refl
 is_less Equal e = absurd (false≢true e)
 is_less Greater e = absurd (false≢true e)
-
-turned_back : (p q : List Step) → path_cmp p q ≡ Less → path_cmp q p ≡ Greater
-turned_back p q e = path_total.antisymm q p ∙ ap ordering_reverse e
 
 not_less_before : (d e : Desc) → (desc_cmp d e ≡ Less → ⊥) → (e ≡ d) ⊎ (desc_cmp e d ≡ Less)
 not_less_before d e n = at (desc_cmp d e) refl
@@ -281,7 +278,7 @@ right_at stem e q x k = record {
 }
 
 -- a right child's path
-child_form : (v z : List Step) → is_right_child v z ≡ true → (s : Step) × (z ≡ v ++ s ∷ []) × (s.side ≡ Right)
+pub child_form : (v z : List Step) → is_right_child v z ≡ true → (s : Step) × (z ≡ v ++ s ∷ []) × (s.side ≡ Right)
 child_form [] [] h = absurd (false≢true h)
 child_form [] (t ∷ []) h = (t, refl, right_side t.side h)
 child_form [] (t ∷ u ∷ q) h = absurd (false≢true h)

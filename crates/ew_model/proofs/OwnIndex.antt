@@ -2,7 +2,7 @@
 use Rattle.std.proofs.Common.{◌≡◌, ℕ, zero, suc, ◌+◌, Bool, true, false, not, cond, ◌⊎◌, inl, inr, ⊎_elim, List, [], ◌∷◌, ◌++◌, find, count_by, position, slice_get, Option, Some, None, option_map, refl, sym, ap, ◌∙◌, subst, append-nil, fold, one-add, zero-add}
 use Rattle.std.specs.List.{list_any, AllByRecursion}
 use Rattle.std.specs.List.Sorted.{IsStrictlySortedBy}
-use Rattle.std.specs.Ordering.{is_lt, ordering_reverse}
+use Rattle.std.specs.Ordering.{is_lt}
 use Rattle.std.specs.declared.cmp.Ordering.TheVariants.{Less, Greater}
 use Rattle.std.specs.Cmp.{tied_itself}
 use Rattle.std.proofs.lemmas.List.Sums.{sum_by-cons}
@@ -19,7 +19,7 @@ use Rattle.ew_model.specs.Paths.Side.{Left, Right}
 use Rattle.ew_model.specs.Entries.Entry.{Insertion, Deletion}
 use Rattle.ew_model.specs.Places.Act.{InsertAs, DeleteAt}
 use Rattle.ew_model.specs.Operations.{operation_of, deletion_at}
-use Rattle.ew_model.proofs.PathOrder.{path_total}
+use Rattle.ew_model.proofs.PathOrder.{path_total, turned_back}
 use Rattle.ew_model.proofs.SortingLaws.{all_at, all_from, sort_sorted}
 use Rattle.ew_model.proofs.PlaceLaws.{ApartByPath, placed_total}
 use Rattle.ew_model.proofs.GapLaws.{HasPrefixes, behind, gap}
@@ -41,9 +41,6 @@ count_none p (x ∷ xs) h = count_one p x xs false h.0 ∙ zero-add (count_by p 
 count_same : {X : Type 0} (p q : X → Bool) (xs : List X) → AllByRecursion (λ x. p x ≡ q x) xs → count_by p xs ≡ count_by q xs
 count_same p q [] h = refl
 count_same p q (x ∷ xs) h = count_one p x xs (q x) h.0 ∙ ap (λ n. cond (q x) 1 0 + n) (count_same p q xs h.1) ∙ sym (count_one q x xs (q x) refl)
-
-turned_back : (p q : List Step) → path_cmp p q ≡ Less → path_cmp q p ≡ Greater
-turned_back p q e = path_total.antisymm q p ∙ ap ordering_reverse e
 
 all_behind : (c : Inserted) (chars : List Inserted) → AllByRecursion (λ y. inserted_cmp c y ≡ Less) chars → AllByRecursion (λ y. is_lt (behind (path_cmp y.path c.path)) ≡ false) chars
 all_behind c [] h = tt

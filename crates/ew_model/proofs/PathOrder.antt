@@ -1,6 +1,6 @@
 -- The orders of ids and of paths are total, and tell different ids and paths apart.
-use Rattle.std.proofs.Common.{◌≡◌, ℕ, List, [], ◌∷◌, Option, Some, None, refl, subst, nat_cmp}
-use Rattle.std.specs.Ordering.{ordering_then, on, then_cmp}
+use Rattle.std.proofs.Common.{◌≡◌, ℕ, List, [], ◌∷◌, Option, Some, None, refl, ap, ◌∙◌, subst, nat_cmp}
+use Rattle.std.specs.Ordering.{ordering_then, ordering_reverse, on, then_cmp}
 use Rattle.std.specs.declared.cmp.Ordering.{Ordering}
 use Rattle.std.specs.declared.cmp.Ordering.TheVariants.{Less, Equal, Greater}
 use Rattle.std.specs.Cmp.{IsTotalOrder}
@@ -63,6 +63,13 @@ as_keys (s ∷ p) (t ∷ q) = λ i. ordering_then (both_steps s.side t.side s.ch
 -- paths are totally ordered
 pub path_total : IsTotalOrder path_cmp
 path_total = subst IsTotalOrder (λ i p q. as_keys p q i) (on_total keys (lists_total key_total))
+
+-- paths compared the other way round
+pub turned_back : (p q : List Step) → path_cmp p q ≡ Less → path_cmp q p ≡ Greater
+turned_back p q e = path_total.antisymm q p ∙ ap ordering_reverse e
+
+pub turned_on : (p q : List Step) → path_cmp p q ≡ Greater → path_cmp q p ≡ Less
+turned_on p q e = path_total.antisymm q p ∙ ap ordering_reverse e
 
 -- a comparison by two parts finds them alike where both parts are alike
 pub then_equal : (r s : Ordering) → ordering_then r s ≡ Equal → (r ≡ Equal) × (s ≡ Equal)

@@ -1,7 +1,7 @@
 -- What an apply looks up in what is prepared, read off the records.
 use Rattle.std.proofs.Common.{◌≡◌, ℕ, suc, ◌≤◌, nat_eq, Bool, true, false, cond, ◌||◌, ◌&&◌, inl, inr, List, [], ◌∷◌, ◌++◌, map, filter, find, length, Some, None, option_map, slice_get, refl, sym, ap, ◌∙◌, subst, arith}
 use Rattle.std.specs.Ordering.{is_lt, ordering_reverse}
-use Rattle.std.specs.declared.cmp.Ordering.TheVariants.{Less, Greater}
+use Rattle.std.specs.declared.cmp.Ordering.TheVariants.{Greater}
 use Rattle.std.specs.Cmp.{tied_itself}
 use Rattle.std.specs.List.{list_any}
 use Rattle.std.specs.List.Sorted.{IsStrictlySortedBy}
@@ -16,13 +16,12 @@ use Rattle.ew_model.specs.Records.{Record, records, is_one, is_known, ones_in, f
 use Rattle.ew_model.proofs.PathOrder.{path_total}
 use Rattle.ew_model.proofs.SetLaws.{map_among}
 use Rattle.ew_model.proofs.SortingLaws.{all_at}
-use Rattle.ew_model.proofs.PlaceLaws.{placed_total}
 use Rattle.ew_model.proofs.PrefixLaws.{ordered_among}
-use Rattle.ew_model.proofs.OwnIndex.{tree_behind}
+use Rattle.ew_model.proofs.OwnIndex.{tree_behind, sorted_order}
 use Rattle.ew_model.proofs.RunLaws.{run_grown}
 use Rattle.ew_model.proofs.RecordLaws.{records_tell}
-use Rattle.ew_model.proofs.StateLaws.{node_of, sorted_all, nodes_of}
-use Rattle.ew_model.proofs.ReadLaws.{cut_before, cut_behind}
+use Rattle.ew_model.proofs.StateLaws.{node_of, nodes_of}
+use Rattle.ew_model.proofs.ReadLaws.{cut_before, cut_behind, turned_greater}
 
 length_mapped : (rs : List Record) → length (map node_of rs) ≡ length rs
 length_mapped [] = refl
@@ -62,13 +61,10 @@ skipped p (r ∷ rs) ys h = at (is_known r) (skipped p rs ys (λ z m. h z (inr m
     at true rest = ap (λ c. cond c (Some r.node) (find p (map node_of (filter is_known rs) ++ ys))) (h r (inl refl)) ∙ rest
     at false rest = rest
 
-turned_less : (y z : Inserted) → inserted_cmp y z ≡ Less → inserted_cmp z y ≡ Greater
-turned_less y z e = placed_total.antisymm z y ∙ ap ordering_reverse e
-
 next_at : (rs : List Record) (r : Record) (qs : List Record) → IsStrictlySortedBy inserted_cmp (map node_of (rs ++ r ∷ qs)) → find (λ (y : Inserted). path_lt r.node.path y.path) (map node_of (filter is_known (rs ++ r ∷ qs))) ≡ first_known qs
 next_at rs r qs sorted =
     ap (find (λ (y : Inserted). path_lt r.node.path y.path)) (passed_cut is_known rs r qs)
-    ∙ skipped (λ (y : Inserted). path_lt r.node.path y.path) rs (map node_of (filter is_known (r ∷ qs))) (λ z m. ap is_lt (turned_less z.node r.node (cut_before rs r qs sorted z m)))
+    ∙ skipped (λ (y : Inserted). path_lt r.node.path y.path) rs (map node_of (filter is_known (r ∷ qs))) (λ z m. ap is_lt (turned_greater z.node r.node (cut_before rs r qs sorted z m)))
     ∙ own (is_known r)
     ∙ found_known (λ (y : Inserted). path_lt r.node.path y.path) qs (λ z m. ap is_lt (cut_behind rs r qs sorted z m))
   where
@@ -94,7 +90,7 @@ records_place b events prepared run =
     let shown : visible part ≡ map node_of (filter is_one (records all part)) = sym say.visible_nodes in
     let known : order part ≡ map node_of (filter is_known (records all part)) = sym say.known_nodes in
     let nodes : order all ≡ map node_of (records all part) = sym (nodes_of all part) in
-    let sorted : IsStrictlySortedBy inserted_cmp (map node_of (records all part)) = subst (IsStrictlySortedBy inserted_cmp) nodes (sorted_all all g.apart) in
+    let sorted : IsStrictlySortedBy inserted_cmp (map node_of (records all part)) = subst (IsStrictlySortedBy inserted_cmp) nodes (sorted_order all g.apart) in
     let long : length (visible part) ≡ ones_in (records all part) = ap length shown ∙ length_mapped (filter is_one (records all part)) in
     let got : (rs : List Record) (r : Record) (qs : List Record) → records all part ≡ rs ++ r ∷ qs → is_one r ≡ true → slice_get (visible part) (ones_in rs) ≡ Some r.node =
     λ rs r qs cut e. ap (λ ws. slice_get ws (ones_in rs)) (shown ∙ ap (λ ws. map node_of (filter is_one ws)) cut) ∙ one_at rs r qs e in

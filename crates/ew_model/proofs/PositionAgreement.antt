@@ -27,6 +27,7 @@ use Rattle.ew_model.proofs.RisingLists.{increasing_of}
 use Rattle.ew_model.proofs.PositionEvents.{position_of, parents_of, AreHistoryFrom, history_to}
 use Rattle.ew_model.proofs.PositionNumbers.{numbered, numbered_events, numbered_at, numbered_among, numbered_get, positions_filtered, positions_rising, position_named, positions_alike, parents_lower, few_positions, positions_before}
 use Rattle.std.proofs.lemmas.Bool.{false≢true, false_from_ne_true}
+use Rattle.ew_model.proofs.RecordLaws.{map_same}
 
 -- tests that agree give the same numbers
 pub greatest_alike : (p q : ℕ → Bool) → ((k : ℕ) → p k ≡ q k) → (m : ℕ) → greatest_to p m ≡ greatest_to q m
@@ -190,10 +191,6 @@ positions_agree history good =
       cuts = cuts_agree history laid;
     }
 
-map_alike : {X Y : Type 0} (f g : X → Y) (xs : List X) → ((x : X) → Among x xs → f x ≡ g x) → map f xs ≡ map g xs
-map_alike f g [] h = refl
-map_alike f g (x ∷ xs) h = λ i. h x (inl refl) i ∷ map_alike f g xs (λ y m. h y (inr m)) i
-
 -- The law of one more event.
 pub positions_grow : PositionsGrow
 positions_grow history e good =
@@ -202,7 +199,7 @@ positions_grow history e good =
     let kept : (f : Event) → Among f (history ++ e ∷ []) → positions_in (history ++ e ∷ []) f.parents ≡ positions_in history f.parents = λ f m.
     positions_before f.parents 0 history e (not_parent (history ++ e ∷ []) (no_later_parent (λ (g : Event). g.id) (λ (g : Event). g.parents) id_eq [] history e laid) f m) in
     map-append (λ (f : Event). positions_in (history ++ e ∷ []) f.parents) history (e ∷ [])
-    ∙ (λ i. map_alike (λ (f : Event). positions_in (history ++ e ∷ []) f.parents) (λ (f : Event). positions_in history f.parents) history (λ f m. kept f (joined_left history (e ∷ []) f m)) i ++ kept e last i ∷ [])
+    ∙ (λ i. map_same (λ (f : Event). positions_in (history ++ e ∷ []) f.parents) (λ (f : Event). positions_in history f.parents) history (λ f m. kept f (joined_left history (e ∷ []) f m)) i ++ kept e last i ∷ [])
   where
     not_parent : (events : List Event) → has_child (λ (g : Event). g.id) (λ (g : Event). g.parents) id_eq events e.id ≡ false → (f : Event) → Among f events → is_among f.parents e.id ≡ false
     not_parent events h f m = false_from_ne_true (is_among f.parents e.id) (λ q. false≢true (sym h ∙ any_from (λ (g : Event). is_among g.parents e.id) events f m q))

@@ -7,7 +7,7 @@ use Rattle.std.specs.Cmp.{tied_itself}
 use Rattle.std.specs.List.{AllByRecursion, position}
 use Rattle.std.specs.List.Sorted.{IsStrictlySortedBy}
 use Rattle.std.proofs.lemmas.Bool.{false≢true, false_from_ne_true}
-use Rattle.std.proofs.lemmas.List.{map-append}
+use Rattle.std.proofs.lemmas.List.{map-append, length-map}
 use Rattle.std.proofs.lemmas.List.Elements.{filter-append}
 use Rattle.std.proofs.lemmas.List.Sums.{sum_by-cons}
 use Rattle.ew_model.specs.declared.id.Id.{Id}
@@ -28,7 +28,8 @@ use Rattle.ew_model.proofs.PlaceLaws.{placed_total, among_insertions, insertion_
 use Rattle.ew_model.proofs.PrefixLaws.{ordered_among}
 use Rattle.ew_model.proofs.RunLaws.{id_itself, entry_of, part_base, part_note, part_cases, base_only, Grown, run_grown}
 use Rattle.ew_model.proofs.RecordLaws.{is_inserted_from, records_tell, number_known, inserted_there}
-use Rattle.ew_model.proofs.StateLaws.{node_of, sorted_all, nodes_of}
+use Rattle.ew_model.proofs.StateLaws.{node_of, nodes_of}
+use Rattle.ew_model.proofs.OwnIndex.{sorted_order}
 
 -- COUNTS
 abbrev has_effect : Record → Bool
@@ -53,10 +54,6 @@ pub count_none : (p : Inserted → Bool) (xs : List Inserted) → AllByRecursion
 count_none p [] h = refl
 count_none p (x ∷ xs) h = count_cons p x xs ∙ ap (λ c. cond c 1 0 + count_by p xs) h.0 ∙ zero-add (count_by p xs) ∙ count_none p xs h.1
 
-length_mapped : {X Y : Type 0} (f : X → Y) (xs : List X) → length (map f xs) ≡ length xs
-length_mapped f [] = refl
-length_mapped f (x ∷ xs) = ap suc (length_mapped f xs)
-
 seen_joined : (rs qs : List Record) → seen (rs ++ qs) ≡ seen rs ++ seen qs
 seen_joined rs qs = ap (map node_of) (filter-append has_effect rs qs) ∙ map-append node_of (filter has_effect rs) (filter has_effect qs)
 
@@ -72,7 +69,7 @@ count_split p rs qs f g =
     ∙ count_joined p (seen rs) (seen qs)
     ∙ (λ i. count_all p (seen rs) (all_from (λ z. p z ≡ true) (seen rs) (λ z m. let n = seen_node rs z m in ap p n.2 ∙ f n.0 n.1)) i
     + count_none p (seen qs) (all_from (λ z. p z ≡ false) (seen qs) (λ z m. let n = seen_node qs z m in ap p n.2 ∙ g n.0 n.1)) i)
-    ∙ omega (arith, length_mapped node_of (filter has_effect rs))
+    ∙ omega (arith, length-map (filter has_effect rs) node_of)
 
 -- POSITIONS
 position_none : (p : Inserted → Bool) (xs : List Inserted) → AllByRecursion (λ x. p x ≡ false) xs → position p xs ≡ None
@@ -101,7 +98,7 @@ unfolding IsStrictlySortedBy
 cut_behind [] r qs s z m = all_at (λ w. inserted_cmp r.node w ≡ Less) (map node_of qs) z.node s.0 (map_among node_of qs z m)
 cut_behind (x ∷ rs) r qs s z m = cut_behind rs r qs s.1 z m
 
-turned_greater : (y z : Inserted) → inserted_cmp y z ≡ Less → inserted_cmp z y ≡ Greater
+pub turned_greater : (y z : Inserted) → inserted_cmp y z ≡ Less → inserted_cmp z y ≡ Greater
 turned_greater y z e = placed_total.antisymm z y ∙ ap ordering_reverse e
 
 abbrev behind_at : Ordering → Ordering
@@ -166,7 +163,7 @@ module _ (rs : List Record) (r : Record) (qs : List Record) (sorted : IsStrictly
     read_target_at : (b : Bool) → r.effect ≡ b → deletion_at (position (λ (z : Inserted). id_eq z.id t) (seen rs ++ map node_of (cond b (r ∷ filter has_effect qs) (filter has_effect qs)))) ≡ cond b (Del (effects_in rs)) Nothing
     read_target_at true e =
         ap deletion_at (position_at (λ (z : Inserted). id_eq z.id t) (seen rs) r.node (seen qs) none_before (ap (λ x. id_eq x t) target ∙ id_itself t))
-        ∙ ap Del (length_mapped node_of (filter has_effect rs))
+        ∙ ap Del (length-map (filter has_effect rs) node_of)
     read_target_at false e = ap deletion_at (position_none (λ (z : Inserted). id_eq z.id t) (seen rs ++ seen qs) (all_joined_two (seen rs) (seen qs) none_before none_behind))
 
     read_target : deletion_at (position (λ (z : Inserted). id_eq z.id t) (seen (rs ++ r ∷ qs))) ≡ cond r.effect (Del (effects_in rs)) Nothing
@@ -193,7 +190,7 @@ operations_read b events prepared name act e run may is rs r qs cut =
     let all = all_entries b notes in
     let part = entries_over nat_eq b notes prepared in
     let nodes : order all ≡ map node_of (records all part) = sym (nodes_of all part) in
-    let sorted : IsStrictlySortedBy inserted_cmp (map node_of (records all part)) = subst (IsStrictlySortedBy inserted_cmp) nodes (sorted_all all g.apart) in
+    let sorted : IsStrictlySortedBy inserted_cmp (map node_of (records all part)) = subst (IsStrictlySortedBy inserted_cmp) nodes (sorted_order all g.apart) in
     let apart : IdsApart (map node_of (records all part)) = subst IdsApart nodes (λ x y mx my. g.ids x y (ordered_among all x mx) (ordered_among all y my)) in
     subst (OperationReads e (records all part) rs r qs) (ap (operation_of (visible all)) (sym is))
     (reads e (visible all) (records all part) rs r qs cut (sym (records_tell b events prepared run).effect_nodes) sorted apart)

@@ -74,14 +74,14 @@ grown_all limits b (suc n) d =
     grown_step limits b n d (next_judgement limits b d) (λ j e. grown_on d.held j.desk.held (judgements limits b n j.desk).desk.held (grown_next limits b d j e) (grown_all limits b n j.desk))
 
 -- No other row says OutOfRange.
-abbrev NotOut : Option Ruling → Type 0
+abbrev pub NotOut : Option Ruling → Type 0
 NotOut row = (r : Ruling) → row ≡ Some r → is_out_of_range r ≡ false
 
-not_out : (b : Bool) (q : Ruling) → is_out_of_range q ≡ false → NotOut (then_some b q)
+pub not_out : (b : Bool) (q : Ruling) → is_out_of_range q ≡ false → NotOut (then_some b q)
 not_out true q h r e = let same : q ≡ r = cc in ap is_out_of_range (sym same) ∙ h
 not_out false q h r e = let no : ⊥ = cc in absurd no
 
-unknown_not_out : (o : Option Id) → NotOut (option_map Unknown o)
+pub unknown_not_out : (o : Option Id) → NotOut (option_map Unknown o)
 unknown_not_out None r e = let no : ⊥ = cc in absurd no
 unknown_not_out (Some p) r e = let same : Unknown p ≡ r = cc in ap is_out_of_range (sym same)
 

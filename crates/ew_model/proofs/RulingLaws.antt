@@ -87,7 +87,7 @@ pool_kept limits waiting Skipped h = refl
 pool_kept limits waiting GraphFull h = refl
 pool_kept limits waiting (OutOfRange len) h = refl
 
-behind_ids : (b c : Bool) (rows : List (Option Ruling)) → first_row (then_some b Repeat ∷ then_some c Clash ∷ rows) ≡ Good → first_row rows ≡ Good
+pub behind_ids : (b c : Bool) (rows : List (Option Ruling)) → first_row (then_some b Repeat ∷ then_some c Clash ∷ rows) ≡ Good → first_row rows ≡ Good
 behind_ids true c rows e = let no : ⊥ = cc in absurd no
 behind_ids false true rows e = let no : ⊥ = cc in absurd no
 behind_ids false false rows e = e

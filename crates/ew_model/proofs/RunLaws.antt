@@ -27,6 +27,7 @@ use Rattle.ew_model.proofs.TextLaws.{IdsApart}
 use Rattle.ew_model.proofs.TreeLaws.{tree_of-push}
 use Rattle.ew_model.proofs.GapLaws.{eq_from}
 use Rattle.ew_model.proofs.BaseLaws.{base_stem}
+use Rattle.ew_model.proofs.OperationLaws.{got}
 
 pub id_itself : (x : Id) → id_eq x x ≡ true
 id_itself x = ap is_eq (tied_itself id_total x)
@@ -64,15 +65,10 @@ mapped_from : {A B : Type 0} (f : A → B) (o : Option A) (e : B) → option_map
 mapped_from f None e h = let no : ⊥ = cc in absurd no
 mapped_from f (Some p) e h = let same : f p ≡ e = cc in (p, refl, same)
 
-got : {X : Type 0} (xs : List X) (i : ℕ) (x : X) → slice_get xs i ≡ Some x → Among x xs
-got [] i x e = let no : ⊥ = cc in absurd no
-got (y ∷ xs) zero x e = let same : x ≡ y = cc in inl same
-got (y ∷ xs) (suc i) x e = inr (got xs i x e)
-
 not_deletion : (y : Inserted) (t : Id) → Insertion y ≡ Deletion t → ⊥
 not_deletion y t e = cc
 
-not_insertion : (y : Inserted) (t : Id) → Deletion t ≡ Insertion y → ⊥
+pub not_insertion : (y : Inserted) (t : Id) → Deletion t ≡ Insertion y → ⊥
 not_insertion y t e = cc
 
 pub insertion_same : (x y : Inserted) → Insertion x ≡ Insertion y → x ≡ y

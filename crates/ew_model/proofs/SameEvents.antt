@@ -16,7 +16,7 @@ both : (a b : Bool) → (a && b) ≡ true → (a ≡ true) × (b ≡ true)
 both true b h = (refl, h)
 both false b h = absurd (false≢true h)
 
-same_ids : (xs ys : List Id) → pointwise id_eq xs ys ≡ true → xs ≡ ys
+pub same_ids : (xs ys : List Id) → pointwise id_eq xs ys ≡ true → xs ≡ ys
 same_ids [] [] h = refl
 same_ids [] (y ∷ ys) h = absurd (false≢true h)
 same_ids (x ∷ xs) [] h = absurd (false≢true h)

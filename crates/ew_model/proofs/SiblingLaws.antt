@@ -12,7 +12,7 @@ use Rattle.ew_model.specs.Paths.{Side, Step, side_cmp, step_cmp, path_cmp, path_
 use Rattle.ew_model.specs.Entries.{Inserted, Entry, inserted_cmp, order, insertions}
 use Rattle.ew_model.specs.Paths.Side.{Left, Right}
 use Rattle.ew_model.specs.Siblings.{IsRooted, HasChild, is_front, IsLastBelow, IsFirstBelow, StandsBehind, StandsAhead, StandsBeside, IsNextLower, IsLowest, SiblingsTell, SubtreesEnd, NeighboursPlace, TreesAreRooted}
-use Rattle.ew_model.proofs.PathOrder.{path_total, step_total, step_exact, id_total, id_exact}
+use Rattle.ew_model.proofs.PathOrder.{path_total, step_total, step_exact, id_total, id_exact, turned_on}
 use Rattle.ew_model.specs.Sorting.{put_in_order, sort_by}
 use Rattle.ew_model.specs.Entries.Entry.{Insertion}
 use Rattle.std.specs.List.{AllByRecursion}
@@ -126,12 +126,6 @@ id_turned_on x y e = id_total.antisymm y x ∙ ap ordering_reverse e
 id_turned_back : (x y : Id) → id_cmp x y ≡ Less → id_cmp y x ≡ Greater
 id_turned_back x y e = id_total.antisymm y x ∙ ap ordering_reverse e
 
-path_turned : (p q : List Step) → path_cmp p q ≡ Less → path_cmp q p ≡ Greater
-path_turned p q e = path_total.antisymm q p ∙ ap ordering_reverse e
-
-path_turned_on : (p q : List Step) → path_cmp p q ≡ Greater → path_cmp q p ≡ Less
-path_turned_on p q e = path_total.antisymm q p ∙ ap ordering_reverse e
-
 -- what isn't behind is before
 not_behind : (y z : List Step) → path_lt y z ≡ false → behind (path_cmp z y) ≡ Less
 not_behind y z h = at (path_cmp z y) refl
@@ -139,7 +133,7 @@ not_behind y z h = at (path_cmp z y) refl
     at : (o : Ordering) → path_cmp z y ≡ o → behind (path_cmp z y) ≡ Less
     at Less e = ap behind e
     at Equal e = ap behind e
-    at Greater e = absurd (false≢true (sym h ∙ ap is_lt (path_turned_on z y e)))
+    at Greater e = absurd (false≢true (sym h ∙ ap is_lt (turned_on z y e)))
 
 not_before : (y z : List Step) → path_lt z y ≡ false → before (path_cmp z y) ≡ Greater
 not_before y z h = at (path_cmp z y) refl
@@ -330,7 +324,7 @@ goes_behind x y ys n = at (inserted_cmp x y) n
 not_less_at : (o : Ordering) → o ≡ Greater → o ≡ Less → ⊥
 not_less_at o g l = let no : ⊥ = cc in no
 
-reversed_at : (y z : Inserted) (o : Ordering) → inserted_cmp z y ≡ o → inserted_cmp y z ≡ ordering_reverse o
+pub reversed_at : (y z : Inserted) (o : Ordering) → inserted_cmp z y ≡ o → inserted_cmp y z ≡ ordering_reverse o
 reversed_at y z o e = placed_total.antisymm y z ∙ ap ordering_reverse e
 
 not_less : (y z : Inserted) → inserted_cmp z y ≡ Less → inserted_cmp y z ≡ Less → ⊥

@@ -1,6 +1,6 @@
 -- What an apply, an advance and a retreat change in the records of a walker.
 use Rattle.std.proofs.Common.{◌≡◌, ℕ, zero, suc, nat_eq, Bool, true, false, not, cond, ◌||◌, ◌&&◌, inl, inr, ⊎_elim, List, [], ◌∷◌, ◌++◌, map, filter, length, Some, None, refl, sym, ap, ◌∙◌, subst, append_assoc, append-nil}
-use Rattle.std.specs.Ordering.{is_lt, ordering_reverse}
+use Rattle.std.specs.Ordering.{is_lt}
 use Rattle.std.specs.Cmp.{tied_itself}
 use Rattle.std.specs.List.Sorted.{IsStrictlySortedBy}
 use Rattle.std.specs.declared.cmp.Ordering.{Ordering}
@@ -17,19 +17,20 @@ use Rattle.ew_model.specs.Tree.{based, Applied, Noted, all_entries, entries_over
 use Rattle.ew_model.specs.Entries.Entry.{Insertion, Deletion}
 use Rattle.ew_model.specs.Records.{holds, IsClosed, MayApply, IsRun, inserts, is_inserted, deletions_of, prepared_in, Record, record_in, records, walker_records, is_about, raised, one_less, lowered, MayAdvance, MayRetreat, without, AdvancesTell, RetreatsTell, IsNewId, fresh, struck, record_cmp, next_of, AppliedRecords, AppliesTell, AppliesKeep, AllPreparedIsAll}
 use Rattle.ew_model.proofs.SetLaws.{among_joined, joined_left, joined_right, among_map, map_among}
-use Rattle.ew_model.proofs.SortingLaws.{all_at, all_from, sort_sorted}
+use Rattle.ew_model.proofs.SortingLaws.{all_at, all_from}
 use Rattle.ew_model.proofs.VersionLaws.{any_from, found_by}
-use Rattle.ew_model.proofs.PlaceLaws.{ApartByPath, placed_total, among_insertions, insertion_among}
+use Rattle.ew_model.proofs.PlaceLaws.{placed_total, among_insertions, insertion_among}
 use Rattle.ew_model.proofs.PrefixLaws.{insertions-append, over_insertions, ordered_among}
 use Rattle.ew_model.proofs.RunLaws.{id_itself, id_same, base_only, part_cases, part_wider, named, entry_of, Fits, Single, Grown, old_id, ends_own, new_entry_id, place_fits, run_grown}
 use Rattle.ew_model.proofs.PathOrder.{path_exact}
 use Rattle.ew_model.proofs.ApartLaws.{last_id}
 use Rattle.ew_model.proofs.TreeLaws.{tree_of-push}
 use Rattle.ew_model.proofs.GapLaws.{behind}
-use Rattle.ew_model.proofs.SiblingLaws.{order-push}
+use Rattle.ew_model.proofs.SiblingLaws.{order-push, reversed_at}
 use Rattle.ew_model.specs.Sorting.{put_in_order, sort_by}
 use Rattle.ew_model.specs.Siblings.{StandsBehind, StandsAhead}
 use Rattle.ew_model.proofs.RecordLaws.{is_inserted_from, inserted_by, deleted_by, map_same, map_map, map_itself}
+use Rattle.ew_model.proofs.OwnIndex.{sorted_order}
 
 -- ONE MORE ENTRY
 swap_any : (b c d : Bool) → (b || (c || d)) ≡ (c || (b || d))
@@ -42,7 +43,7 @@ any_more : {X : Type 0} (p : X → Bool) (xs : List X) (e : X) (ys : List X) →
 any_more p [] e ys = refl
 any_more p (x ∷ xs) e ys = ap (λ c. p x || c) (any_more p xs e ys) ∙ swap_any (p x) (p e) (list_any p (xs ++ ys))
 
-length_kept : {X : Type 0} (b : Bool) (x : X) (xs : List X) → length (cond b (x ∷ xs) xs) ≡ cond b (suc (length xs)) (length xs)
+pub length_kept : {X : Type 0} (b : Bool) (x : X) (xs : List X) → length (cond b (x ∷ xs) xs) ≡ cond b (suc (length xs)) (length xs)
 length_kept true x xs = refl
 length_kept false x xs = refl
 
@@ -100,7 +101,7 @@ prepared_more xs ys (Deletion t) x h =
 test_other : (n k : ℕ) (names : List ℕ) → nat_eq n k ≡ false → holds (k ∷ names) n ≡ holds names n
 test_other n k names h = ap (λ c. c || holds names n) h
 
-holds_first : (k : ℕ) (names : List ℕ) → holds (k ∷ names) k ≡ true
+pub holds_first : (k : ℕ) (names : List ℕ) → holds (k ∷ names) k ≡ true
 holds_first k names = or_left (nat_eq k k) (holds names k) (eq-eqb k k refl)
 
 filter_same : (p q : Noted ℕ → Bool) (notes : List (Noted ℕ)) → ((m : Noted ℕ) → Among m notes → p m ≡ q m) → filter p notes ≡ filter q notes
@@ -331,9 +332,6 @@ put_one_before R x y ys e = ap (λ r. cond (is_lt r) (x ∷ y ∷ ys) (y ∷ put
 abbrev pub node_of : Record → Inserted
 node_of r = r.node
 
-turned_at : (y z : Inserted) (o : Ordering) → inserted_cmp z y ≡ o → inserted_cmp y z ≡ ordering_reverse o
-turned_at y z o e = placed_total.antisymm y z ∙ ap ordering_reverse e
-
 unlike : (o : Ordering) → o ≡ Greater → o ≡ Less → ⊥
 unlike o g l = let no : ⊥ = cc in no
 
@@ -346,19 +344,19 @@ record_behind : (y : Inserted) (rs : List Record) (r : Record) (qs : List Record
     → put_in_order record_cmp (fresh y) (rs ++ r ∷ qs) ≡ rs ++ r ∷ fresh y ∷ qs
 unfolding IsStrictlySortedBy
 record_behind y [] r qs s h =
-    put_one_behind record_cmp (fresh y) r qs (unlike (inserted_cmp y r.node) (turned_at y r.node Less (h r.node (inl refl) ∙ ap behind (tied_itself placed_total r.node))))
-    ∙ ap (λ ws. r ∷ ws) (record_first y qs (all_from (λ z. inserted_cmp y z ≡ Less) (map node_of qs) (λ z m. turned_at y z Greater (h z (inr m) ∙ ap behind (turned_at z r.node Less (all_at (λ w. inserted_cmp r.node w ≡ Less) (map node_of qs) z s.0 m))))))
+    put_one_behind record_cmp (fresh y) r qs (unlike (inserted_cmp y r.node) (reversed_at y r.node Less (h r.node (inl refl) ∙ ap behind (tied_itself placed_total r.node))))
+    ∙ ap (λ ws. r ∷ ws) (record_first y qs (all_from (λ z. inserted_cmp y z ≡ Less) (map node_of qs) (λ z m. reversed_at y z Greater (h z (inr m) ∙ ap behind (reversed_at z r.node Less (all_at (λ w. inserted_cmp r.node w ≡ Less) (map node_of qs) z s.0 m))))))
 record_behind y (q ∷ rs) r qs s h =
-    put_one_behind record_cmp (fresh y) q (rs ++ r ∷ qs) (unlike (inserted_cmp y q.node) (turned_at y q.node Less (h q.node (inl refl) ∙ ap behind (all_at (λ w. inserted_cmp q.node w ≡ Less) (map node_of (rs ++ r ∷ qs)) r.node s.0
+    put_one_behind record_cmp (fresh y) q (rs ++ r ∷ qs) (unlike (inserted_cmp y q.node) (reversed_at y q.node Less (h q.node (inl refl) ∙ ap behind (all_at (λ w. inserted_cmp q.node w ≡ Less) (map node_of (rs ++ r ∷ qs)) r.node s.0
     (map_among node_of (rs ++ r ∷ qs) r (joined_right rs (r ∷ qs) r (inl refl)))))))
     ∙ ap (λ ws. q ∷ ws) (record_behind y rs r qs s.1 (λ z m. h z (inr m)))
 
 record_ahead : (y : Inserted) (rs : List Record) (r : Record) (qs : List Record) → IsStrictlySortedBy inserted_cmp (map node_of (rs ++ r ∷ qs)) → StandsAhead (map node_of (rs ++ r ∷ qs)) y.path r.node.path
     → put_in_order record_cmp (fresh y) (rs ++ r ∷ qs) ≡ rs ++ fresh y ∷ r ∷ qs
 unfolding IsStrictlySortedBy
-record_ahead y [] r qs s h = put_one_before record_cmp (fresh y) r qs (turned_at y r.node Greater (h r.node (inl refl) ∙ ap ahead (tied_itself placed_total r.node)))
+record_ahead y [] r qs s h = put_one_before record_cmp (fresh y) r qs (reversed_at y r.node Greater (h r.node (inl refl) ∙ ap ahead (tied_itself placed_total r.node)))
 record_ahead y (q ∷ rs) r qs s h =
-    put_one_behind record_cmp (fresh y) q (rs ++ r ∷ qs) (unlike (inserted_cmp y q.node) (turned_at y q.node Less (h q.node (inl refl) ∙ ap ahead (all_at (λ w. inserted_cmp q.node w ≡ Less) (map node_of (rs ++ r ∷ qs)) r.node s.0
+    put_one_behind record_cmp (fresh y) q (rs ++ r ∷ qs) (unlike (inserted_cmp y q.node) (reversed_at y q.node Less (h q.node (inl refl) ∙ ap ahead (all_at (λ w. inserted_cmp q.node w ≡ Less) (map node_of (rs ++ r ∷ qs)) r.node s.0
     (map_among node_of (rs ++ r ∷ qs) r (joined_right rs (r ∷ qs) r (inl refl)))))))
     ∙ ap (λ ws. q ∷ ws) (record_ahead y rs r qs s.1 (λ z m. h z (inr m)))
 
@@ -376,10 +374,6 @@ put_record_same r s rs qs e f = λ i. put_in_order record_cmp (e i) (f i)
 order-delete : (entries : List Entry) (t : Id) → order (entries ++ Deletion t ∷ []) ≡ order entries
 unfolding order
 order-delete entries t = ap (sort_by inserted_cmp) (insertions-append entries (Deletion t ∷ []) ∙ append-nil (insertions entries))
-
-pub sorted_all : (entries : List Entry) → ApartByPath entries → IsStrictlySortedBy inserted_cmp (order entries)
-unfolding order
-sorted_all entries h = sort_sorted placed_total (insertions entries) h
 
 pub nodes_of : (all part : List Entry) → map node_of (records all part) ≡ order all
 nodes_of all part = map_map (record_in all part) node_of (order all) ∙ map_itself (λ z. z) (order all) (λ z. refl)
@@ -486,7 +480,7 @@ module _ (b : ℕ) (events : List (Applied ℕ)) (notes : List (Noted ℕ)) (g :
       let kept : is_deleted all y.id ≡ false = nowhere_deleted y.id new in
       let put : records (all ++ Insertion y ∷ []) (seen_part ++ Insertion y ∷ []) ≡ put_in_order record_cmp (fresh y) (records all seen_part) =
       records_fresh all seen_part y (old_id b events notes g y.id new) fits.1 (ends_own b events notes g) (part_uninserted y.id new, part_undeleted y.id kept) kept in
-      let sorted : IsStrictlySortedBy inserted_cmp (map node_of (records all seen_part)) = subst (IsStrictlySortedBy inserted_cmp) (sym (nodes_of all seen_part)) (sorted_all all g.apart) in (
+      let sorted : IsStrictlySortedBy inserted_cmp (map node_of (records all seen_part)) = subst (IsStrictlySortedBy inserted_cmp) (sym (nodes_of all seen_part)) (sorted_order all g.apart) in (
         put,
         λ rs qs r e h. put ∙ ap (put_in_order record_cmp (fresh y)) e ∙ record_behind y rs r qs (subst (λ ws. IsStrictlySortedBy inserted_cmp (map node_of ws)) e sorted) (subst (λ ws. StandsBehind (map node_of ws) y.path r.node.path) e h),
         λ rs qs r e h. put ∙ ap (put_in_order record_cmp (fresh y)) e ∙ record_ahead y rs r qs (subst (λ ws. IsStrictlySortedBy inserted_cmp (map node_of ws)) e sorted) (subst (λ ws. StandsAhead (map node_of ws) y.path r.node.path) e h),

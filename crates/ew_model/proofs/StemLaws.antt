@@ -18,7 +18,7 @@ use Rattle.ew_model.specs.Paths.{Side, Step, side_cmp, path_cmp, path_lt, is_rig
 use Rattle.ew_model.specs.Entries.{Inserted, Entry, inserted_cmp, insertions, order, visible}
 use Rattle.ew_model.specs.Places.{left_of_or_right_of, new_path, path_before}
 use Rattle.ew_model.specs.Paths.Side.{Left, Right}
-use Rattle.ew_model.proofs.PathOrder.{path_total, step_total, id_total, then_equal, id_exact, path_exact}
+use Rattle.ew_model.proofs.PathOrder.{path_total, id_total, then_equal, id_exact, path_exact, turned_back}
 use Rattle.ew_model.proofs.SortingLaws.{all_at}
 use Rattle.ew_model.proofs.PlaceLaws.{ApartByPath}
 use Rattle.ew_model.proofs.GapLaws.{HasPrefixes, behind, gap}
@@ -26,6 +26,7 @@ use Rattle.ew_model.proofs.PrefixLaws.{ordered_prefixes, visible_among}
 use Rattle.ew_model.proofs.TextLaws.{IdsApart}
 use Rattle.ew_model.proofs.OperationLaws.{got}
 use Rattle.ew_model.proofs.OwnIndex.{BehindRoot, sorted_order, sorted_visible, behind_root_visible}
+use Rattle.ew_model.proofs.SiblingLaws.{common_front}
 
 -- the entries below a cut, as far as new nodes need to know
 pub record IsStem (entries : List Entry) : Type 0 where
@@ -60,16 +61,11 @@ side_itself : (side : Side) → side_cmp side side ≡ Equal
 side_itself Left = refl
 side_itself Right = refl
 
--- a common front doesn't matter
-pub front_cancel : (b u v : List Step) → path_cmp (b ++ u) (b ++ v) ≡ path_cmp u v
-front_cancel [] u v = refl
-front_cancel (s ∷ b) u v = ap (λ o. ordering_then o (path_cmp (b ++ u) (b ++ v))) (tied_itself step_total s) ∙ front_cancel b u v
-
 hung_cmp : (h : HangPoint) (y z : Id) (r q : List Step) → path_cmp (hung h y ++ r) (hung h z ++ q) ≡ ordering_then (id_cmp y z) (path_cmp r q)
 unfolding hung
 hung_cmp h y z r q =
     (λ i. path_cmp (append_assoc h.parent (record { side = h.side; child = y } ∷ []) r i) (append_assoc h.parent (record { side = h.side; child = z } ∷ []) q i))
-    ∙ front_cancel h.parent (record { side = h.side; child = y } ∷ r) (record { side = h.side; child = z } ∷ q)
+    ∙ common_front h.parent (record { side = h.side; child = y } ∷ r) (record { side = h.side; child = z } ∷ q)
     ∙ ap (λ o. ordering_then (ordering_then o (id_cmp y z)) (path_cmp r q)) (side_itself h.side)
 
 -- two new nodes of one gap: by their ids, and then by the rests of their paths
@@ -82,9 +78,6 @@ same_gap_cmp walk p y z r q =
 -- how the i-th character stands to a gap
 abbrev pub gap_order : ℕ → ℕ → Ordering
 gap_order i g = cond (nat_lt i g) Less Greater
-
-turned_back : (p q : List Step) → path_cmp p q ≡ Less → path_cmp q p ≡ Greater
-turned_back p q e = path_total.antisymm q p ∙ ap ordering_reverse e
 
 -- two characters of a list in order stand as their places do
 pub places_cmp : (chars : List Inserted) (i j : ℕ) (x z : Inserted) → IsStrictlySortedBy inserted_cmp chars → slice_get chars i ≡ Some x → slice_get chars j ≡ Some z → path_cmp x.path z.path ≡ nat_cmp i j

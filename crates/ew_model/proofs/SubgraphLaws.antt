@@ -13,9 +13,9 @@ use Rattle.ew_model.specs.Tree.{Noted, act_by, entries_over, next_entry, tree_on
 use Rattle.ew_model.specs.Texts.{visible_at, text_at, text_of}
 use Rattle.ew_model.proofs.GraphVersions as versions
 use Rattle.ew_model.proofs.GraphOrder as graph
-use Rattle.ew_model.proofs.SetLaws.{among_joined, joined_right, among_filter, filter_among, among_map, map_among}
+use Rattle.ew_model.proofs.SetLaws.{among_joined, joined_right, among_filter, filter_among, among_map, map_among, kept_more}
 use Rattle.ew_model.proofs.SortingLaws.{all_at, all_from}
-use Rattle.ew_model.proofs.VersionLaws.{in_kept, kept_cases, any_from, found_by, PointsBack, version_named, version_parent, version_held}
+use Rattle.ew_model.proofs.VersionLaws.{kept_cases, any_from, found_by, PointsBack, version_named, version_parent, version_held}
 use Rattle.ew_model.proofs.PlaceLaws.{same_any, same_place, same_visible, among_insertions, insertion_among}
 use Rattle.ew_model.proofs.TreeLaws.{entry_after}
 use Rattle.ew_model.proofs.EntryLaws.{LaidOut, points_back, not_held_before}
@@ -32,7 +32,7 @@ taken_within [] other named h f x m = absurd m
 taken_within (y ∷ later) other named h f x m =
     let taken = version_events later named in
     let test = is_among named y.id || is_parent taken y.id in
-    let ih : (z : Event) → Among z taken → Among z (version_events other named) = taken_within later other named h (λ z k. f z (in_kept test y z taken k)) in
+    let ih : (z : Event) → Among z taken → Among z (version_events other named) = taken_within later other named h (λ z k. f z (kept_more test y z taken k)) in
     ⊎_elim
     (λ xy. subst (λ z. Among z (version_events other named)) (sym xy.0)
     (let there : Among y other = f y (subst (λ z. Among z (version_events (y ∷ later) named)) xy.0 m) in
@@ -52,7 +52,7 @@ pub closed_taken : (T : Event → Type 0) (history : List Event) (named : List I
 closed_taken T history named start close x m = versions.taken_within (λ (e : Event). e.id) (λ (e : Event). e.parents) id_eq T history named start close x m
 
 -- an event whose id is an ancestor's is taken
-taken_by_id : (history : List Event) (named : List Id) (f : Event) → LaidOut [] history → Among f history → is_among (ancestors history named) f.id ≡ true → Among f (version_events history named)
+pub taken_by_id : (history : List Event) (named : List Id) (f : Event) → LaidOut [] history → Among f history → is_among (ancestors history named) f.id ≡ true → Among f (version_events history named)
 taken_by_id history named f h m e =
     let found = found_by (id_eq f.id) (ancestors history named) e in
     let g = among_map (λ (x : Event). x.id) (version_events history named) found.0 found.1 in

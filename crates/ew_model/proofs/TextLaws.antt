@@ -147,7 +147,7 @@ visible-deletion entries t apart ids =
     ∙ filter-removed t chars (distinct_ids chars (IsStrictlySortedBy-filter inserted_cmp seen walk sorted)
     (λ x y m k e. ids x y (sort_among placed_total xs x (among_filter seen walk x m).0) (sort_among placed_total xs y (among_filter seen walk y k).0) e))
 
-map-insert : {X Y : Type 0} (f : X → Y) (xs : List X) (i : ℕ) (x : X) → map f (insert xs i x) ≡ insert (map f xs) i (f x)
+pub map-insert : {X Y : Type 0} (f : X → Y) (xs : List X) (i : ℕ) (x : X) → map f (insert xs i x) ≡ insert (map f xs) i (f x)
 map-insert f xs i x =
     map-append f (take i xs) (x ∷ drop i xs) ∙ (λ k. sym (take-map f i xs) k ++ f x ∷ sym (drop-map f i xs) k)
 

@@ -5,6 +5,8 @@ use Rattle.ew_model.specs.declared.event.Event.{Event}
 use Rattle.ew_model.specs.declared.text_op.TextOp.{TextOp}
 use Rattle.ew_model.specs.declared.text_op.TextOp.TheVariants.{Ins, Del, Nothing}
 use Rattle.ew_model.specs.Operations.{operations_of, operations, changed_by, changed_by_all}
+use Rattle.ew_model.specs.Entries.{Entry, insertions}
+use Rattle.ew_model.specs.Entries.Entry.{Insertion, Deletion}
 use Rattle.ew_model.specs.Tree.{applied_after}
 use Rattle.ew_model.specs.Texts.{text_of}
 use Rattle.ew_model.specs.Verdicts.{IsGood}
@@ -22,6 +24,12 @@ length_changed Nothing text = omega arith
 pub length_changed_by_all : (ops : List TextOp) (text : List ℕ) → length (changed_by_all ops text) ≤ length text + length ops
 length_changed_by_all [] text = omega arith
 length_changed_by_all (op ∷ ops) text = omega (arith, length_changed_by_all ops (changed_by op text), length_changed op text)
+
+-- a tree has no more insertions than entries
+pub length-insertions-le : (entries : List Entry) → length (insertions entries) ≤ length entries
+length-insertions-le [] = omega arith
+length-insertions-le (Insertion x ∷ entries) = omega (arith, length-insertions-le entries)
+length-insertions-le (Deletion t ∷ entries) = omega (arith, length-insertions-le entries)
 
 pub length_operations : (history : List Event) → length (operations history) ≡ length history
 unfolding operations operations_of

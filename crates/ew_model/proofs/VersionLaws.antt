@@ -1,7 +1,7 @@
 -- Which events a version has depends on the events of the history, and not on their order.
 use Rattle.std.proofs.Common.{◌≡◌, Bool, true, false, cond, ◌||◌, inl, inr, ⊎_elim, List, [], ◌∷◌, refl, sym, subst, Option, Some, None, find}
 use Rattle.std.specs.List.{AllByRecursion}
-use Rattle.std.proofs.lemmas.Bool.{or_cases, false≢true}
+use Rattle.std.proofs.lemmas.Bool.{or_cases}
 use Rattle.ew_model.specs.Sets.{Among}
 use Rattle.ew_model.specs.declared.id.Id.{Id}
 use Rattle.ew_model.specs.declared.event.Event.{Event}
@@ -21,15 +21,6 @@ find_none p (x ∷ xs) e = let parts = find_none_at p x (p x) (find p xs) e in (
 -- no event is a parent of itself or of an earlier one
 abbrev pub PointsBack : List Event → Type 0
 PointsBack history = PointBack (λ (e : Event). e.id) (λ (e : Event). e.parents) id_eq history
-
--- elements of a list that may have one more in front
-pub in_kept : {X : Type 0} (b : Bool) (x z : X) (xs : List X) → Among z xs → Among z (cond b (x ∷ xs) xs)
-in_kept true x z xs m = inr m
-in_kept false x z xs m = m
-
-pub front_kept : {X : Type 0} (b : Bool) (x : X) (xs : List X) → b ≡ true → Among x (cond b (x ∷ xs) xs)
-front_kept true x xs e = inl refl
-front_kept false x xs e = absurd (false≢true e)
 
 -- the events of a version are events of the history
 pub version_held : (history : List Event) (named : List Id) (x : Event) → Among x (version_events history named) → Among x history

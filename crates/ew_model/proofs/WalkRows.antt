@@ -1,8 +1,7 @@
 -- Rows of a walker's records, and the premises of its laws on a history with a fork and a join.
-use Rattle.std.proofs.Common.{◌≡◌, ℕ, ◌<◌, ◌^◌, Bool, true, false, List, [], ◌∷◌, map, take, nat_eq, not, ◌||◌, ◌&&◌, refl, sym, ap, ◌∙◌, arith}
+use Rattle.std.proofs.Common.{◌≡◌, ℕ, Bool, true, false, List, [], ◌∷◌, map, take, nat_eq, not, ◌||◌, ◌&&◌, refl, sym, ap, ◌∙◌, arith}
 use Rattle.std.proofs.lemmas.Bool.{eqb-true}
-use Rattle.ew_model.specs.Names.{is_name}
-use Rattle.ew_model.specs.Sound.{IsSoundId, IsSound, AreSound}
+use Rattle.ew_model.specs.Sound.{IsSound, AreSound}
 use Rattle.ew_model.specs.Verdicts.{IsGood}
 use Rattle.ew_model.specs.Walks.{walked_from}
 use Rattle.ew_model.specs.Tree.{Applied, next_entry, tree_of}
@@ -16,6 +15,7 @@ use Rattle.ew_model.proofs.RecordLaws.{records_tell}
 use Rattle.ew_model.proofs.MoveLaws.{moves_arrive}
 use Rattle.ew_model.proofs.Rows.Events.{id, ins, diamond}
 use Rattle.ew_model.proofs.Rows.Receiving.{judging}
+use Rattle.ew_model.proofs.Rows.Premises.{sound_id}
 
 -- the prepared numbers, and the effects
 abbrev numbers : List Record → List ℕ
@@ -72,9 +72,6 @@ twice_none = refl
 fork_good : IsGood diamond
 unfolding judging
 fork_good = (refl, (refl, (refl, (refl, tt))))
-
-sound_id : (agent seq : ℕ) → is_name (agent ∷ []) ≡ true → seq < 2 ^ 32 → IsSoundId (id agent seq)
-sound_id agent seq h k = record { agent = h; seq = k }
 
 fork_sound : AreSound diamond
 fork_sound =

@@ -16,12 +16,12 @@ use Rattle.ew_model.specs.Walks.{positions_among, walked_after}
 use Rattle.ew_model.specs.Walks.{walked_from}
 use Rattle.ew_model.specs.Records.{holds, inserts_as, IsNewId, IsNewAct, IsClosed, MayApply, IsRun}
 use Rattle.ew_model.specs.Moves.{LookBack, WalksAreRuns}
-use Rattle.ew_model.proofs.SetLaws.{among_map, map_among, joined_left, joined_right}
+use Rattle.ew_model.proofs.SetLaws.{map_among, joined_left, joined_right}
 use Rattle.ew_model.proofs.SortingLaws.{all_at}
-use Rattle.ew_model.proofs.VersionLaws.{any_from, found_by, PointsBack, kept_cases, version_held, version_parent}
+use Rattle.ew_model.proofs.VersionLaws.{any_from, found_by, PointsBack, kept_cases, version_parent}
 use Rattle.ew_model.proofs.EntryLaws.{LaidOut, points_back}
 use Rattle.ew_model.proofs.OperationLaws.{laid_part}
-use Rattle.ew_model.proofs.SubgraphLaws.{one_event}
+use Rattle.ew_model.proofs.SubgraphLaws.{taken_by_id}
 use Rattle.ew_model.proofs.ClearingLaw.{laid_rest}
 use Rattle.ew_model.proofs.GoodLaws.{good_laid_out}
 use Rattle.ew_model.proofs.RunLaws.{id_itself, id_same}
@@ -94,14 +94,6 @@ version_below (y ∷ later) other named version h f g x m =
     (λ k. ih x k)
     (kept_cases (is_among named y.id || is_parent taken y.id) y x taken m)
 
--- an event whose id is among the ancestors is one of the version
-version_has : (history : List Event) (version : List Id) (e : Event) → LaidOut [] history → Among e history → is_among (ancestors history version) e.id ≡ true → Among e (version_events history version)
-version_has history version e laid m h =
-    let found = found_by (id_eq e.id) (ancestors history version) h in
-    let event = among_map (λ (f : Event). f.id) (version_events history version) found.0 found.1 in
-    let same : e ≡ event.0 = one_event [] history e event.0 laid m (version_held history version event.0 event.1) (ap (id_eq e.id) (sym event.2) ∙ found.2) in
-    subst (λ w. Among w (version_events history version)) (sym same) event.1
-
 among_version : (history : List Event) (version : List Id) (e : Event) → Among e (version_events history version) → is_among (ancestors history version) e.id ≡ true
 among_version history version e m = any_from (id_eq e.id) (ancestors history version) e.id (map_among (λ (f : Event). f.id) (version_events history version) e m) (id_itself e.id)
 
@@ -111,8 +103,8 @@ ancestor_below : (front : List Event) (f : Event) (rest : List Event) (version :
 ancestor_below front f rest version x laid f_in x_in h =
     let whole = front ++ f ∷ rest in
     let back : PointsBack whole = points_back [] whole laid in
-    let taken : Among f (version_events whole version) = version_has whole version f laid (joined_right front (f ∷ rest) f (inl refl)) f_in in
-    let one : Among x (version_events front f.parents) = version_has front f.parents x (laid_part [] front (f ∷ rest) laid) x_in h in
+    let taken : Among f (version_events whole version) = taken_by_id whole version f laid (joined_right front (f ∷ rest) f (inl refl)) f_in in
+    let one : Among x (version_events front f.parents) = taken_by_id front f.parents x (laid_part [] front (f ∷ rest) laid) x_in h in
     among_version whole version x (version_below front whole f.parents version back (λ z m. joined_left front (f ∷ rest) z m) (λ z m e. version_parent whole version z f back taken m e) x one)
 
 -- THE EVENTS AS A WALK APPLIES THEM

@@ -12,8 +12,6 @@ pub mod node;
 pub mod parents;
 pub mod run;
 pub mod steps;
-#[cfg(test)]
-mod tests;
 pub mod text_op;
 pub mod verdict;
 

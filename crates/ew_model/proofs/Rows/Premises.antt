@@ -20,7 +20,7 @@ fork_critical : is_critical diamond 1 ≡ true
 unfolding judging is_critical
 fork_critical = refl
 
-sound_id : (agent seq : ℕ) → is_name (agent ∷ []) ≡ true → seq < 2 ^ 32 → IsSoundId (id agent seq)
+pub sound_id : (agent seq : ℕ) → is_name (agent ∷ []) ≡ true → seq < 2 ^ 32 → IsSoundId (id agent seq)
 sound_id agent seq h k = record { agent = h; seq = k }
 
 fork_sound : AreSound diamond
