@@ -10,7 +10,6 @@ pub mod Holding
 pub mod Inserting
 pub mod Keeping
 pub mod Lists
-pub mod ManyDeletions
 pub mod Moving
 pub mod Nodes
 pub mod RightChildren

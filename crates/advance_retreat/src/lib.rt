@@ -8,8 +8,6 @@ mod records;
 mod spot;
 mod state;
 mod target;
-#[cfg(test)]
-mod tests;
 
 pub use fault::ApplyFault;
 pub use state::State;

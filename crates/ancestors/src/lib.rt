@@ -5,8 +5,6 @@ pub mod difference;
 mod pending;
 mod sides;
 pub mod spans;
-#[cfg(test)]
-mod tests;
 pub mod versions;
 
 pub use difference::diff;

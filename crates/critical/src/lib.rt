@@ -2,7 +2,5 @@
 #![tactic(auto)]
 
 pub mod list;
-#[cfg(test)]
-mod tests;
 
 pub use list::Cuts;

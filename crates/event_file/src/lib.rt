@@ -15,5 +15,3 @@ pub use fault::{FileFault, RecordFault};
 pub use reading::decode;
 pub use writing::encode;
 
-#[cfg(test)]
-mod tests;

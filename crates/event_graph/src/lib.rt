@@ -4,7 +4,5 @@
 pub mod graph;
 mod ids;
 mod parts;
-#[cfg(test)]
-mod tests;
 
 pub use graph::{Graph, Tail};

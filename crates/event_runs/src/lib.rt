@@ -3,7 +3,5 @@
 
 mod lists;
 pub mod storage;
-#[cfg(test)]
-mod tests;
 
 pub use storage::EventRuns;

@@ -6,7 +6,5 @@ pub mod edit;
 mod line;
 pub mod print;
 pub mod script;
-#[cfg(test)]
-mod tests;
 pub mod text;
 mod words;

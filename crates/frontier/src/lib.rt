@@ -3,8 +3,6 @@
 
 pub mod events;
 pub mod heads;
-#[cfg(test)]
-mod tests;
 
 pub use events::Parentage;
 pub use heads::Frontier;

@@ -7,8 +7,6 @@ mod line;
 mod neighbour;
 mod search;
 mod table;
-#[cfg(test)]
-mod tests;
 
 pub use child::{Attached, Side};
 pub use neighbour::Place;

@@ -10,8 +10,6 @@ mod entry;
 mod ids;
 mod path;
 mod place;
-#[cfg(test)]
-mod tests;
 mod text;
 mod text_ops;
 mod touch_count;

@@ -15,12 +15,8 @@ mod lengths;
 mod listed;
 mod load;
 mod made;
-#[cfg(test)]
-mod receive_tests;
 mod rounds;
 mod state;
-#[cfg(test)]
-mod tests;
 mod took;
 
 pub use fault::{EditFault, LoadFault};

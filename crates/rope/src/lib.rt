@@ -2,8 +2,6 @@
 //! an index, by a list of operations as a whole or not at all, and written out in UTF-8.
 #![tactic(auto)]
 
-#[cfg(test)]
-mod tests;
 mod text;
 
 pub use text::Rope;

@@ -4,8 +4,6 @@
 pub mod answer;
 mod apply;
 mod moves;
-#[cfg(test)]
-mod tests;
 mod turn;
 pub mod walking;
 

@@ -5,8 +5,6 @@
 mod fault;
 mod pool;
 mod tables;
-#[cfg(test)]
-mod tests;
 mod waiter;
 
 pub use fault::PutFault;

@@ -3,7 +3,5 @@
 #![tactic(auto)]
 
 mod record;
-#[cfg(test)]
-mod tests;
 
 pub use record::Record;
