@@ -72,6 +72,3 @@ may_put_in n k lt = (
     over = λ c m e j h. absurd (false≢true (sym (ap (λ o. holds o j) (over_none n c m)) ∙ h));
   },
 )
-
-pub first_held : (n : ℕ) (ks : List ℕ) → holds (n ∷ ks) n ≡ true
-first_held n ks = or_left (nat_eq n n) (holds ks n) (eq-eqb n n refl)
