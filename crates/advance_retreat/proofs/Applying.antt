@@ -1,5 +1,5 @@
 -- What stands after any apply.
-use Rattle.std.proofs.Common.{◌≡◌, ℕ, suc, ◌<◌, ◌≤◌, true, inl, ⊎_elim, List, [], ◌∷◌, ◌++◌, map, filter, length, Some, nat_eq, refl, sym, ap, ◌∙◌, arith}
+use Rattle.std.proofs.Common.{◌≡◌, ℕ, ◌<◌, ◌≤◌, true, inl, ⊎_elim, List, [], ◌∷◌, ◌++◌, map, filter, length, Some, nat_eq, refl, sym, ap, ◌∙◌, arith}
 use Rattle.std.proofs.lemmas.Bool.{or_cases, eq-eqb, eqb-true}
 use Rattle.std.proofs.lemmas.List.{map-append}
 use Rattle.ew_model.specs.Entries.{Entry, visible}
@@ -13,12 +13,8 @@ use Rattle.ew_model.proofs.RecordLaws.{records_tell}
 use Rattle.ew_model.proofs.StateLaws.{node_of as record_node, applies_keep}
 use Rattle.advance_retreat.specs.Kept.{Kept}
 use Rattle.advance_retreat.specs.Standing.{most, is_applied, StandsFor}
-use Rattle.advance_retreat.proofs.Lists.{count}
+use Rattle.advance_retreat.proofs.Lists.{count, length-push}
 use Rattle.advance_retreat.proofs.Cuts.{length-mapped}
-
-length-push : {X : Type 0} (xs : List X) (x : X) → length (xs ++ x ∷ []) ≡ suc (length xs)
-length-push [] x = refl
-length-push (y ∷ xs) x = ap suc (length-push xs x)
 
 -- as many records have effect as the text has characters
 pub text_told : (b : ℕ) (events : List (Applied ℕ)) (prepared : List ℕ) → IsRun [] events → count (λ (r : Record). r.effect) (walker_records b events prepared) ≡ length (visible (applied_entries b events))

@@ -1,9 +1,7 @@
 -- A state where no event was applied.
-use Rattle.std.proofs.Common.{◌≡◌, ℕ, zero, suc, ◌<◌, ◌≤◌, true, false, not, cond, nat_eq, List, [], ◌∷◌, ◌++◌, map, filter, length, refl, sym, ap, ◌∙◌, subst, append-nil, arith}
+use Rattle.std.proofs.Common.{◌≡◌, ℕ, zero, suc, ◌<◌, ◌≤◌, true, not, cond, nat_eq, [], ◌∷◌, ◌++◌, map, filter, length, refl, sym, ap, ◌∙◌, subst, append-nil, arith}
 use Rattle.std.proofs.lemmas.List.{map-append}
 use Rattle.std.proofs.lemmas.List.Elements.{filter-append}
-use Rattle.std.proofs.lemmas.List.Folds.{list_any-append}
-use Rattle.std.proofs.Math.Bool.{or-false}
 use Rattle.ew_model.specs.declared.id.Id.{Id}
 use Rattle.ew_model.specs.declared.node.Node.TheVariants.{Base}
 use Rattle.ew_model.specs.Entries.{Inserted, insertions, deletes, is_deleted, order, visible}
@@ -12,15 +10,12 @@ use Rattle.ew_model.specs.Tree.{base_id, based, Noted, all_entries, entries_over
 use Rattle.ew_model.specs.Records.{Record, record_in, records, walker_records, applied_entries, prepared_entries, prepared_in, deletions_of}
 use Rattle.ew_model.proofs.SortingLaws.{all_from}
 use Rattle.ew_model.proofs.ClearLaws.{all_pass}
-use Rattle.ew_model.proofs.BaseLaws.{base_visible, base_long}
+use Rattle.ew_model.proofs.BaseLaws.{base_visible, base_long, base_kept}
 use Rattle.ew_model.proofs.RecordLaws.{is_inserted_from}
 use Rattle.advance_retreat.specs.Kept.{Kept, single, base_records}
 use Rattle.advance_retreat.specs.Standing.{most, kept_record, kept_target, AreChildren, StandsFor}
 use Rattle.advance_retreat.proofs.Nodes.{base_node, base_next, base_there}
-
-base_kept : (n : ℕ) (x : Id) → is_deleted (based n) x ≡ false
-base_kept zero x = refl
-base_kept (suc n) x = list_any-append (deletes x) (based n) (Insertion (base_node n) ∷ []) ∙ or-false (is_deleted (based n) x) ∙ base_kept n x
+use Rattle.advance_retreat.proofs.Lists.{length-push}
 
 base_struck : (n : ℕ) (x : Id) → filter (deletes x) (based n) ≡ []
 base_struck zero x = refl
@@ -73,10 +68,6 @@ base_walker b = (λ i. records (base_applied b i) (base_prepared b i)) ∙ ap (m
 length-base : (b : ℕ) → length (base_records b) ≡ b
 length-base zero = refl
 length-base (suc b) = length-push (base_records b) (single (Base b) 1 true) ∙ ap suc (length-base b)
-  where
-    length-push : {X : Type 0} (xs : List X) (x : X) → length (xs ++ x ∷ []) ≡ suc (length xs)
-    length-push [] x = refl
-    length-push (y ∷ xs) x = ap suc (length-push xs x)
 
 pub base_few : (b : ℕ) → length (base_records b) ≤ b
 base_few b = let all = length-base b in omega arith

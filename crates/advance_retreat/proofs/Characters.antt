@@ -2,13 +2,12 @@
 use Rattle.std.proofs.Common.{◌≡◌, ℕ, ◌<◌, true, ⊎_elim, List, map, sym, ap, ◌∙◌, subst}
 use Rattle.ew_model.specs.declared.node.Node.TheVariants.{Base, Event}
 use Rattle.ew_model.specs.Sets.{Among}
-use Rattle.ew_model.specs.Entries.{Inserted, Entry, insertions, order}
+use Rattle.ew_model.specs.Entries.{Inserted, insertions, order}
 use Rattle.ew_model.specs.Entries.Entry.{Insertion}
 use Rattle.ew_model.specs.Tree.{based, Applied, Noted}
 use Rattle.ew_model.specs.Records.{Record, record_in, prepared_in}
 use Rattle.ew_model.proofs.SetLaws.{among_map, joined_left}
-use Rattle.ew_model.proofs.SortingLaws.{among_sort}
-use Rattle.ew_model.proofs.PlaceLaws.{placed_total, among_insertions, insertion_among}
+use Rattle.ew_model.proofs.PlaceLaws.{among_insertions, insertion_among}
 use Rattle.ew_model.proofs.RunLaws.{entry_of}
 use Rattle.ew_model.proofs.StateLaws.{node_of as record_node, nodes_of}
 use Rattle.fugue_place.specs.Attachments.{is_there, path_of}
@@ -17,10 +16,7 @@ use Rattle.advance_retreat.specs.Kept.{Kept}
 use Rattle.advance_retreat.specs.Standing.{node_of, StandsFor}
 use Rattle.advance_retreat.proofs.Nodes.{base_node, base_there, IsChar, char_cases, node_event, same_base, base_event}
 use Rattle.advance_retreat.proofs.Keeping.{notes, rs, all, part, grown, record_char}
-
-among_order : (entries : List Entry) (z : Inserted) → Among z (insertions entries) → Among z (order entries)
-unfolding order
-among_order entries z m = among_sort placed_total (insertions entries) z m
+use Rattle.ew_model.proofs.ClearLaws.{stem_ordered}
 
 module _ (s : Kept) (b : ℕ) (events : List (Applied ℕ)) (prepared : List ℕ) (st : StandsFor s b events prepared) where
   abbrev pub ns : List (Noted ℕ)
@@ -63,7 +59,7 @@ module _ (s : Kept) (b : ℕ) (events : List (Applied ℕ)) (prepared : List ℕ
   -- each character has a record
   pub record_of : (z : Inserted) → Among z (insertions (all s b events prepared st)) → (r : Record) × Among r (rs s b events prepared st) × (r.node ≡ z)
   record_of z m =
-      let there = subst (Among z) (sym (nodes_of (all s b events prepared st) (part s b events prepared st))) (among_order (all s b events prepared st) z m) in
+      let there = subst (Among z) (sym (nodes_of (all s b events prepared st) (part s b events prepared st))) (stem_ordered (all s b events prepared st) z m) in
       let r = among_map record_node (rs s b events prepared st) z there in
       (r.0, r.1, sym r.2)
 

@@ -3,21 +3,19 @@ use Rattle.std.proofs.Common.{◌≡◌, ℕ, zero, suc, Bool, true, false, cond
 use Rattle.ew_model.specs.Sets.{Among}
 use Rattle.ew_model.proofs.RecordLaws.{map_same, map_map}
 use Rattle.advance_retreat.proofs.Lists.{count}
+use Rattle.ew_model.proofs.StateLaws.{length_kept}
+use Rattle.ew_model.proofs.FileLists.{some_is}
 
 pub length-mapped : {X Y : Type 0} (f : X → Y) (xs : List X) → length (map f xs) ≡ length xs
 length-mapped f [] = refl
 length-mapped f (x ∷ xs) = ap suc (length-mapped f xs)
 
-length-kept : {X : Type 0} (b : Bool) (x : X) (xs : List X) → length (cond b (x ∷ xs) xs) ≡ cond b (suc (length xs)) (length xs)
-length-kept true x xs = refl
-length-kept false x xs = refl
-
 pub count-mapped : {X Y : Type 0} (f : X → Y) (p : Y → Bool) (xs : List X) → count p (map f xs) ≡ count (λ x. p (f x)) xs
 count-mapped f p [] = refl
 count-mapped f p (x ∷ xs) =
-    length-kept (p (f x)) (f x) (filter p (map f xs))
+    length_kept (p (f x)) (f x) (filter p (map f xs))
     ∙ ap (λ n. cond (p (f x)) (suc n) n) (count-mapped f p xs)
-    ∙ sym (length-kept (p (f x)) x (filter (λ x. p (f x)) xs))
+    ∙ sym (length_kept (p (f x)) x (filter (λ x. p (f x)) xs))
 
 pub find-mapped : {X Y : Type 0} (f : X → Y) (p : Y → Bool) (xs : List X) → find p (map f xs) ≡ option_map f (find (λ x. p (f x)) xs)
 find-mapped f p [] = refl
@@ -40,12 +38,9 @@ pub record Cut {X Y : Type 0} (f : X → Y) (xs : List X) (k : ℕ) (y : Y) : Ty
   pub image : f here ≡ y
   pub place : length front ≡ k
 
-some_same : {Y : Type 0} (x y : Y) → Some x ≡ Some y → x ≡ y
-some_same x y e = cc
-
 pub cut_at : {X Y : Type 0} (f : X → Y) (xs : List X) (k : ℕ) (y : Y) → slice_get (map f xs) k ≡ Some y → Cut f xs k y
 cut_at f [] k y e = let no : ⊥ = cc in absurd no
-cut_at f (x ∷ xs) zero y e = record { front = []; here = x; rest = xs; whole = refl; image = some_same (f x) y e; place = refl }
+cut_at f (x ∷ xs) zero y e = record { front = []; here = x; rest = xs; whole = refl; image = some_is (f x) y e; place = refl }
 cut_at f (x ∷ xs) (suc k) y e =
     let c = cut_at f xs k y e in
     record { front = x ∷ c.front; here = c.here; rest = c.rest; whole = ap (λ zs. x ∷ zs) c.whole; image = c.image; place = ap suc c.place }

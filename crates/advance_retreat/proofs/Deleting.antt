@@ -32,6 +32,7 @@ use Rattle.advance_retreat.proofs.Room.{CanDelete}
 use Rattle.advance_retreat.proofs.Nodes.{node_of-delete}
 use Rattle.advance_retreat.proofs.Keeping.{notes, rs, part, record_char, visible_told, about_told}
 use Rattle.advance_retreat.proofs.Applying as apply
+use Rattle.ew_model.proofs.RunLaws.{not_insertion}
 
 count_fewer : {X : Type 0} (p q : X → Bool) (xs : List X) → ((x : X) → p x ≡ true → q x ≡ true) → count p xs ≤ count q xs
 count_fewer p q [] f = omega arith
@@ -46,9 +47,6 @@ count_fewer p q (x ∷ xs) f = at (p x) refl (q x) refl (count_fewer p q xs f)
 still_shown : (b e : Bool) → cond b false e ≡ true → e ≡ true
 still_shown true e h = absurd (false≢true h)
 still_shown false e h = h
-
-not_both : (y : Inserted) (t : Id) → Deletion t ≡ Insertion y → ⊥
-not_both y t e = cc
 
 strike_one : (ns : List (Noted ℕ)) (lv : ℕ) (t : Id) (v : Node) (r : Record) → node_eq (node_of ns r.node.id) v ≡ id_eq t r.node.id
     → changed_at v Strike (kept_record ns r) ≡ kept_record (ns ++ record { name = lv; entry = Deletion t } ∷ []) (struck t r)
@@ -154,7 +152,7 @@ module _ (s : Kept) (b : ℕ) (events : List (Applied ℕ)) (prepared : List ℕ
       older n y m e =
           ⊎_elim
           (λ old. old)
-          (λ new. ⊎_elim (λ is. absurd (not_both y t (sym (ap (λ (w : Noted ℕ). w.entry) is) ∙ e))) (λ no. absurd no) new)
+          (λ new. ⊎_elim (λ is. absurd (not_insertion y t (sym (ap (λ (w : Noted ℕ). w.entry) is) ∙ e))) (λ no. absurd no) new)
           (among_joined ns (record { name = lv; entry = Deletion t } ∷ []) n m)
 
   text_kept : length (visible (applied_entries b (events ++ next_of lv (DeleteAt at) prepared ∷ []))) ≤ most

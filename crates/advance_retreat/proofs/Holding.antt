@@ -36,7 +36,8 @@ use Rattle.advance_retreat.proofs.Cuts.{count-mapped, find-mapped, Cut, cut_at, 
 use Rattle.advance_retreat.proofs.Nodes.{base_node}
 use Rattle.advance_retreat.proofs.Keeping.{notes, rs, part}
 use Rattle.advance_retreat.proofs.Characters.{own_char, own_event, char_path, char_there, char_low, record_of, base_char, base_in_tree, number_of}
-use Rattle.advance_retreat.proofs.RightChildren.{child_form, child_behind}
+use Rattle.advance_retreat.proofs.RightChildren.{child_behind}
+use Rattle.ew_model.proofs.NewNodes.{child_form}
 
 found_in : {X : Type 0} (p : X → Bool) (xs : List X) (x : X) → find p xs ≡ Some x → Among x xs
 found_in p [] x e = let no : ⊥ = cc in absurd no

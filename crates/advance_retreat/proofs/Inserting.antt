@@ -57,13 +57,6 @@ use Rattle.advance_retreat.proofs.Applying as apply
 abbrev about_node : ℕ → Node → Target
 about_node lv v = record { lv = lv; node = v }
 
-root_event : (n : ℕ) → Root ≡ Event n → ⊥
-root_event n e = cc
-
-length-push : {X : Type 0} (xs : List X) (x : X) → length (xs ++ x ∷ []) ≡ suc (length xs)
-length-push [] x = refl
-length-push (y ∷ xs) x = ap suc (length-push xs x)
-
 count-fresh : (p : Record → Bool) (xs : List Record) (y : Record) (ys : List Record) → p y ≡ true → count p (xs ++ y ∷ ys) ≡ suc (count p (xs ++ ys))
 count-fresh p [] y ys h = ap (λ c. length (cond c (y ∷ filter p ys) (filter p ys))) h
 count-fresh p (x ∷ xs) y ys h = at (p x) (count-fresh p xs y ys h)

@@ -1,12 +1,12 @@
 -- What a kept state tells of the records that it stands for.
-use Rattle.std.proofs.Common.{◌≡◌, ℕ, zero, suc, ◌+◌, ◌≤◌, Bool, true, false, cond, inl, inr, ⊎_elim, List, [], ◌∷◌, ◌++◌, map, filter, find, length, Some, option_map, nat_eq, refl, sym, ap, ◌∙◌, subst, arith}
+use Rattle.std.proofs.Common.{◌≡◌, ℕ, zero, suc, ◌+◌, ◌≤◌, Bool, true, false, cond, inl, inr, ⊎_elim, List, [], ◌∷◌, map, filter, find, length, Some, option_map, nat_eq, refl, sym, ap, ◌∙◌, subst, arith}
 use Rattle.std.specs.List.{AllByRecursion}
 use Rattle.std.proofs.lemmas.Bool.{false≢true, eq-eqb, eqb-true}
 use Rattle.ew_model.specs.declared.id.Id.{Id}
 use Rattle.ew_model.specs.Ids.{id_eq}
 use Rattle.ew_model.specs.Sets.{Among}
 use Rattle.ew_model.specs.Entries.{Inserted, Entry, insertions, deletes, order, visible}
-use Rattle.ew_model.specs.Entries.Entry.{Insertion, Deletion}
+use Rattle.ew_model.specs.Entries.Entry.{Insertion}
 use Rattle.ew_model.specs.Tree.{based, Applied, Noted, all_entries, entries_over, tree_of}
 use Rattle.ew_model.specs.Records.{Record, record_in, walker_records, applied_entries, prepared_entries, prepared_in, is_inserted, deletions_of, is_about, is_one}
 use Rattle.ew_model.proofs.SetLaws.{among_map, map_among}
@@ -21,26 +21,15 @@ use Rattle.fugue_place.specs.Attachments.{node_eq}
 use Rattle.advance_retreat.specs.declared.target.Target.{Target}
 use Rattle.advance_retreat.specs.Kept.{Kept, is_visible, visible_in, shown_in, target_at, HasRoom}
 use Rattle.advance_retreat.specs.Standing.{node_of, kept_record, kept_target, about, is_applied, StandsFor}
-use Rattle.advance_retreat.proofs.Lists.{count_few}
+use Rattle.advance_retreat.proofs.Lists.{count_few, length-push}
 use Rattle.advance_retreat.proofs.Cuts.{length-mapped, count-mapped}
 use Rattle.advance_retreat.proofs.Nodes.{base_node, char_cases, nodes_by_ids, is_about_id, same_name}
-
-length-joined : {X : Type 0} (xs ys : List X) → length (xs ++ ys) ≡ length xs + length ys
-length-joined [] ys = omega arith
-length-joined (x ∷ xs) ys = omega (arith, length-joined xs ys)
-
-length-push : {X : Type 0} (xs : List X) (x : X) → length (xs ++ x ∷ []) ≡ suc (length xs)
-length-push [] x = refl
-length-push (y ∷ xs) x = ap suc (length-push xs x)
+use Rattle.std.proofs.lemmas.List.{length-append}
+use Rattle.ew_model.proofs.TextLengths.{length-insertions-le}
 
 length-based : (b : ℕ) → length (based b) ≡ b
 length-based zero = refl
 length-based (suc b) = length-push (based b) (Insertion (base_node b)) ∙ ap suc (length-based b)
-
-length-insertions : (es : List Entry) → length (insertions es) ≤ length es
-length-insertions [] = omega arith
-length-insertions (Insertion y ∷ es) = omega (arith, length-insertions es)
-length-insertions (Deletion t ∷ es) = omega (arith, length-insertions es)
 
 number_bound : (es : List Entry) (x : Id) → prepared_in es x ≤ suc (length es)
 number_bound es x = at (is_inserted es x)
@@ -87,16 +76,16 @@ module _ (s : Kept) (b : ℕ) (events : List (Applied ℕ)) (prepared : List ℕ
   length-notes = sym (length-mapped (λ (n : Noted ℕ). n.name) notes) ∙ ap length st.placed ∙ length-mapped (λ (c : Applied ℕ). c.name) events
 
   length-all : length all ≡ b + length events
-  length-all = omega (arith, length-joined (based b) (map entry_of notes), length-based b, length-mapped entry_of notes, length-notes)
+  length-all = omega (arith, length-append (based b) (map entry_of notes), length-based b, length-mapped entry_of notes, length-notes)
 
   length-part : length part ≤ b + length events
-  length-part = omega (arith, length-joined (based b) (map entry_of (filter (named prepared) notes)), length-based b, length-mapped entry_of (filter (named prepared) notes), count_few (named prepared) notes, length-notes)
+  length-part = omega (arith, length-append (based b) (map entry_of (filter (named prepared) notes)), length-based b, length-mapped entry_of (filter (named prepared) notes), count_few (named prepared) notes, length-notes)
 
   pub records_few : length s.records ≤ b + length events
   records_few =
       let kept : length s.records ≡ length rs = ap length st.records ∙ length-mapped (kept_record notes) rs in
       let many : length rs ≡ length (order all) = length-mapped (record_in all part) (order all) in
-      omega (arith, kept, many, length-order all, length-insertions all, length-all)
+      omega (arith, kept, many, length-order all, length-insertions-le all, length-all)
 
   -- each number of deletions may rise
   pub has_room : AllByRecursion HasRoom s.records

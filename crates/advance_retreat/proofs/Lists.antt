@@ -6,21 +6,22 @@ use Rattle.std.proofs.lemmas.Bool.{false≢true}
 use Rattle.std.proofs.lemmas.List.Elements.{filter-append}
 use Rattle.std.proofs.lemmas.List.Folds.{list_any-append}
 use Rattle.fugue_place.proofs.ListLaws.{one_more}
+use Rattle.std.proofs.lemmas.List.{length-append}
 
 -- COUNTS
 abbrev pub count : {X : Type 0} → (X → Bool) → List X → ℕ
 count p xs = length (filter p xs)
 
-length-joined : {X : Type 0} (xs ys : List X) → length (xs ++ ys) ≡ length xs + length ys
-length-joined [] ys = omega arith
-length-joined (x ∷ xs) ys = omega (arith, length-joined xs ys)
+pub length-push : {X : Type 0} (xs : List X) (x : X) → length (xs ++ x ∷ []) ≡ suc (length xs)
+length-push [] x = refl
+length-push (y ∷ xs) x = ap suc (length-push xs x)
 
 length-one : {X : Type 0} (b : Bool) (x : X) → length (cond b (x ∷ []) []) ≡ cond b 1 0
 length-one true x = refl
 length-one false x = refl
 
 pub count-append : {X : Type 0} (p : X → Bool) (xs ys : List X) → count p (xs ++ ys) ≡ count p xs + count p ys
-count-append p xs ys = ap length (filter-append p xs ys) ∙ length-joined (filter p xs) (filter p ys)
+count-append p xs ys = ap length (filter-append p xs ys) ∙ length-append (filter p xs) (filter p ys)
 
 count-one : {X : Type 0} (p : X → Bool) (x : X) → count p (x ∷ []) ≡ cond (p x) 1 0
 count-one p x = length-one (p x) x
@@ -64,17 +65,8 @@ pub count_bound : {X : Type 0} (p : X → Bool) (xs : List X) (n : ℕ) → coun
 count_bound p xs n = omega (arith, count_few p (take n xs), length-take xs n)
 
 -- SUCH A LIST FROM A PLACE ON
-dropped_suc : {X : Type 0} (xs : List X) (n : ℕ) (x : X) → n < length xs → x ≡ get_or xs n x → drop n xs ≡ x ∷ drop (suc n) xs
-dropped_suc [] n x lt is = absurd (omega arith)
-dropped_suc {X = X} (y ∷ xs) zero x lt is = ap (λ (z : X). z ∷ xs) (sym is)
-dropped_suc (y ∷ xs) (suc n) x lt is = dropped_suc xs n x (omega arith) is
-
 next_place : (n : ℕ) → suc n ≡ n + 1
 next_place n = omega arith
-
--- the element at the place is the first from there on
-pub dropped : {X : Type 0} (xs : List X) (n : ℕ) (x : X) → n < length xs → x ≡ get_or xs n x → drop n xs ≡ x ∷ drop (n + 1) xs
-dropped xs n x lt is = dropped_suc xs n x lt is ∙ ap (λ k. x ∷ drop k xs) (next_place n)
 
 -- THE FIRST ONES MAPPED
 abbrev pub mapped : {X : Type 0} → (X → X) → List X → ℕ → List X

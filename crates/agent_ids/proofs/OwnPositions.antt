@@ -12,6 +12,7 @@ use Rattle.ew_model.proofs.TextLaws.{position-cons}
 use Rattle.agent_ids.specs.Agents.{agents_of, count_of}
 use Rattle.agent_ids.specs.Table.{positions_from, positions_of, AreAgents}
 use Rattle.agent_ids.proofs.Agents.{names_tested, names_alike, one_name, agents_push, agents_few, count_cons, is_agent, AreDistinct, agents_distinct}
+use Rattle.ew_model.proofs.ListParts.{is_some-position}
 
 -- as many as the agent has ids
 positions-length-from : (n : ℕ) (ids : List Id) (agent : List ℕ) → length (positions_from n ids agent) ≡ count_of ids agent
@@ -79,15 +80,6 @@ agent_of : (ids : List Id) (agent : List ℕ) → positions_of ids agent ≡ [] 
 agent_of ids agent h = is_agent ids agent ∙ some-from 0 ids agent h
 
 -- What a search finds.
-is_some_at : (b : Bool) (o : Option ℕ) → is_some (cond b (Some 0) (option_map (λ i. 1 + i) o)) ≡ (b || is_some o)
-is_some_at true o = refl
-is_some_at false None = refl
-is_some_at false (Some i) = refl
-
-pub is_some-position : {X : Type 0} (p : X → Bool) (xs : List X) → is_some (position p xs) ≡ list_any p xs
-is_some-position p [] = refl
-is_some-position p (x ∷ xs) = ap is_some (position-cons p x xs) ∙ is_some_at (p x) (position p xs) ∙ ap (λ b. p x || b) (is_some-position p xs)
-
 within_at : (b : Bool) (k n long : ℕ) → nat_lt k long ≡ b → Some n ≡ cond b (Some k) None → n < long
 within_at true k n long h e = let same : n ≡ k = cc in let low : k < long = ltb-true k long h in omega (arith, same, low)
 within_at false k n long h e = let no : ⊥ = cc in absurd no

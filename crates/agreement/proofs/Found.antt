@@ -1,5 +1,5 @@
 -- Ids that are found at some positions.
-use Rattle.std.proofs.Common.{◌≡◌, ℕ, zero, suc, ◌+◌, ◌<◌, Bool, true, false, cond, ◌||◌, nat_eq, List, [], ◌∷◌, length, position, Option, Some, None, is_some, option_map, refl, sym, ap, ◌∙◌, subst, arith, All}
+use Rattle.std.proofs.Common.{◌≡◌, ℕ, zero, suc, ◌<◌, Bool, true, false, nat_eq, List, [], ◌∷◌, length, position, Some, None, is_some, refl, sym, ap, ◌∙◌, subst, All}
 use Rattle.std.specs.Prelude.{slice_get}
 use Rattle.std.specs.Bool.{MatchBool}
 use Rattle.std.specs.List.{list_any, list_all, AllWithin, HoldsAt}
@@ -16,29 +16,17 @@ use Rattle.ew_model.proofs.IdLaws.{is_same_id}
 use Rattle.ew_model.proofs.CoverLaws.{held_by}
 use Rattle.ew_model.proofs.ListTests.{found_by, pass_all, same_truth, any_alike, any_mapped}
 use Rattle.ew_model.proofs.SetLaws.{among_map}
-use Rattle.ew_model.proofs.TextLaws.{position-cons}
 use Rattle.ew_model.proofs.SortingLaws.{all_at}
 use Rattle.event_graph.specs.Keeping.{IsAdmitted, id_of}
 use Rattle.event_graph.proofs.Admitted.{laid}
 use Rattle.event_graph.proofs.Places.{found_event, event_among, one_place}
 use Rattle.agreement.specs.Sharing.{ids_at}
-
-some_found : (b : Bool) (o : Option ℕ) → is_some (cond b (Some 0) (option_map (λ i. 1 + i) o)) ≡ (b || is_some o)
-some_found true o = refl
-some_found false None = refl
-some_found false (Some i) = refl
+use Rattle.event_graph.proofs.Rebuilt.{id_there}
+use Rattle.ew_model.proofs.ListParts.{element_there, is_some-position}
 
 -- an id is found exactly where an event has it
 pub found_held : (history : List Event) (x : Id) → is_some (position (id_eq x) (ids_of history)) ≡ is_held history x
-found_held [] x = refl
-found_held (e ∷ history) x =
-    ap is_some (position-cons (id_eq x) e.id (ids_of history)) ∙ some_found (id_eq x e.id) (position (id_eq x) (ids_of history)) ∙ ap (λ b. id_eq x e.id || b) (found_held history x)
-
--- there is an event at each position
-pub event_there : (history : List Event) (place : ℕ) → place < length history → (e : Event) × (slice_get history place ≡ Some e)
-event_there [] place h = absurd (omega (arith, h))
-event_there (e ∷ history) zero h = (e, refl)
-event_there (e ∷ history) (suc place) h = event_there history place (omega (arith, h))
+found_held history x = is_some-position (id_eq x) (ids_of history)
 
 -- the id at a position
 pub told_id : (ids : List Id) (place : ℕ) (x : Id) → slice_get ids place ≡ Some x → x ≡ id_of ids place
@@ -46,17 +34,11 @@ told_id [] place x h = let no : ⊥ = cc in absurd no
 told_id (y ∷ ids) zero x h = let one : x ≡ y = cc in one
 told_id (y ∷ ids) (suc place) x h = told_id ids place x h
 
--- the id at an event's position is the event's
-pub id_there : (history : List Event) (place : ℕ) (e : Event) → slice_get history place ≡ Some e → id_of (ids_of history) place ≡ e.id
-id_there [] place e h = let no : ⊥ = cc in absurd no
-id_there (f ∷ history) zero e h = let one : f ≡ e = cc in ap (λ (g : Event). g.id) one
-id_there (f ∷ history) (suc place) e h = id_there history place e h
-
 -- an id stands at a position exactly where that is the one at which it is found
 same_place : (history : List Event) (x : Id) (q p : ℕ) → IsAdmitted history → position (id_eq x) (ids_of history) ≡ Some q → p < length history → id_eq x (id_of (ids_of history) p) ≡ nat_eq p q
 same_place history x q p admitted at within =
     let f = found_event history x q at in
-    let g = event_there history p within in
+    let g = element_there history p within in
     let here : id_of (ids_of history) p ≡ g.0.id = id_there history p g.0 g.1 in
     same_truth (id_eq x (id_of (ids_of history) p)) (nat_eq p q)
     (λ e.
@@ -85,7 +67,7 @@ none_among history positions x none within =
     sym (false_from_ne_true (is_among (ids_at history positions) x) (λ e.
     let y = found_by (id_eq x) (ids_at history positions) e in
     let p = among_map (id_of (ids_of history)) positions y.0 y.1 in
-    let g = event_there history p.0 (all_at (λ n. n < length history) positions p.0 each p.1) in
+    let g = element_there history p.0 (all_at (λ n. n < length history) positions p.0 each p.1) in
     let same : id_eq x g.0.id ≡ true = subst (λ z. id_eq x z ≡ true) (p.2 ∙ id_there history p.0 g.0 g.1) y.2 in
     false≢true (sym new ∙ held_by history x g.0 (event_among history p.0 g.0 g.1) same)))
 

@@ -7,13 +7,12 @@ use Rattle.ew_model.specs.declared.event.Event.{Event}
 use Rattle.ew_model.specs.Sets.{Among}
 use Rattle.ew_model.specs.Sorting.{sort_by}
 use Rattle.ew_model.specs.Cuts.{are_among}
-use Rattle.ew_model.specs.Ids.{id_cmp, id_eq, is_among}
+use Rattle.ew_model.specs.Ids.{id_cmp, is_among}
 use Rattle.ew_model.specs.Ancestors.{ids_of}
 use Rattle.ew_model.specs.Positions.{parents_at, parent_positions, positions_in}
-use Rattle.ew_model.proofs.IdLaws.{is_same_id}
 use Rattle.ew_model.proofs.PathOrder.{id_total}
 use Rattle.ew_model.proofs.CoverLaws.{among_here}
-use Rattle.ew_model.proofs.ListTests.{found_by, passes, pass_all}
+use Rattle.ew_model.proofs.ListTests.{passes, pass_all}
 use Rattle.ew_model.proofs.SortingLaws.{NoTies, length-sort, sort_among, among_sort, same_sorted}
 use Rattle.event_graph.specs.Keeping.{IsAdmitted, id_of, ascending_at, bare_events}
 use Rattle.event_graph.proofs.Admitted.{laid}
@@ -21,7 +20,8 @@ use Rattle.event_graph.proofs.Grown.{parents_kept, ops_kept}
 use Rattle.event_graph.proofs.Rebuilt.{rebuilt, event_here, held_ties}
 use Rattle.agreement.specs.Sharing.{HaveSameParents, ids_at}
 use Rattle.agreement.proofs.Apart.{apart_untied, no_others}
-use Rattle.agreement.proofs.Found.{event_there}
+use Rattle.ew_model.proofs.ListParts.{element_there}
+use Rattle.ew_model.proofs.ReachSteps.{id_among}
 
 pub made_get : {X : Type 0} (make : Event → X) (history : List Event) (place : ℕ) (e : Event) → slice_get history place ≡ Some e → slice_get (map make history) place ≡ Some (make e)
 made_get make [] place e h = let no : ⊥ = cc in absurd no
@@ -53,13 +53,10 @@ module _ (history : List Event) (place : ℕ) (e : Event) (admitted : IsAdmitted
       subst (λ (ps : List ℕ). NoTies id_cmp (ids_at history ps)) (sym (made_there (λ (f : Event). positions_in history f.parents) history place e at))
       (held_ties history e.parents (laid history admitted))
 
-among_of : (ids : List Id) (x : Id) → is_among ids x ≡ true → Among x ids
-among_of ids x h = let y = found_by (id_eq x) ids h in subst (λ z. Among z ids) (sym ((is_same_id x y.0).0 y.2)) y.1
-
 -- as many ids, all of which are among the others, are the others in whatever order
 sorted_alike : (xs ys : List Id) → NoTies id_cmp xs → NoTies id_cmp ys → length xs ≡ length ys → are_among ys xs ≡ true → sort_by id_cmp xs ≡ sort_by id_cmp ys
 sorted_alike xs ys n m alike h =
-    let there : (z : Id) → Among z xs → Among z ys = λ z k. among_of ys z (passes (is_among ys) xs z h k) in
+    let there : (z : Id) → Among z xs → Among z ys = λ z k. id_among ys z (passes (is_among ys) xs z h k) in
     same_sorted id_total xs ys n m there (no_others xs ys (apart_untied id_total xs n) there (omega (arith, alike)))
 
 alike_length : (xs ys : List Id) → sort_by id_cmp xs ≡ sort_by id_cmp ys → length xs ≡ length ys
@@ -85,8 +82,8 @@ module _ (one other : List Event) (p q : ℕ) (ours theirs : List ℕ) (admitted
 
   sorted_same : p < length one → q < length other → HaveSameParents one p other q → sort_by id_cmp (ids_at one ours) ≡ sort_by id_cmp (ids_at other theirs)
   sorted_same h k same =
-      let e = event_there one p h in
-      let f = event_there other q k in
+      let e = element_there one p h in
+      let f = element_there other q k in
       ap (λ ps. sort_by id_cmp (ids_at one ps)) these
       ∙ (sym (parents_told one p e.0 admitted e.1) ∙ (same e.0 f.0 e.1 f.1 ∙ (parents_told other q f.0 known f.1
       ∙ ap (λ ps. sort_by id_cmp (ids_at other ps)) (sym those))))

@@ -18,8 +18,9 @@ use Rattle.event_graph.proofs.Admitted.{laid}
 use Rattle.event_graph.proofs.Places.{found_event, event_among}
 use Rattle.agreement.specs.Sharing.{HaveSameParents, IsShared}
 use Rattle.agreement.proofs.Apart.{AreApart, apart_untied, apart_mapped, no_more, no_others}
-use Rattle.agreement.proofs.Found.{event_there, found_held}
+use Rattle.agreement.proofs.Found.{found_held}
 use Rattle.agreement.proofs.ParentIds.{made_get}
+use Rattle.ew_model.proofs.ListParts.{element_there}
 
 -- an event of a history stands at a position
 pub place_among : (history : List Event) (e : Event) → Among e history → (place : ℕ) × (place < length history) × (slice_get history place ≡ Some e)
@@ -33,7 +34,7 @@ same_made make history place e x at told = let both : Some x ≡ Some (make e) =
 -- Where the id at a position is found in the other history ..
 module _ (one other : List Event) (p q : ℕ) (x : Id) (within : p < length one) (admitted : IsAdmitted other) (at : slice_get (ids_of one) p ≡ Some x) (found : position (id_eq x) (ids_of other) ≡ Some q) where
   e : (e : Event) × (slice_get one p ≡ Some e)
-  e = event_there one p within
+  e = element_there one p within
 
   f : (f : Event) × (slice_get other q ≡ Some f) × (x ≡ f.id)
   f = found_event other x q found
@@ -73,7 +74,7 @@ module _ (one other : List Event) (p q : ℕ) (x : Id) (within : p < length one)
 -- an event whose id isn't found isn't shared
 pub none_shared : (one other : List Event) (p : ℕ) (x : Id) → p < length one → slice_get (ids_of one) p ≡ Some x → position (id_eq x) (ids_of other) ≡ None → IsShared one p other → ⊥
 none_shared one other p x within at none shared =
-    let e = event_there one p within in
+    let e = element_there one p within in
     let new : is_held other x ≡ false = sym (found_held other x) ∙ ap is_some none in
     let id : x ≡ e.0.id = same_made (λ (g : Event). g.id) one p e.0 x e.1 at in
     false≢true (sym new ∙ (ap (is_held other) id ∙ held_of other e.0 (shared e.0 e.1)))

@@ -9,7 +9,7 @@ use Rattle.ew_model.proofs.PositionCuts.{last_cases}
 use Rattle.ancestors.specs.declared.spans.Span.{Span}
 use Rattle.ancestors.specs.Spans.{positions_in, positions_of, AreDescending}
 
-positions_push : (spans : List Span) (s : Span) → positions_of (spans ++ s ∷ []) ≡ positions_in s ++ positions_of spans
+pub positions_push : (spans : List Span) (s : Span) → positions_of (spans ++ s ∷ []) ≡ positions_in s ++ positions_of spans
 positions_push [] s = sym (append-nil (positions_in s))
 positions_push (x ∷ spans) s = ap (λ ps. ps ++ positions_in x) (positions_push spans s) ∙ append_assoc (positions_in s) (positions_of spans) (positions_in x)
 

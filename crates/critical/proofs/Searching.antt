@@ -1,6 +1,5 @@
 -- What a search among rising numbers finds.
 use Rattle.std.proofs.Common.{◌≡◌, ℕ, zero, suc, ◌+◌, ◌-◌, ◌<◌, ◌≤◌, Bool, true, false, cond, ◌&&◌, ◌||◌, ◌⊎◌, inl, inr, ⊎_elim, nat_eq, nat_cmp, List, [], ◌∷◌, length, get_or, slice_index_or, filter, take, Some, Result, Ok, Err, is_ok, refl, sym, ap, ◌∙◌, subst, arith, lt-ltb, le-ltb, eq-eqb}
-use Rattle.std.specs.List.{AllByRecursion}
 use Rattle.std.specs.List.Sorted.{IsStrictlyIncreasing, IsBinarySearchResult}
 use Rattle.std.specs.Cmp.Lexicographic.{pointwise}
 use Rattle.std.proofs.lemmas.Bool.{ne_eqb, false_from_ne_true}
@@ -10,7 +9,7 @@ use Rattle.ew_model.specs.Sets.{Among}
 use Rattle.ew_model.specs.Graph.{is_named}
 use Rattle.ew_model.specs.CutChange.{stays_behind}
 use Rattle.ew_model.proofs.RisingLists.{Rise, rise_of, number_among, among_named}
-use Rattle.frontier.proofs.Removals.{rise_ordered}
+use Rattle.frontier.proofs.Removals.{rise_ordered, at_least}
 use Rattle.critical.specs.Searches.{TellsHeads, IsGreatestTo}
 
 -- elements and places
@@ -22,11 +21,6 @@ pub among_place : (xs : List ℕ) (j : ℕ) → j < length xs → Among (get_or 
 among_place [] j l = absurd (omega (arith, l))
 among_place (x ∷ xs) zero l = inl refl
 among_place (x ∷ xs) (suc j) l = inr (among_place xs j (omega (arith, l)))
-
-at_least : (xs : List ℕ) (x : ℕ) → AllByRecursion (λ y. x < y) xs → (j : ℕ) → j < length xs → x < get_or xs j 0
-at_least [] x h j l = absurd (omega (arith, l))
-at_least (y ∷ xs) x h zero l = h.0
-at_least (y ∷ xs) x h (suc j) l = at_least xs x h.1 j (omega (arith, l))
 
 pub rise_strict : (xs : List ℕ) → Rise xs → (i j : ℕ) → i < j → j < length xs → get_or xs i 0 < get_or xs j 0
 rise_strict [] h i j le l = absurd (omega (arith, l))

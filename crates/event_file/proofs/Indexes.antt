@@ -5,17 +5,18 @@ use Rattle.std.specs.List.{list_any}
 use Rattle.std.proofs.lemmas.Bool.{and_parts, cond-true, cond-false, or_cases}
 use Rattle.std.proofs.lemmas.List.{map-append, length-append}
 use Rattle.std.proofs.lemmas.List.Folds.{list_any-append}
-use Rattle.std.proofs.lemmas.List.Sums.{fold_push}
 use Rattle.ew_model.specs.declared.id.Id.{Id}
 use Rattle.ew_model.specs.declared.event.Event.{Event}
 use Rattle.ew_model.specs.Ids.{name_eq, id_eq, id_lt, ids_ascend}
 use Rattle.ew_model.specs.Ancestors.{ids_of, is_held}
-use Rattle.ew_model.specs.File.{with_agent, agents_of}
+use Rattle.ew_model.specs.File.{agents_of}
 use Rattle.ew_model.specs.FileFaults.{open_agents}
 use Rattle.ew_model.proofs.FileLists.{some_is, none_is_some, none_in_front, get-take_within, there_among}
 use Rattle.ew_model.proofs.FileRecords.{names_equal, name_exact}
 use Rattle.ew_model.proofs.TextLaws.{ids_equal}
 use Rattle.event_file.specs.Progress.{IsIndexed}
+use Rattle.ew_model.proofs.ListParts.{take_next}
+use Rattle.ew_model.proofs.FileEvents.{agents_push}
 
 -- an agent at a place up to that of the next is open
 pub open_at : (agents : List (List ℕ)) (events : List Event) (used place : ℕ) (has : Id → Bool) → IsIndexed agents events used has → place ≤ used → slice_get (open_agents agents events) place ≡ slice_get agents place
@@ -25,12 +26,6 @@ open_at agents events used place has i le =
 
 pub known_open : (agents : List (List ℕ)) (events : List Event) (place : ℕ) (agent : List ℕ) → slice_get (open_agents agents events) place ≡ Some agent → list_any (name_eq agent) (open_agents agents events) ≡ true
 known_open agents events place agent e = there_among name_eq names_equal name_exact (open_agents agents events) place agent e
-
--- one element more at the end of a front
-take_next : {X : Type 0} (xs : List X) (n : ℕ) (x : X) → slice_get xs n ≡ Some x → take (suc n) xs ≡ take n xs ++ x ∷ []
-take_next [] n x e = none_is_some x e
-take_next (y ∷ ys) zero x e = ap (λ z. z ∷ []) (some_is y x e)
-take_next (y ∷ ys) (suc n) x e = ap (λ t. y ∷ t) (take_next ys n x e)
 
 take_all : {X : Type 0} (xs : List X) (n : ℕ) → slice_get xs n ≡ None → take (suc n) xs ≡ take n xs
 take_all [] zero e = refl
@@ -51,9 +46,6 @@ held_push events e has new old up x =
     swapped true false = refl
     swapped false true = refl
     swapped false false = refl
-
-agents_push : (events : List Event) (e : Event) → agents_of (events ++ e ∷ []) ≡ with_agent (agents_of events) e
-agents_push events e = fold_push with_agent [] events e
 
 -- with an event of the next agent one agent more is used
 pub next_indexed : (agents : List (List ℕ)) (events : List Event) (used : ℕ) (has new : Id → Bool) (e : Event) → IsIndexed agents events used has → slice_get agents used ≡ Some e.id.agent → ((x : Id) → new x ≡ cond (id_eq e.id x) true (has x)) → IsIndexed agents (events ++ e ∷ []) (used + 1) new

@@ -1,6 +1,6 @@
 -- Tables of places, as they grow, and the records that are written by them.
 use Rattle.std.proofs.Common.{◌≡◌, ℕ, zero, suc, ◌+◌, ◌<◌, ◌≤◌, Bool, true, false, cond, not, ◌||◌, inl, inr, List, [], ◌∷◌, ◌++◌, length, take, drop, get_or, flat_map, Option, Some, None, All, refl, sym, ap, subst, ◌∙◌, append_assoc, append-nil, arith}
-use Rattle.std.specs.Prelude.{unwrap_or, is_some, IsSome}
+use Rattle.std.specs.Prelude.{unwrap_or, IsSome}
 use Rattle.std.specs.Cmp.{IsEquivalence}
 use Rattle.std.specs.List.{list_any, list_all, position_or_len, AllByRecursion}
 use Rattle.std.proofs.lemmas.Bool.{cases_Bool, cond-true, cond-false, or_parts, or_left, or_right, and_parts}
@@ -15,7 +15,7 @@ use Rattle.ew_model.specs.Ancestors.{ids_of}
 use Rattle.ew_model.specs.File.{four_bytes, op_bytes, agents_of, record_bytes, are_writable_after, IsWritable}
 use Rattle.ew_model.proofs.FileLists.{place_kept, there_among, get-take}
 use Rattle.ew_model.proofs.FileRecords.{names_equal, name_exact, id_eq_exact, parent_bytes, record_at, MayFollow}
-use Rattle.ew_model.proofs.FileEvents.{writable_parts, record_whole, agent_open, agents_few_from}
+use Rattle.ew_model.proofs.FileEvents.{writable_parts, record_whole, agent_open, agents_few_from, ids_count}
 use Rattle.ew_model.proofs.TextLaws.{ids_equal}
 use Rattle.event_file.specs.Places.{place_in, HasPlaces}
 
@@ -128,10 +128,6 @@ ids_more : (events : List Event) (i : ℕ) (e : Event) → i < length events →
 ids_more events i e lt is =
     ap ids_of (take_more events i e lt ∙ ap (λ x. take i events ++ x ∷ []) (sym is)) ∙ map-append (λ (f : Event). f.id) (take i events) (e ∷ [])
 
-ids_length : (events : List Event) → length (ids_of events) ≡ length events
-ids_length [] = refl
-ids_length (e ∷ events) = ap suc (ids_length events)
-
 take_length : (events : List Event) (i : ℕ) → i ≤ length events → length (take i events) ≡ i
 take_length events zero le = refl
 take_length [] (suc i) le = absurd (omega arith)
@@ -140,7 +136,7 @@ take_length (e ∷ events) (suc i) le = ap suc (take_length events i (omega arit
 -- the table with one more event
 pub places_more : (events : List Event) (i : ℕ) (e : Event) (table more : Id → Option ℕ) → IsWritable events → i < length events → e ≡ get_or events i e → HasPlaces id_eq table (ids_of (take i events)) → ((x : Id) → more x ≡ cond (id_eq e.id x) (Some i) (table x)) → HasPlaces id_eq more (ids_of (take (i + 1) events))
 places_more events i e table more w lt is has up =
-    let size : length (ids_of (take i events)) ≡ i = ids_length (take i events) ∙ take_length events i (omega arith) in
+    let size : length (ids_of (take i events)) ≡ i = ids_count (take i events) ∙ take_length events i (omega arith) in
     subst (HasPlaces id_eq more) (sym (ids_more events i e lt is))
     (one_more_place id_eq ids_equal id_eq_exact (ids_of (take i events)) e.id table more has (follows_at events i e w lt is).new
     (λ x. up x ∙ ap (λ n. cond (id_eq e.id x) (Some n) (table x)) (sym size)))
@@ -148,10 +144,3 @@ places_more events i e table more w lt is has up =
 -- no more agents than events
 pub few_agents : (events : List Event) (i : ℕ) → i ≤ length events → length (agents_of (take i events)) ≤ i
 few_agents events i le = omega (arith, agents_few_from [] (take i events), take_length events i le)
-
-pub few_agents_all : (events : List Event) → length (agents_of events) ≤ length events
-few_agents_all events = omega (arith, agents_few_from [] events)
-
-pub none_from_is_some : {X : Type 0} (o : Option X) → is_some o ≡ false → o ≡ None
-none_from_is_some None h = refl
-none_from_is_some (Some x) h = absurd cc

@@ -16,7 +16,7 @@ use Rattle.ew_model.specs.Cuts.{is_critical}
 use Rattle.ew_model.specs.Positions.{is_cut_at}
 use Rattle.ew_model.proofs.VersionLaws.{find_none}
 use Rattle.ew_model.proofs.EntryLaws.{LaidOut, NoneHeld, none_held, none_held_less}
-use Rattle.ew_model.proofs.GoodLaws.{no_parent}
+use Rattle.ew_model.proofs.GoodLaws.{no_parent, held_from}
 use Rattle.ew_model.proofs.PositionAgreement.{greatest_alike, versions_agree, known_agrees, heads_agree, reduced_agree, cut_agrees, cuts_agree, history_agrees}
 use Rattle.event_graph.specs.Keeping.{AreAdmittedAfter, IsAdmitted}
 
@@ -37,10 +37,6 @@ known (Some p) rows h = let no : ⊥ = cc in absurd no
 off : (b : Bool) (r : Ruling) (rows : List (Option Ruling)) → (r ≡ Good → ⊥) → first_row (then_some b r ∷ rows) ≡ Good → (b ≡ false) × (first_row rows ≡ Good)
 off true r rows n h = absurd (n h)
 off false r rows n h = (refl, h)
-
-held_from : (held : List Event) (ps : List Id) → AllByRecursion (λ p. not (is_held held p) ≡ false) ps → AllByRecursion (λ p. is_held held p ≡ true) ps
-held_from held [] h = tt
-held_from held (p ∷ ps) h = (not-false (is_held held p) h.0, held_from held ps h.1)
 
 pub let_in : (held : List Event) (e : Event) → graph_verdict held e ≡ Good → IsLetIn held e
 unfolding id_rows parent_rows

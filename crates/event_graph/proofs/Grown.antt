@@ -20,7 +20,8 @@ use Rattle.critical.specs.KeptCuts.{KeptCuts, kept_for}
 use Rattle.event_runs.specs.BareEvents.{BareEvent, bare, ops_in, parents_in}
 use Rattle.event_graph.specs.Keeping.{IsAdmitted, history_of, bare_events, IsKeptOf}
 use Rattle.event_graph.proofs.Admitted.{laid, more}
-use Rattle.event_graph.proofs.Rebuilt.{mapped_twice, mapped_alike, rebuilt}
+use Rattle.event_graph.proofs.Rebuilt.{rebuilt}
+use Rattle.ew_model.proofs.RecordLaws.{map_map, map_same}
 
 -- one more event adds the positions of its parents, and changes no others
 positions_stay : (history : List Event) (e : Event) → LaidOut [] (history ++ e ∷ []) → (f : Event) → Among f (history ++ e ∷ []) → positions_in (history ++ e ∷ []) f.parents ≡ positions_in history f.parents
@@ -34,7 +35,7 @@ grown_by : {X : Type 0} (make : Event → List ℕ → X) (history : List Event)
     → map (λ f. make f (positions_in (history ++ e ∷ []) f.parents)) (history ++ e ∷ []) ≡ map (λ f. make f (positions_in history f.parents)) history ++ make e (positions_in history e.parents) ∷ []
 grown_by make history e there =
     map-append (λ f. make f (positions_in (history ++ e ∷ []) f.parents)) history (e ∷ [])
-    ∙ (λ i. mapped_alike (λ f. make f (positions_in (history ++ e ∷ []) f.parents)) (λ f. make f (positions_in history f.parents)) history (λ f m. ap (make f) (positions_stay history e there f (joined_left history (e ∷ []) f m))) i
+    ∙ (λ i. map_same (λ f. make f (positions_in (history ++ e ∷ []) f.parents)) (λ f. make f (positions_in history f.parents)) history (λ f m. ap (make f) (positions_stay history e there f (joined_left history (e ∷ []) f m))) i
     ++ make e (positions_stay history e there e (joined_right history (e ∷ []) e (inl refl)) i) ∷ [])
 
 pub bare_grown : (history : List Event) (e : Event) → LaidOut [] (history ++ e ∷ []) → bare_events (history ++ e ∷ []) ≡ bare_events history ++ bare e.op (positions_in history e.parents) ∷ []
@@ -45,10 +46,10 @@ parents_grown history e there = grown_by (λ f ps. ps) history e there
 
 -- the parts of what is kept
 pub parents_kept : (history : List Event) → parents_in (bare_events history) ≡ parent_positions history
-parents_kept history = mapped_twice (λ (e : Event). bare e.op (positions_in history e.parents)) (λ (b : BareEvent). b.parents) history
+parents_kept history = map_map (λ (e : Event). bare e.op (positions_in history e.parents)) (λ (b : BareEvent). b.parents) history
 
 pub ops_kept : (history : List Event) → ops_in (bare_events history) ≡ map (λ (e : Event). e.op) history
-ops_kept history = mapped_twice (λ (e : Event). bare e.op (positions_in history e.parents)) (λ (b : BareEvent). b.op) history
+ops_kept history = map_map (λ (e : Event). bare e.op (positions_in history e.parents)) (λ (b : BareEvent). b.op) history
 
 module _ (history : List Event) (e : Event) (ids : List Id) (events : List BareEvent) (heads : List ℕ) (cuts : KeptCuts) where
   -- what is kept of the history with an event that was judged good

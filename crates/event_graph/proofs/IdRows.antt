@@ -22,19 +22,10 @@ use Rattle.ew_model.proofs.EntryLaws.{LaidOut, ancestors_held}
 use Rattle.ew_model.proofs.CoverLaws.{held_of}
 use Rattle.ew_model.proofs.KeptLaws.{no_repeat}
 use Rattle.ew_model.proofs.VersionLaws.{any_from, found_by}
-use Rattle.agent_ids.proofs.OwnPositions.{is_some-position}
 use Rattle.event_graph.specs.Rows.{row_in}
 use Rattle.event_graph.proofs.Places.{event_among}
-
-same_ids : (xs ys : List Id) → pointwise id_eq xs ys ≡ true → xs ≡ ys
-same_ids [] [] e = refl
-same_ids [] (y ∷ ys) e = absurd (false≢true e)
-same_ids (x ∷ xs) [] e = absurd (false≢true e)
-same_ids (x ∷ xs) (y ∷ ys) e =
-    let parts = and_parts (id_eq x y) (pointwise id_eq xs ys) e in
-    let first : x ≡ y = (is_same_id x y).0 parts.0 in
-    let rest : xs ≡ ys = same_ids xs ys parts.1 in
-    λ i. first i ∷ rest i
+use Rattle.ew_model.proofs.ListParts.{is_some-position}
+use Rattle.ew_model.proofs.SameEvents.{same_ids}
 
 same_ops : (o p : Op) → op_eq o p ≡ true → o ≡ p
 same_ops (Ins i c) (Ins j d) e =

@@ -1,16 +1,12 @@
 -- One more element of a list.
-use Rattle.std.proofs.Common.{◌≡◌, ℕ, zero, suc, ◌+◌, List, [], ◌∷◌, ◌++◌, map, take, flat_map, Some, refl, ap, ◌∙◌, arith}
+use Rattle.std.proofs.Common.{◌≡◌, ℕ, suc, ◌+◌, List, [], ◌∷◌, ◌++◌, map, take, flat_map, Some, refl, ap, ◌∙◌, arith}
 use Rattle.std.specs.Prelude.{slice_get}
 use Rattle.std.proofs.lemmas.List.{map-append}
 use Rattle.std.proofs.lemmas.Grind.{flat_map-append}
-
-take_suc : {X : Type 0} (xs : List X) (n : ℕ) (x : X) → slice_get xs n ≡ Some x → take (suc n) xs ≡ take n xs ++ x ∷ []
-take_suc [] n x h = let no : ⊥ = cc in absurd no
-take_suc (y ∷ xs) zero x h = let one : y ≡ x = cc in ap (λ z. z ∷ []) one
-take_suc (y ∷ xs) (suc n) x h = ap (λ ys. y ∷ ys) (take_suc xs n x h)
+use Rattle.ew_model.proofs.ListParts.{take_next}
 
 pub take_get : {X : Type 0} (xs : List X) (n : ℕ) (x : X) → slice_get xs n ≡ Some x → take (n + 1) xs ≡ take n xs ++ x ∷ []
-take_get xs n x h = let next : n + 1 ≡ suc n = omega arith in ap (λ k. take k xs) next ∙ take_suc xs n x h
+take_get xs n x h = let next : n + 1 ≡ suc n = omega arith in ap (λ k. take k xs) next ∙ take_next xs n x h
 
 pub map_get : {X Y : Type 0} (f : X → Y) (xs : List X) (n : ℕ) (x : X) → slice_get xs n ≡ Some x → map f (take (n + 1) xs) ≡ map f (take n xs) ++ f x ∷ []
 map_get f xs n x h = ap (map f) (take_get xs n x h) ∙ map-append f (take n xs) (x ∷ [])

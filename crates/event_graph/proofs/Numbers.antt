@@ -12,9 +12,10 @@ use Rattle.agent_ids.specs.Agents.{count_of, AreNumbered}
 use Rattle.agent_ids.specs.Table.{positions_of}
 use Rattle.std.proofs.lemmas.List.{map-append}
 use Rattle.agent_ids.proofs.Numbers.{position_at, numbered_push}
-use Rattle.agent_ids.proofs.OwnPositions.{positions-length, is_some-position}
+use Rattle.agent_ids.proofs.OwnPositions.{positions-length}
 use Rattle.event_graph.specs.Keeping.{AreAdmittedAfter, IsAdmitted}
 use Rattle.event_graph.proofs.Admitted.{IsLetIn, let_in}
+use Rattle.ew_model.proofs.ListParts.{is_some-position}
 
 get_some : (xs : List ℕ) (k : ℕ) → is_some (slice_get xs k) ≡ true → k < length xs
 get_some [] k h = absurd (false≢true h)

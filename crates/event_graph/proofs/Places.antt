@@ -20,7 +20,7 @@ use Rattle.ew_model.proofs.CoverLaws.{ids_alike, held_of}
 use Rattle.ew_model.proofs.GraphAlike.{laid_distinct}
 use Rattle.ew_model.proofs.RisingLists.{increasing_of}
 use Rattle.ew_model.proofs.PositionNumbers.{numbered, numbered_get, positions_filtered, positions_rising, positions_alike}
-use Rattle.agent_ids.proofs.OwnPositions.{is_some-position}
+use Rattle.ew_model.proofs.ListParts.{is_some-position}
 
 -- what is found at a place has the id
 found_at : (b : Bool) (x y : Id) (o : Option ℕ) (q : ℕ) → id_eq x y ≡ b → cond b (Some 0) (option_map (λ i. 1 + i) o) ≡ Some q

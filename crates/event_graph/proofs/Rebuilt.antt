@@ -1,5 +1,5 @@
 -- A history is told by its ids, its operations and its parents' positions.
-use Rattle.std.proofs.Common.{◌≡◌, ℕ, zero, suc, true, inl, inr, List, [], ◌∷◌, ◌++◌, map, filter, Some, refl, sym, ap, ◌∙◌, subst, append_assoc}
+use Rattle.std.proofs.Common.{◌≡◌, ℕ, zero, suc, true, List, [], ◌∷◌, ◌++◌, map, filter, Some, refl, sym, ap, ◌∙◌, subst, append_assoc}
 use Rattle.std.specs.Prelude.{slice_get}
 use Rattle.std.specs.List.{AllByRecursion}
 use Rattle.std.proofs.lemmas.Bool.{or_left}
@@ -27,16 +27,9 @@ use Rattle.event_graph.specs.Keeping.{AreAdmittedAfter, IsAdmitted, id_of, ascen
 use Rattle.event_graph.proofs.Admitted.{let_in, laid, ascend_after}
 use Rattle.event_graph.proofs.Ascending.{strictly}
 use Rattle.event_graph.proofs.Places.{numbered_event}
+use Rattle.ew_model.proofs.RecordLaws.{map_map, map_same}
 
-pub mapped_twice : {X Y Z : Type 0} (f : X → Y) (g : Y → Z) (xs : List X) → map g (map f xs) ≡ map (λ x. g (f x)) xs
-mapped_twice f g [] = refl
-mapped_twice f g (x ∷ xs) = ap (λ ys. g (f x) ∷ ys) (mapped_twice f g xs)
-
-pub mapped_alike : {X Y : Type 0} (f g : X → Y) (xs : List X) → ((x : X) → Among x xs → f x ≡ g x) → map f xs ≡ map g xs
-mapped_alike f g [] h = refl
-mapped_alike f g (x ∷ xs) h = λ i. h x (inl refl) i ∷ mapped_alike f g xs (λ y m. h y (inr m)) i
-
-id_there : (history : List Event) (q : ℕ) (f : Event) → slice_get history q ≡ Some f → id_of (ids_of history) q ≡ f.id
+pub id_there : (history : List Event) (q : ℕ) (f : Event) → slice_get history q ≡ Some f → id_of (ids_of history) q ≡ f.id
 id_there [] q f h = let no : ⊥ = cc in absurd no
 id_there (e ∷ history) zero f h = let one : e ≡ f = cc in ap (λ (g : Event). g.id) one
 id_there (e ∷ history) (suc q) f h = id_there history q f h
@@ -51,8 +44,8 @@ ids_at_positions history ids =
     let passes = λ (z : ℕ × Event). is_among ids z.1.id in
     let zs = filter passes (numbered 0 history) in
     ap (map (id_of (ids_of history))) (positions_filtered ids 0 history)
-    ∙ mapped_twice (λ (z : ℕ × Event). z.0) (id_of (ids_of history)) zs
-    ∙ mapped_alike (λ (z : ℕ × Event). id_of (ids_of history) z.0) (λ (z : ℕ × Event). z.1.id) zs
+    ∙ map_map (λ (z : ℕ × Event). z.0) (id_of (ids_of history)) zs
+    ∙ map_same (λ (z : ℕ × Event). id_of (ids_of history) z.0) (λ (z : ℕ × Event). z.1.id) zs
     (λ z m. id_there history z.0 z.1 (numbered_event history z (among_filter passes (numbered 0 history) z m).0))
     ∙ sym (filter_mapped (λ (z : ℕ × Event). z.1.id) (is_among ids) (numbered 0 history))
     ∙ ap (filter (is_among ids)) (ids_numbered 0 history)

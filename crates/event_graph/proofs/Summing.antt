@@ -23,7 +23,7 @@ use Rattle.ew_model.proofs.SetLaws.{among_map}
 use Rattle.agent_ids.specs.Agents.{agents_of, count_of}
 use Rattle.agent_ids.proofs.Agents.{count_cons, is_agent, AreDistinct, agents_distinct}
 use Rattle.event_graph.specs.Summary.{summary_of}
-use Rattle.event_graph.proofs.Rebuilt.{mapped_alike}
+use Rattle.ew_model.proofs.RecordLaws.{map_same}
 
 -- an agent has as many events as ids
 pub same_count : (history : List Event) (agent : List ℕ) → count_of (ids_of history) agent ≡ edits.count_of history agent
@@ -52,7 +52,7 @@ pub summed : (history : List Event) (names : List (List ℕ)) → IsPermutation 
     → map (λ name. (name, count_of (ids_of history) name)) names ≡ summary_of history
 summed history names p s =
     ap (map (λ name. (name, count_of (ids_of history) name))) (sorted_is_sort_by nat_list_cmp_total (agents_of (ids_of history)) names (ties (agents_of (ids_of history)) (agents_distinct (ids_of history))) p s)
-    ∙ mapped_alike (λ name. (name, count_of (ids_of history) name)) (λ name. (name, edits.count_of history name)) (sort_by (slice_cmp nat_cmp) (agents_of (ids_of history))) (λ name m i. (name, same_count history name i))
+    ∙ map_same (λ name. (name, count_of (ids_of history) name)) (λ name. (name, edits.count_of history name)) (sort_by (slice_cmp nat_cmp) (agents_of (ids_of history))) (λ name m i. (name, same_count history name i))
 
 some_count : (ids : List Id) (agent : List ℕ) → list_any (λ (x : Id). name_eq x.agent agent) ids ≡ true → 1 ≤ count_of ids agent
 some_count [] agent h = absurd (false≢true h)

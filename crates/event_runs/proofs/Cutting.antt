@@ -2,6 +2,7 @@
 use Rattle.std.proofs.Common.{◌≡◌, ℕ, zero, suc, ◌+◌, ◌-◌, ◌<◌, ◌≤◌, List, [], ◌∷◌, ◌++◌, length, get_or, slice_range, slice_index_or, take, drop, refl, sym, ap, ◌∙◌, arith, length-append}
 use Rattle.std.proofs.Math.Seq.{take-append_seam, drop-append_seam, take-length}
 use Rattle.event_runs.specs.Pieces.{pieces, start_of, AreEnds}
+use Rattle.ew_model.proofs.FileReading.{take_first}
 
 pub length-pieces : (start : ℕ) (ends numbers : List ℕ) → length (pieces start ends numbers) ≡ length ends
 length-pieces start [] numbers = refl
@@ -40,14 +41,8 @@ piece_at start (end ∷ ends) numbers zero h = refl
 piece_at start (end ∷ ends) numbers (suc place) h = piece_at end ends numbers place (omega (arith, h))
 
 -- a range of the front of a list
-front_take : (k m : ℕ) (xs : List ℕ) → k ≤ m → take k (take m xs) ≡ take k xs
-front_take zero m xs h = refl
-front_take (suc k) zero xs h = absurd (omega (arith, h))
-front_take (suc k) (suc m) [] h = refl
-front_take (suc k) (suc m) (x ∷ xs) h = ap (λ ys. x ∷ ys) (front_take k m xs (omega (arith, h)))
-
 front_range : (k s m : ℕ) (xs : List ℕ) → k + s ≤ m → take k (drop s (take m xs)) ≡ take k (drop s xs)
-front_range k zero m xs h = front_take k m xs (omega (arith, h))
+front_range k zero m xs h = take_first k m xs (omega (arith, h))
 front_range k (suc s) zero xs h = absurd (omega (arith, h))
 front_range k (suc s) (suc m) [] h = refl
 front_range k (suc s) (suc m) (x ∷ xs) h = front_range k s m xs (omega (arith, h))

@@ -12,9 +12,7 @@ use Rattle.ew_model.proofs.ScriptReading.{decimal_lacks_space, insert_line, dele
 use Rattle.event_words.specs.declared.edit as declared
 use Rattle.event_words.specs.Meaning.{IsReading}
 use Rattle.event_words.proofs.Numbers.{SpellsNone}
-
-heads_differ : (a b : ℕ) (xs ys : List ℕ) → (a ≡ b → ⊥) → a ∷ xs ≡ b ∷ ys → ⊥
-heads_differ a b xs ys differ e = differ cc
+use Rattle.ew_model.proofs.EscapedText.{heads_differ}
 
 behind_four : (a b c d : ℕ) (xs ys : List ℕ) → a ∷ b ∷ c ∷ d ∷ xs ≡ a ∷ b ∷ c ∷ d ∷ ys → xs ≡ ys
 behind_four a b c d xs ys e = cc

@@ -10,7 +10,7 @@ use Rattle.ew_model.proofs.RisingLists.{Rise, rise_of, increasing_of}
 use Rattle.frontier.specs.Heads.{without}
 
 -- The numbers of a rising list don't fall.
-at_least : (xs : List ℕ) (x : ℕ) → AllByRecursion (λ y. x < y) xs → (j : ℕ) → j < length xs → x < get_or xs j 0
+pub at_least : (xs : List ℕ) (x : ℕ) → AllByRecursion (λ y. x < y) xs → (j : ℕ) → j < length xs → x < get_or xs j 0
 at_least [] x h j l = absurd (omega (arith, l))
 at_least (y ∷ xs) x h zero l = h.0
 at_least (y ∷ xs) x h (suc j) l = at_least xs x h.1 j (omega (arith, l))

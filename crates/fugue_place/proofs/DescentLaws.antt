@@ -8,9 +8,9 @@ use Rattle.fugue_place.specs.declared.child.Attached.{Attached}
 use Rattle.fugue_place.specs.Attachments.{side_of, path_of, AreAttached}
 use Rattle.fugue_place.specs.Lines.{is_in_line, IsOutermost}
 use Rattle.fugue_place.specs.Subtrees.{node_at, HasBase, node_in, tree_nodes, IsEnd, EndsBelow, Reaches}
-use Rattle.fugue_place.proofs.ListLaws.{among_at}
 use Rattle.fugue_place.proofs.PlaceLaws.{node_at_is, parent_early}
 use Rattle.fugue_place.proofs.EndLaws.{line_of, from_line, end_through, end_here}
+use Rattle.ew_model.proofs.OperationLaws.{got}
 
 module _ (attached : List Attached) (all : AreAttached [] attached) (end : Side) (at : ℕ) (d : Attached) (within : at < length attached) where
   -- the child read at the place
@@ -28,7 +28,7 @@ module _ (attached : List Attached) (all : AreAttached [] attached) (end : Side)
   reaches_on from k best reached b base y h =
       reached b base y
       (subst (λ (v : Node). IsEnd (side_of end) (tree_nodes b attached) (path_of attached v) y) (sym (node_at_is attached at child here))
-      (end_through attached all b base child (among_at attached at child here) end k best y
+      (end_through attached all b base child (got attached at child here) end k best y
       (subst (λ (v : Node). IsEnd (side_of end) (tree_nodes b attached) (path_of attached v) y) (node_at_is attached k best.child best.here) h)))
 
   -- where no child is left, the node itself is the end
@@ -39,5 +39,5 @@ module _ (attached : List Attached) (all : AreAttached [] attached) (end : Side)
     ap (λ (a : Attached). path_of attached a.node) (sym (get_or_from_slice_get attached at child e here)),
     reached b base (node_in attached child)
         (subst (λ (v : Node). IsEnd (side_of end) (tree_nodes b attached) (path_of attached v) (node_in attached child)) (sym (node_at_is attached at child here))
-        (end_here attached all b base child (among_at attached at child here) end none)),
+        (end_here attached all b base child (got attached at child here) end none)),
   )

@@ -20,9 +20,10 @@ use Rattle.fugue_place.specs.Lines.{is_below, is_in_line, is_further, IsOutermos
 use Rattle.fugue_place.specs.Neighbours.{side_eq, is_child, BaseEndsAt}
 use Rattle.fugue_place.specs.Subtrees.{HasBase, node_in, tree_nodes, IsEnd}
 use Rattle.fugue_place.proofs.NodeLaws.{node_same, node_itself, side_same, side_itself}
-use Rattle.fugue_place.proofs.ListLaws.{none_passes, among_at, among_all}
+use Rattle.fugue_place.proofs.ListLaws.{none_passes, among_all}
 use Rattle.fugue_place.proofs.PathLaws.{child_in, event_there, attached_there}
 use Rattle.fugue_place.proofs.TreeLaws.{tree_rooted, child_node, child_from}
+use Rattle.ew_model.proofs.OperationLaws.{got}
 
 -- all children of a node on one side
 abbrev pub line_of : Node → Side → Line
@@ -87,7 +88,7 @@ module _ (attached : List Attached) (all : AreAttached [] attached) (b : ℕ) (b
         → IsEnd (side_of end) (tree_nodes b attached) (path_of attached best.child.node) y → IsEnd (side_of end) (tree_nodes b attached) (path_of attached a.node) y
     end_through end k best y h =
         end_through_at end k best y
-        (subst (λ (p : List Step). IsEnd (side_of end) (tree_nodes b attached) p y) (path_on (line_of a.node end) best.child (among_at attached k best.child best.here) best.fits) h)
+        (subst (λ (p : List Step). IsEnd (side_of end) (tree_nodes b attached) p y) (path_on (line_of a.node end) best.child (got attached k best.child best.here) best.fits) h)
 
     no_child : (end : Side) → list_any (is_in_line (line_of a.node end)) (take (length attached) attached) ≡ false → (m : Id) → HasChild (tree_nodes b attached) (path_of attached a.node) (side_of end) m → ⊥
     no_child end none m h =

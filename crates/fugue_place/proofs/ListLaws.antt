@@ -8,19 +8,15 @@ use Rattle.std.proofs.lemmas.Option.{slice_get-get_or}
 use Rattle.ew_model.specs.Sets.{Among}
 use Rattle.ew_model.proofs.SetLaws.{among_joined}
 use Rattle.ew_model.proofs.VersionLaws.{any_from}
+use Rattle.ew_model.proofs.OperationLaws.{got}
 
 -- a test that no element passes is passed by none
 pub none_passes : {X : Type 0} (p : X → Bool) (xs : List X) (x : X) → list_any p xs ≡ false → Among x xs → p x ≡ false
 none_passes p xs x none m = false_from_ne_true (p x) (λ e. false≢true (sym none ∙ any_from p xs x m e))
 
-pub among_at : {X : Type 0} (xs : List X) (k : ℕ) (x : X) → slice_get xs k ≡ Some x → Among x xs
-among_at [] k x e = let no : ⊥ = cc in absurd no
-among_at (y ∷ xs) zero x e = let same : x ≡ y = cc in inl same
-among_at (y ∷ xs) (suc k) x e = inr (among_at xs k x e)
-
 -- what is read at a place is an element
 pub read_among : {X : Type 0} (xs : List X) (k : ℕ) (d : X) → k < length xs → Among (get_or xs k d) xs
-read_among xs k d within = among_at xs k (get_or xs k d) (slice_get-get_or xs k d within)
+read_among xs k d within = got xs k (get_or xs k d) (slice_get-get_or xs k d within)
 
 -- what is among the first of a list is among more of them
 pub among_more : {X : Type 0} (xs : List X) (k n : ℕ) (x : X) → k ≤ n → Among x (take k xs) → Among x (take n xs)
@@ -42,7 +38,7 @@ module _ {X : Type 0} (xs : List X) (n : ℕ) (x : X) (within : n < length xs) (
   next_at = slice_get-get_or xs n x within ∙ ap Some (sym is)
 
   pub next_among : Among x xs
-  next_among = among_at xs n x next_at
+  next_among = got xs n x next_at
 
   -- what holds of each of the first n elements, and of the next, holds of each of the first n + 1
   pub early_or_next : (P : X → Type 0) → ((y : X) → Among y (take n xs) → P y) → P x → (y : X) → Among y (take (n + 1) xs) → P y

@@ -27,11 +27,12 @@ use Rattle.fugue_place.specs.Attachments.{side_of, is_attached, is_there, has_id
 use Rattle.fugue_place.specs.Lines.{is_below, is_in_line, IsOutermost}
 use Rattle.fugue_place.specs.Neighbours.{is_child, has_child, has_lower, IsNodePath, AreNodesOf, BaseEndsAt, StandsAt, neighbour_of, beside, IsPlaceOfNew}
 use Rattle.fugue_place.specs.Subtrees.{node_at, HasBase, node_in, tree_nodes, EndsBelow}
-use Rattle.fugue_place.proofs.ListLaws.{none_passes, among_at, among_all}
+use Rattle.fugue_place.proofs.ListLaws.{none_passes, among_all}
 use Rattle.fugue_place.proofs.LineLaws.{is_less}
 use Rattle.fugue_place.proofs.PlaceLaws.{node_at_is}
 use Rattle.fugue_place.proofs.TreeLaws.{tree_rooted, child_node, path_there, child_from, IsChildOf}
 use Rattle.fugue_place.proofs.EndLaws.{line_of, from_line, child_fits, in_line, path_on}
+use Rattle.ew_model.proofs.OperationLaws.{got}
 
 -- the children with lower ids
 abbrev pub lower_line : Node → Side → Id → Line
@@ -42,10 +43,10 @@ module _ (attached : List Attached) (v : Node) (s : Side) where
   -- the outermost child in a line is a child there
   pub child_found : (below : Option Id) (end : Side) (k : ℕ) → IsOutermost (record { parent = v; side = s; below = below }) end attached (length attached) k → has_child attached v s ≡ true
   child_found below end k best =
-      any_from (is_child v s) attached best.child (among_at attached k best.child best.here) (and_parts (is_child v s best.child) (is_below below best.child.id) best.fits).0
+      any_from (is_child v s) attached best.child (got attached k best.child best.here) (and_parts (is_child v s best.child) (is_below below best.child.id) best.fits).0
 
   pub lower_found : (x : Id) (end : Side) (k : ℕ) → IsOutermost (lower_line v s x) end attached (length attached) k → has_lower attached v s x ≡ true
-  lower_found x end k best = any_from (is_in_line (lower_line v s x)) attached best.child (among_at attached k best.child best.here) best.fits
+  lower_found x end k best = any_from (is_in_line (lower_line v s x)) attached best.child (got attached k best.child best.here) best.fits
 
   pub no_lower : (x : Id) → list_any (is_in_line (lower_line v s x)) (take (length attached) attached) ≡ false → has_lower attached v s x ≡ false
   no_lower x none = ap (list_any (is_in_line (lower_line v s x))) (sym (take-length attached)) ∙ none
@@ -74,7 +75,7 @@ module _ (attached : List Attached) (all : AreAttached [] attached) (v : Node) (
 
     outermost_there : (line : Line) (end : Side) (k : ℕ) (best : IsOutermost line end attached (length attached) k) → HasChild nodes (path_of attached line.parent) (side_of line.side) best.child.id
     outermost_there line end k best =
-        let m = among_at attached k best.child best.here in
+        let m = got attached k best.child best.here in
         (node_in attached best.child, child_node attached all b base best.child m, path_on attached all b base line best.child m best.fits)
 
     next_lower : (k : ℕ) (best : IsOutermost (lower_line v s x) Right attached (length attached) k) → IsNextLower nodes (path_of attached v) (side_of s) x best.child.id
@@ -112,7 +113,7 @@ module _ (attached : List Attached) (all : AreAttached [] attached) (v : Node) (
     -- the subtree of a child in a line, by the child's place
     child_path : (line : Line) (end : Side) (k : ℕ) (best : IsOutermost line end attached (length attached) k) → path_of attached (node_at attached k) ≡ step_down (path_of attached line.parent) (side_of line.side) best.child.id
     child_path line end k best =
-        ap (path_of attached) (node_at_is attached k best.child best.here) ∙ path_on attached all b base line best.child (among_at attached k best.child best.here) best.fits
+        ap (path_of attached) (node_at_is attached k best.child best.here) ∙ path_on attached all b base line best.child (got attached k best.child best.here) best.fits
 
     behind_lower : (k : ℕ) (best : IsOutermost (lower_line v s x) Right attached (length attached) k) (w : Node) → EndsBelow right nodes (path_of attached (node_at attached k)) (path_of attached w) → StandsBehind nodes new (path_of attached w)
     behind_lower k best w end =

@@ -9,11 +9,10 @@ use Rattle.ew_model.specs.Sets.{Among}
 use Rattle.ew_model.specs.Paths.{Side, Step, step_down}
 use Rattle.ew_model.specs.Paths.Side.{Left, Right}
 use Rattle.ew_model.specs.Entries.{Inserted, insertions}
-use Rattle.ew_model.specs.Entries.Entry.{Insertion}
 use Rattle.ew_model.specs.Tree.{base_id, base_path, based}
 use Rattle.ew_model.specs.Siblings.{IsRooted, HasChild}
 use Rattle.ew_model.proofs.SetLaws.{among_joined, joined_left, joined_right, among_map, map_among}
-use Rattle.ew_model.proofs.PrefixLaws.{insertions-append, base_prefixes}
+use Rattle.ew_model.proofs.PrefixLaws.{base_prefixes}
 use Rattle.ew_model.proofs.TableLaws.{children_root}
 use Rattle.fugue_place.specs.declared.child.Side as child
 use Rattle.fugue_place.specs.declared.child.Side.TheVariants.{Left as left, Right as right}
@@ -22,12 +21,10 @@ use Rattle.fugue_place.specs.Attachments.{side_of, is_there, path_of, AreAttache
 use Rattle.fugue_place.specs.Neighbours.{IsNodePath, AreNodesOf, BaseEndsAt}
 use Rattle.fugue_place.specs.Subtrees.{HasBase, node_in, tree_nodes}
 use Rattle.fugue_place.proofs.PathLaws.{child_in, root_path, base_path_of, child_found, same_node}
+use Rattle.ew_model.proofs.BaseLaws.{base_next}
 
 abbrev base_char : ℕ → Inserted
 base_char i = record { id = base_id i; path = base_path i; ch = 0 }
-
-base_next : (b : ℕ) → insertions (based (suc b)) ≡ insertions (based b) ++ base_char b ∷ []
-base_next b = insertions-append (based b) (Insertion (base_char b) ∷ [])
 
 -- a base character below the number is there, and no others
 base_there : (b i : ℕ) → i < b → (z : Inserted) × Among z (insertions (based b)) × (z.path ≡ base_path i)

@@ -1,49 +1,30 @@
 -- A text has at most one character for each event.
-use Rattle.std.proofs.Common.{◌≡◌, ℕ, zero, suc, nat_eq, ◌+◌, ◌*◌, ◌^◌, ◌<◌, ◌≤◌, Bool, true, false, not, cond, ◌||◌, List, [], ◌∷◌, ◌++◌, map, filter, fold, length, Option, Some, None, refl, ap, ◌∙◌, arith, length-append}
+use Rattle.std.proofs.Common.{◌≡◌, ℕ, zero, suc, nat_eq, ◌+◌, ◌*◌, ◌^◌, ◌<◌, ◌≤◌, Bool, true, false, not, cond, ◌||◌, List, [], ◌∷◌, map, filter, fold, length, Option, Some, None, refl, ◌∙◌, arith, length-append}
 use Rattle.std.proofs.Math.Nat.{mul-le-mul_left}
 use Rattle.std.specs.List.{list_any}
-use Rattle.std.specs.Ordering.{is_lt}
-use Rattle.std.specs.declared.cmp.Ordering.{Ordering}
 use Rattle.std.proofs.lemmas.List.{length-map}
 use Rattle.ew_model.specs.declared.id.Id.{Id}
 use Rattle.ew_model.specs.declared.event.Event.{Event}
 use Rattle.ew_model.specs.Ids.{id_eq, is_among}
 use Rattle.ew_model.specs.Ancestors.{is_parent, version_events, ancestors}
-use Rattle.ew_model.specs.Sorting.{put_in_order, sort_by}
+use Rattle.ew_model.specs.Sorting.{sort_by}
 use Rattle.ew_model.specs.Entries.{Inserted, Entry, inserted_cmp, insertions, is_deleted, order, visible}
-use Rattle.ew_model.specs.Entries.Entry.{Insertion, Deletion}
+use Rattle.ew_model.specs.Entries.Entry.{Insertion}
 use Rattle.ew_model.specs.Tree.{Applied, Noted, base_id, base_path, based, all_entries, entries_over, next_entry, noted_as, grow, tree_of, applied_after, tree_on, tree}
 use Rattle.ew_model.specs.Texts.{visible_at, text_at}
+use Rattle.ew_model.proofs.ListParts.{length-filter-le}
+use Rattle.ew_model.proofs.TextLengths.{length-insertions-le}
+use Rattle.ew_model.proofs.SortingLaws.{length-sort}
+use Rattle.ew_model.proofs.ClearingLaw.{length-applied}
 
 kept_le : {X : Type 0} (b : Bool) (x : X) (xs : List X) (n : ℕ) → length xs ≤ n → length (cond b (x ∷ xs) xs) ≤ suc n
 kept_le true x xs n h = omega (arith, h)
 kept_le false x xs n h = omega (arith, h)
 
-pub length-filter-le : {X : Type 0} (p : X → Bool) (xs : List X) → length (filter p xs) ≤ length xs
-length-filter-le p [] = omega arith
-length-filter-le p (x ∷ xs) = kept_le (p x) x (filter p xs) (length xs) (length-filter-le p xs)
-
-length-insertions-le : (entries : List Entry) → length (insertions entries) ≤ length entries
-length-insertions-le [] = omega arith
-length-insertions-le (Insertion x ∷ entries) = omega (arith, length-insertions-le entries)
-length-insertions-le (Deletion t ∷ entries) = omega (arith, length-insertions-le entries)
-
-put_length : {X : Type 0} (R : X → X → Ordering) (b : Bool) (x y : X) (ys zs : List X) → length zs ≡ suc (length ys) → length (cond b (x ∷ y ∷ ys) (y ∷ zs)) ≡ suc (suc (length ys))
-put_length R true x y ys zs e = refl
-put_length R false x y ys zs e = ap suc e
-
-length-put_in_order : {X : Type 0} (R : X → X → Ordering) (x : X) (ys : List X) → length (put_in_order R x ys) ≡ suc (length ys)
-length-put_in_order R x [] = refl
-length-put_in_order R x (y ∷ ys) = put_length R (is_lt (R x y)) x y ys (put_in_order R x ys) (length-put_in_order R x ys)
-
-length-sort_by : {X : Type 0} (R : X → X → Ordering) (xs : List X) → length (sort_by R xs) ≡ length xs
-length-sort_by R [] = refl
-length-sort_by R (x ∷ xs) = length-put_in_order R x (sort_by R xs) ∙ ap suc (length-sort_by R xs)
-
 pub length-visible-le : (entries : List Entry) → length (visible entries) ≤ length entries
 unfolding visible order
 length-visible-le entries =
-    omega (arith, length-filter-le (λ (x : Inserted). not (is_deleted entries x.id)) (sort_by inserted_cmp (insertions entries)), length-sort_by inserted_cmp (insertions entries), length-insertions-le entries)
+    omega (arith, length-filter-le (λ (x : Inserted). not (is_deleted entries x.id)) (sort_by inserted_cmp (insertions entries)), length-sort inserted_cmp (insertions entries), length-insertions-le entries)
 
 noted_le : {N : Type 0} (name : N) (o : Option Entry) → length (noted_as name o) ≤ 1
 noted_le name None = omega arith
@@ -58,13 +39,9 @@ pub length-tree_of-le : {N : Type 0} (same : N → N → Bool) (b : ℕ) (events
 unfolding tree_of
 length-tree_of-le same b events = omega (arith, grown_le same b [] events)
 
-length-applied_after : (before history : List Event) → length (applied_after before history) ≡ length history
-length-applied_after before [] = refl
-length-applied_after before (e ∷ history) = ap suc (length-applied_after (before ++ e ∷ []) history)
-
 pub length-tree-le : (history : List Event) → length (tree history) ≤ length history
 unfolding tree tree_on
-length-tree-le history = omega (arith, length-tree_of-le id_eq 0 (applied_after [] history), length-applied_after [] history)
+length-tree-le history = omega (arith, length-tree_of-le id_eq 0 (applied_after [] history), length-applied [] history)
 
 pub length-text_at-le : (history : List Event) (version : List Id) → length (text_at history version) ≤ length history
 unfolding text_at visible_at

@@ -1,8 +1,7 @@
 -- The test of events tells whether they are one.
-use Rattle.std.proofs.Common.{◌≡◌, Bool, true, IsTrue, ◌↔◌, ◌&&◌, ◌==◌, List, [], ◌∷◌, refl, subst}
+use Rattle.std.proofs.Common.{◌≡◌, Bool, true, IsTrue, ◌↔◌, ◌&&◌, ◌==◌, subst}
 use Rattle.std.specs.Cmp.Lexicographic.{pointwise}
 use Rattle.std.proofs.lemmas.Bool.{false≢true, and_parts, eqb-true}
-use Rattle.ew_model.specs.declared.id.Id.{Id}
 use Rattle.ew_model.specs.declared.event.Op.{Op}
 use Rattle.ew_model.specs.declared.event.Op.TheVariants.{Ins, Del}
 use Rattle.ew_model.specs.declared.event.Event.{Event}
@@ -11,16 +10,7 @@ use Rattle.ew_model.specs.Events.{op_eq, event_eq}
 use Rattle.ew_model.proofs.IdLaws.{is_same_id}
 use Rattle.ew_model.proofs.MergeSteps.{same_event}
 use Rattle.ew_model.proofs.ListTests.{same_truth}
-
-same_ids : (xs ys : List Id) → pointwise id_eq xs ys ≡ true → xs ≡ ys
-same_ids [] [] e = refl
-same_ids [] (y ∷ ys) e = absurd (false≢true e)
-same_ids (x ∷ xs) [] e = absurd (false≢true e)
-same_ids (x ∷ xs) (y ∷ ys) e =
-    let parts = and_parts (id_eq x y) (pointwise id_eq xs ys) e in
-    let first : x ≡ y = (is_same_id x y).0 parts.0 in
-    let rest : xs ≡ ys = same_ids xs ys parts.1 in
-    λ i. first i ∷ rest i
+use Rattle.ew_model.proofs.SameEvents.{same_ids}
 
 same_ops : (o p : Op) → op_eq o p ≡ true → o ≡ p
 same_ops (Ins i c) (Ins j d) e =

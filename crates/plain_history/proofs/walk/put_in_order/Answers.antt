@@ -3,9 +3,9 @@ use Rattle.std.specs.List.{position_or_len}
 use Rattle.std.specs.Ordering.{is_lt}
 use Rattle.ew_model.specs.Entries.{Inserted, inserted_cmp}
 use Rattle.plain_history.specs.Entries.{nodes_behind}
-use Rattle.plain_history.proofs.Mapped.{map-insert}
 use Rattle.plain_history.proofs.Placing.{put_in_order-insert}
 use Rattle.plain_history.proofs.walk.put_in_order.Goals as goal
+use Rattle.ew_model.proofs.TextLaws.{map-insert}
 
 pub returns : goal.returns
 returns c =

@@ -4,8 +4,9 @@ use Rattle.std.specs.Cmp.Lexicographic.{slice_cmp}
 use Rattle.std.specs.Ordering.{nat_cmp}
 use Rattle.ew_model.specs.Ids.{name_eq}
 use Rattle.ew_model.proofs.FileRecords.{names_equal, name_exact}
-use Rattle.event_file.proofs.Tables.{one_more_place, no_place, none_from_is_some}
+use Rattle.event_file.proofs.Tables.{one_more_place, no_place}
 use Rattle.event_file.proofs.agents.Agents.add.Goals as goal
+use Rattle.ew_model.proofs.ListParts.{none_from_is_some}
 
 pub invariant_of-self-2 : goal.invariant_of-self-2
 invariant_of-self-2 c =
