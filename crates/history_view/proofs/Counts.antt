@@ -1,9 +1,7 @@
 -- How many agents and critical cuts there are.
-use Rattle.std.proofs.Common.{◌≡◌, ℕ, suc, ◌+◌, ◌≤◌, Bool, true, false, not, cond, List, [], ◌∷◌, ◌++◌, length, map, filter, fold, refl, ap, ◌∙◌, length-append, add-one, sym, arith}
-use Rattle.std.specs.List.{list_any}
+use Rattle.std.proofs.Common.{◌≡◌, ℕ, suc, ◌+◌, Bool, true, false, cond, List, [], ◌∷◌, ◌++◌, length, fold, refl, ap, ◌∙◌, length-append, add-one, sym}
 use Rattle.std.proofs.lemmas.Bool.{cond-true, cond-false}
 use Rattle.std.proofs.lemmas.List.{length-map}
-use Rattle.std.proofs.lemmas.List.Filters.{length-filter_both}
 use Rattle.std.specs.Ordering.{nat_cmp}
 use Rattle.std.specs.Cmp.Lexicographic.{slice_cmp}
 use Rattle.ew_model.specs.declared.event.Event.{Event}
@@ -12,11 +10,13 @@ use Rattle.ew_model.specs.Cuts.{cuts_to, is_critical}
 use Rattle.ew_model.specs.Edits.{count_of}
 use Rattle.ew_model.specs.File.{agents_of, with_agent}
 use Rattle.ew_model.specs.Graph.{passing_to}
-use Rattle.ew_model.specs.Ids.{id_cmp, name_eq}
+use Rattle.ew_model.specs.Ids.{id_cmp}
 use Rattle.ew_model.specs.Sorting.{sort_by}
 use Rattle.ew_model.proofs.SortingLaws.{length-sort}
 use Rattle.agent_ids.specs.Agents as table
 use Rattle.event_graph.specs.Summary.{summary_of}
+use Rattle.ew_model.proofs.FileEvents.{few_agents}
+use Rattle.replica.proofs.HeadLaws.{few_heads}
 
 -- the agents of events are those of their ids
 agents_alike : (names : List (List ℕ)) (history : List Event) → fold (λ ns x. table.with_name ns x.agent) names (ids_of history) ≡ fold with_agent names history
@@ -47,29 +47,10 @@ pub no_cut_more : (history : List Event) (m : ℕ) → is_critical history (m + 
 no_cut_more history m isnt =
     ap (λ k. length (cuts_to history k)) (add-one m) ∙ next_cut (is_critical history) m ∙ cond-false _ _ _ (sym (ap (is_critical history) (add-one m)) ∙ isnt)
 
-grown : (names : List (List ℕ)) (e : Event) → length (with_agent names e) ≤ length names + 1
-grown names e = at (list_any (name_eq e.id.agent) names)
-  where
-    at : (b : Bool) → length (cond b names (names ++ e.id.agent ∷ [])) ≤ length names + 1
-    at true = omega arith
-    at false = omega (arith, length-append names (e.id.agent ∷ []))
+-- no more agents than events, and no more heads
+pub ruleset agents_few = (few_agents)
 
-few_after : (names : List (List ℕ)) (history : List Event) → length (fold with_agent names history) ≤ length names + length history
-few_after names [] = omega arith
-few_after names (e ∷ history) = omega (arith, few_after (with_agent names e) history, grown names e)
-
--- no more agents than events
-pub agents_few : (history : List Event) → length (agents_of history) ≤ length history
-agents_few history = omega (arith, few_after [] history)
-
-filtered_few : {X : Type 0} (p : X → Bool) (xs : List X) → length (filter p xs) ≤ length xs
-filtered_few p xs = omega (arith, length-filter_both p (λ x. not (p x)) (λ x. refl) xs)
-
--- no more heads than events
-pub heads_few : (history : List Event) → length (heads history) ≤ length history
-heads_few history =
-    let few : length (heads history) ≤ length (map (λ (e : Event). e.id) history) = filtered_few _ _ in
-    omega (arith, few, length-map history (λ (e : Event). e.id))
+pub ruleset heads_few = (few_heads)
 
 pub heads_sorted : (history : List Event) → length (sort_by id_cmp (heads history)) ≡ length (heads history)
 heads_sorted history = length-sort id_cmp (heads history)

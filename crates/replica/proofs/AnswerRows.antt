@@ -23,16 +23,7 @@ use Rattle.replica.specs.declared.answer.Answer.TheVariants as answer
 use Rattle.ew_model.specs.declared.verdict.Refusal.TheVariants as why
 use Rattle.replica.specs.Desks.{answer_by, sized}
 use Rattle.replica.proofs.RulingRows.{or_else, or_else-assoc, by_id, by_parents, by_size, size_is, later_blind, verdict_is, graph_verdict_is}
-
-same_ids : (xs ys : List Id) → pointwise id_eq xs ys ≡ true → xs ≡ ys
-same_ids [] [] e = refl
-same_ids [] (y ∷ ys) e = absurd (false≢true e)
-same_ids (x ∷ xs) [] e = absurd (false≢true e)
-same_ids (x ∷ xs) (y ∷ ys) e =
-    let parts = and_parts (id_eq x y) (pointwise id_eq xs ys) e in
-    let first : x ≡ y = (is_same_id x y).0 parts.0 in
-    let rest : xs ≡ ys = same_ids xs ys parts.1 in
-    λ i. first i ∷ rest i
+use Rattle.ew_model.proofs.SameEvents.{same_ids}
 
 same_ops : (o p : Op) → op_eq o p ≡ true → o ≡ p
 same_ops (Ins i c) (Ins j d) e =

@@ -14,6 +14,7 @@ use Rattle.replica.specs.declared.fault.LoadFault.{LoadFault}
 use Rattle.replica.specs.declared.fault.LoadFault.TheVariants as load
 use Rattle.ew_model.specs.Answers.{ruling_of}
 use Rattle.replica.specs.Fronts.{IsFront, IsAdmittedFront}
+use Rattle.transform.proofs.Judging.{behind_good}
 
 -- where the first of more rows that holds is Good, it is so of the first ones
 front_good : (rows more : List (Option Ruling)) → first_row (rows ++ more) ≡ Good → first_row rows ≡ Good
@@ -60,14 +61,6 @@ bad_stays held [] later found h = let no : ⊥ = cc in absurd no
 bad_stays held (e ∷ front) later found h =
     bad_at (is_verdict_good (next_verdict held e)) (first_bad_after (held ++ e ∷ []) front) (Some (record { position = length held; verdict = next_verdict held e })) (first_bad_after (held ++ e ∷ []) (front ++ later)) found
     (λ k. bad_stays (held ++ e ∷ []) front later found k) h
-
--- behind a good front the search goes on
-pub behind_good : (held front later : List Event) → IsGoodAfter held front → first_bad_after held (front ++ later) ≡ first_bad_after (held ++ front) later
-behind_good held [] later h = ap (λ (l : List Event). first_bad_after l later) (sym (append-nil held))
-behind_good held (e ∷ front) later h =
-    ap (λ (r : Ruling). cond (is_verdict_good r) (first_bad_after (held ++ e ∷ []) (front ++ later)) (Some (record { position = length held; verdict = r }))) h.0
-    ∙ behind_good (held ++ e ∷ []) front later h.1
-    ∙ ap (λ (l : List Event). first_bad_after l later) (append_assoc held (e ∷ []) front)
 
 pub front_of : (front : List Event) (r : Option Ruling) (events : List Event) → IsAdmittedFront front r events → IsFront front events
 front_of front None events h = ([], h ∙ sym (append-nil front))

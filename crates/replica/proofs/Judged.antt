@@ -1,23 +1,21 @@
 -- What is known of an event by the answer to it, and what stays so when it is held or waits.
-use Rattle.std.proofs.Common.{◌≡◌, ℕ, ◌≤◌, nat_le, Bool, true, false, cond, ◌||◌, List, [], ◌∷◌, ◌++◌, length, Option, Some, None, refl, sym, ap, ◌∙◌, subst, arith, length-append}
+use Rattle.std.proofs.Common.{◌≡◌, ℕ, ◌≤◌, nat_le, Bool, true, false, cond, List, [], ◌∷◌, ◌++◌, length, Option, Some, None, refl, sym, ap, ◌∙◌, subst, arith, length-append}
 use Rattle.std.specs.Bool.{then_some}
 use Rattle.std.specs.List.{list_any}
-use Rattle.std.proofs.lemmas.Bool.{false≢true, or_parts, leb-false}
-use Rattle.ew_model.specs.declared.id.Id.{Id}
+use Rattle.std.proofs.lemmas.Bool.{false≢true, or_parts, leb-false, or_from}
 use Rattle.ew_model.specs.declared.event.Event.{Event}
 use Rattle.ew_model.specs.Ancestors.{is_held}
 use Rattle.ew_model.specs.Events.{event_eq}
-use Rattle.ew_model.specs.Ids.{id_eq}
 use Rattle.ew_model.specs.Kept.{AreFresh}
 use Rattle.ew_model.specs.Limits.{LimitNumbers}
 use Rattle.ew_model.specs.Verdicts.{Ruling, first_row, id_rows, later_rows, verdict, graph_verdict, is_verdict_good}
 use Rattle.ew_model.specs.Verdicts.Ruling.{Repeat, Clash, SelfParent, TooManyParents, ParentsUnsorted, Unknown, PoolFull, NotReduced, Skipped, GraphFull, OutOfRange, Good}
-use Rattle.ew_model.proofs.IdLaws.{is_same_id}
-use Rattle.ew_model.proofs.KeptLaws.{held_joined}
+use Rattle.ew_model.proofs.KeptLaws.{held_joined, fresh-push, fresh-wait}
 use Rattle.replica.specs.declared.answer.Answer.{Answer}
 use Rattle.replica.specs.declared.answer.Answer.TheVariants as answer
 use Rattle.replica.specs.Desks.{answer_by, known_at, pooled, held_by, waiting_by}
 use Rattle.replica.proofs.RulingRows.{or_else, by_id, by_parents, by_size, size_is, later_blind, verdict_is, graph_verdict_is, id_good, id_new}
+use Rattle.ew_model.proofs.FirstBadLaws.{good_of}
 
 -- the event is held or waits now
 abbrev pub is_kept : Answer → Bool
@@ -85,20 +83,6 @@ taken_good Skipped = refl
 taken_good GraphFull = refl
 taken_good (OutOfRange len) = refl
 
-pub good_of : (r : Ruling) → is_verdict_good r ≡ true → r ≡ Good
-good_of Good h = refl
-good_of Repeat h = absurd (false≢true h)
-good_of Clash h = absurd (false≢true h)
-good_of SelfParent h = absurd (false≢true h)
-good_of TooManyParents h = absurd (false≢true h)
-good_of ParentsUnsorted h = absurd (false≢true h)
-good_of (Unknown p) h = absurd (false≢true h)
-good_of PoolFull h = absurd (false≢true h)
-good_of NotReduced h = absurd (false≢true h)
-good_of Skipped h = absurd (false≢true h)
-good_of GraphFull h = absurd (false≢true h)
-good_of (OutOfRange len) h = absurd (false≢true h)
-
 -- both are Good where the first that isn't is
 pub or_good : (q r : Ruling) → is_verdict_good (or_else q r) ≡ true → (is_verdict_good q ≡ true) × (is_verdict_good r ≡ true)
 or_good q r h = at (is_verdict_good q) refl h
@@ -129,13 +113,10 @@ almost_good limits held waiting e h =
     record { new = ids.0; waits_not = ids.1; parents = later.0; room = room_of (nat_le limits.events (length held)) (ap is_verdict_good (sym (size_is limits held)) ∙ later.1) }
 
 -- the graph judges it Good too
-both_false : (b c : Bool) → b ≡ false → c ≡ false → (b || c) ≡ false
-both_false b c p q = (λ i. p i || c) ∙ q
-
 pub graph_good : (limits : LimitNumbers) (held waiting : List Event) (e : Event) → IsAlmostGood limits held waiting e → graph_verdict held e ≡ Good
 graph_good limits held waiting e g =
     graph_verdict_is held e
-    ∙ ap (λ (r : Ruling). or_else r (by_parents held e)) (id_new held [] e (held_joined held [] e.id ∙ both_false (is_held held e.id) false g.new refl))
+    ∙ ap (λ (r : Ruling). or_else r (by_parents held e)) (id_new held [] e (held_joined held [] e.id ∙ or_from (is_held held e.id) false g.new refl))
     ∙ good_of (by_parents held e) g.parents
 
 pub taken_then_good : (limits : LimitNumbers) (held waiting : List Event) (e : Event) → is_taken (answer_by (verdict limits false held waiting e)) ≡ true → IsAlmostGood limits held waiting e
@@ -162,25 +143,6 @@ pub waits_then_new : (limits : LimitNumbers) (held waiting : List Event) (e : Ev
 waits_then_new limits held waiting e out n a same h = (kept_is_new limits held waiting e (ap is_kept (sym same) ∙ kept_known out n a h)).1
 
 -- so no waiting event comes to have an id that is held
-symm : (x y : Id) → id_eq x y ≡ false → id_eq y x ≡ false
-symm x y h = at (id_eq y x) refl
-  where
-    at : (b : Bool) → id_eq y x ≡ b → id_eq y x ≡ false
-    at true q = absurd (false≢true (sym h ∙ (is_same_id x y).1 (sym ((is_same_id y x).0 q))))
-    at false q = q
-
-fresh-push : (held waiting : List Event) (e : Event) → AreFresh held waiting → is_held waiting e.id ≡ false → AreFresh (held ++ e ∷ []) waiting
-fresh-push held [] e f n = tt
-fresh-push held (w ∷ waiting) e f n =
-    let parts = or_parts (id_eq e.id w.id) (is_held waiting e.id) n in (
-      held_joined held (e ∷ []) w.id ∙ both_false (is_held held w.id) (id_eq w.id e.id || false) f.0 (both_false (id_eq w.id e.id) false (symm e.id w.id parts.0) refl),
-      fresh-push held waiting e f.1 parts.1,
-    )
-
-fresh-wait : (held waiting : List Event) (e : Event) → AreFresh held waiting → is_held held e.id ≡ false → AreFresh held (waiting ++ e ∷ [])
-fresh-wait held [] e f n = (n, tt)
-fresh-wait held (w ∷ waiting) e f n = (f.0, fresh-wait held waiting e f.1 n)
-
 fresh_by : (a : Answer) (held waiting : List Event) (e : Event) → (is_kept a ≡ true → (is_held held e.id ≡ false) × (is_held waiting e.id ≡ false)) → AreFresh held waiting → AreFresh (held_by a e held) (waiting_by a e waiting)
 fresh_by answer.Held held waiting e n f = fresh-push held waiting e f (n refl).1
 fresh_by answer.Waits held waiting e n f = fresh-wait held waiting e f (n refl).0

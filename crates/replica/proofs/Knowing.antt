@@ -14,11 +14,12 @@ use Rattle.ew_model.proofs.RoundLaws.{then}
 use Rattle.ew_model.proofs.RoundSteps.{enough, grown_all}
 use Rattle.transform.specs.Walking.{bad_at}
 use Rattle.replica.specs.Desks.{next_known, with_known}
-use Rattle.replica.proofs.Fronts.{behind_good}
-use Rattle.replica.proofs.Judged.{almost_good, good_of, good_or, or_good}
+use Rattle.replica.proofs.Judged.{almost_good, good_or, or_good}
 use Rattle.replica.proofs.RulingRows.{or_else, by_parents, by_size, by_index, id_new, none_there, later_blind, later_seeing, verdict_seeing, next_verdict_is}
 use Rattle.replica.proofs.Steps.{rest_of, ready_next, coming_next, coming_none}
 use Rattle.replica.proofs.Taking.{ready_new}
+use Rattle.ew_model.proofs.FirstBadLaws.{good_of}
+use Rattle.transform.proofs.Judging.{behind_good}
 
 -- how the next event is judged without a look at its index, and with it
 pub record IsJudged (limits : LimitNumbers) (d : Desk) : Type 0 where

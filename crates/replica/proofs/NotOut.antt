@@ -1,8 +1,6 @@
 -- Without a look at the index no answer is OutOfRange.
-use Rattle.std.proofs.Common.{◌≡◌, nat_le, Bool, true, false, cond, List, [], ◌∷◌, find, length, Option, Some, None, option_map, refl, sym, ap, ◌∙◌}
-use Rattle.std.specs.Bool.{then_some}
+use Rattle.std.proofs.Common.{◌≡◌, nat_le, Bool, true, false, cond, List, [], ◌∷◌, find, length, Option, Some, None, refl, sym, ap, ◌∙◌}
 use Rattle.std.specs.List.{AllByRecursion}
-use Rattle.ew_model.specs.declared.id.Id.{Id}
 use Rattle.ew_model.specs.declared.event.Event.{Event}
 use Rattle.ew_model.specs.Arrival.{Desk, Judgement, is_ready, without_ready, at_the_pool, judgement_of, judge_coming, judge_ready, next_judgement}
 use Rattle.ew_model.specs.Limits.{LimitNumbers}
@@ -10,17 +8,7 @@ use Rattle.ew_model.specs.Rounds.{is_out_of_range}
 use Rattle.ew_model.specs.Verdicts.{Ruling, first_row, id_rows, parent_rows, later_rows, verdict, is_verdict_good}
 use Rattle.ew_model.specs.Verdicts.Ruling.{Repeat, Clash, SelfParent, TooManyParents, ParentsUnsorted, Unknown, PoolFull, NotReduced, Skipped, GraphFull, OutOfRange, Good}
 use Rattle.replica.proofs.RulingRows.{by_id, by_parents, by_size, size_is, later_blind, verdict_is}
-
-abbrev NotOut : Option Ruling → Type 0
-NotOut row = (r : Ruling) → row ≡ Some r → is_out_of_range r ≡ false
-
-not_out : (b : Bool) (q : Ruling) → is_out_of_range q ≡ false → NotOut (then_some b q)
-not_out true q h r e = let same : q ≡ r = cc in ap is_out_of_range (sym same) ∙ h
-not_out false q h r e = let no : ⊥ = cc in absurd no
-
-unknown_not_out : (o : Option Id) → NotOut (option_map Unknown o)
-unknown_not_out None r e = let no : ⊥ = cc in absurd no
-unknown_not_out (Some p) r e = let same : Unknown p ≡ r = cc in ap is_out_of_range (sym same)
+use Rattle.ew_model.proofs.RoundSteps.{not_out, unknown_not_out, NotOut}
 
 rows_not_out : (rows : List (Option Ruling)) → AllByRecursion NotOut rows → is_out_of_range (first_row rows) ≡ false
 rows_not_out [] h = refl

@@ -1,8 +1,8 @@
 -- What the rows say in parts: by the id, by the parents, by the number of events held, and by the index.
-use Rattle.std.proofs.Common.{◌≡◌, nat_le, Bool, true, false, cond, ◌||◌, List, [], ◌∷◌, ◌++◌, length, Option, Some, None, option_map, refl, sym, ap, ◌∙◌, append-nil}
+use Rattle.std.proofs.Common.{◌≡◌, nat_le, Bool, true, false, cond, List, [], ◌∷◌, ◌++◌, length, Option, Some, None, option_map, refl, sym, ap, ◌∙◌, append-nil}
 use Rattle.std.specs.Bool.{then_some}
 use Rattle.std.specs.List.{list_any, AllByRecursion}
-use Rattle.std.proofs.lemmas.Bool.{false≢true, or_parts}
+use Rattle.std.proofs.lemmas.Bool.{false≢true, or_parts, or_from}
 use Rattle.ew_model.specs.declared.id.Id.{Id}
 use Rattle.ew_model.specs.declared.event.Event.{Event}
 use Rattle.ew_model.specs.Ancestors.{is_held}
@@ -120,11 +120,8 @@ pub id_new : (held waiting : List Event) (e : Event) → is_held (held ++ waitin
 unfolding id_rows
 id_new held waiting e new = no_row (list_any (event_eq e) (held ++ waiting)) (is_held (held ++ waiting) e.id) (no_repeat (held ++ waiting) e new) new
 
-both_false : (b c : Bool) → b ≡ false → c ≡ false → (b || c) ≡ false
-both_false b c p q = (λ i. p i || c) ∙ q
-
 pub none_there : (held waiting : List Event) (x : Id) → is_held held x ≡ false → is_held waiting x ≡ false → is_held (held ++ waiting) x ≡ false
-none_there held waiting x h w = held_joined held waiting x ∙ both_false (is_held held x) (is_held waiting x) h w
+none_there held waiting x h w = held_joined held waiting x ∙ or_from (is_held held x) (is_held waiting x) h w
 
 -- the other way round
 row_none : (b c : Bool) → is_verdict_good (first_row (then_some b Repeat ∷ then_some c Clash ∷ [])) ≡ true → c ≡ false

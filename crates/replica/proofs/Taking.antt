@@ -1,8 +1,8 @@
 -- The earliest waiting event that is ready, and the others.
-use Rattle.std.proofs.Common.{◌≡◌, ℕ, Bool, true, false, cond, ◌||◌, List, [], ◌∷◌, find, length, Option, Some, None, option_map, nat_le, refl, sym, ap, ◌∙◌, ◌==◌}
+use Rattle.std.proofs.Common.{◌≡◌, ℕ, Bool, true, false, cond, List, [], ◌∷◌, find, length, Option, Some, None, option_map, nat_le, refl, sym, ap, ◌∙◌, ◌==◌}
 use Rattle.std.specs.Bool.{then_some}
 use Rattle.std.specs.List.{AllByRecursion}
-use Rattle.std.proofs.lemmas.Bool.{false≢true, or_parts}
+use Rattle.std.proofs.lemmas.Bool.{false≢true, or_from}
 use Rattle.ew_model.specs.declared.id.Id.{Id}
 use Rattle.ew_model.specs.declared.event.Event.{Event}
 use Rattle.ew_model.specs.Ancestors.{is_held}
@@ -12,30 +12,13 @@ use Rattle.ew_model.specs.Kept.{AreFresh, AreApart}
 use Rattle.ew_model.specs.Limits.{LimitNumbers}
 use Rattle.ew_model.specs.Verdicts.{Ruling, first_row, parent_rows, later_rows, verdict, is_verdict_good}
 use Rattle.ew_model.specs.Verdicts.Ruling.{Repeat, Clash, SelfParent, TooManyParents, ParentsUnsorted, Unknown, PoolFull, NotReduced, Skipped, GraphFull, OutOfRange, Good}
-use Rattle.ew_model.proofs.IdLaws.{is_same_id}
 use Rattle.replica.specs.declared.answer.Answer.{Answer}
 use Rattle.replica.specs.declared.answer.Answer.TheVariants as answer
 use Rattle.replica.specs.Desks.{answer_by, known_at, pooled, repeats_at}
 use Rattle.replica.specs.Receiving.{is_repeat}
 use Rattle.replica.proofs.RulingRows.{by_parents, by_size, size_is, later_blind, id_new, none_there, verdict_is}
-
-symm : (x y : Id) → id_eq x y ≡ false → id_eq y x ≡ false
-symm x y h = at (id_eq y x) refl
-  where
-    at : (b : Bool) → id_eq y x ≡ b → id_eq y x ≡ false
-    at true q = absurd (false≢true (sym h ∙ (is_same_id x y).1 (sym ((is_same_id y x).0 q))))
-    at false q = q
-
--- an event that is found isn't of an id that none has
-other_at : (b : Bool) (w e : Event) (found : Option Event) (x : Id) → cond b (Some w) found ≡ Some e → id_eq x w.id ≡ false → (found ≡ Some e → id_eq x e.id ≡ false) → id_eq x e.id ≡ false
-other_at true w e found x q h more = let same : w ≡ e = cc in ap (λ (z : Event). id_eq x z.id) (sym same) ∙ h
-other_at false w e found x q h more = more q
-
-found_other : (held events : List Event) (e : Event) (x : Id) → find (is_ready held) events ≡ Some e → is_held events x ≡ false → id_eq x e.id ≡ false
-found_other held [] e x f h = let no : ⊥ = cc in absurd no
-found_other held (w ∷ events) e x f h =
-    let parts = or_parts (id_eq x w.id) (is_held events x) h in
-    other_at (is_ready held w) w e (find (is_ready held) events) x f parts.0 (λ q. found_other held events e x q parts.1)
+use Rattle.waiting_pool.proofs.Ready.{held_found}
+use Rattle.ew_model.proofs.IndexLaw.{unequal_back}
 
 -- the others are as fresh
 fresh_at : (b : Bool) (held : List Event) (w : Event) (events less : List Event) → AreFresh held (w ∷ events) → AreFresh held less → AreFresh held (cond b events (w ∷ less))
@@ -56,18 +39,15 @@ ready_new held [] e fresh f = let no : ⊥ = cc in absurd no
 ready_new held (w ∷ events) e fresh f = new_at (is_ready held w) held w e (find (is_ready held) events) f fresh.0 (λ q. ready_new held events e fresh.1 q)
 
 -- and it waits no longer
-both_false : (b c : Bool) → b ≡ false → c ≡ false → (b || c) ≡ false
-both_false b c p q = (λ i. p i || c) ∙ q
-
 gone_at : (b : Bool) (w e : Event) (events less : List Event) (found : Option Event) → cond b (Some w) found ≡ Some e → is_held events w.id ≡ false → (found ≡ Some e → id_eq w.id e.id ≡ false) → (found ≡ Some e → is_held less e.id ≡ false)
     → is_held (cond b events (w ∷ less)) e.id ≡ false
 gone_at true w e events less found q new other more = let same : w ≡ e = cc in ap (λ (z : Event). is_held events z.id) (sym same) ∙ new
-gone_at false w e events less found q new other more = both_false (id_eq e.id w.id) (is_held less e.id) (symm w.id e.id (other q)) (more q)
+gone_at false w e events less found q new other more = or_from (id_eq e.id w.id) (is_held less e.id) (unequal_back w.id e.id (other q)) (more q)
 
 pub ready_gone : (held events : List Event) (e : Event) → AreApart events → find (is_ready held) events ≡ Some e → is_held (without_ready held events) e.id ≡ false
 ready_gone held [] e a f = let no : ⊥ = cc in absurd no
 ready_gone held (w ∷ events) e a f =
-    gone_at (is_ready held w) w e events (without_ready held events) (find (is_ready held) events) f a.0 (λ q. found_other held events e w.id q a.0) (λ q. ready_gone held events e a.1 q)
+    gone_at (is_ready held w) w e events (without_ready held events) (find (is_ready held) events) f a.0 (λ q. held_found held events e w.id q a.0) (λ q. ready_gone held events e a.1 q)
 
 -- so the rows by the id don't hold
 pub ready_verdict : (limits : LimitNumbers) (b : Bool) (held events : List Event) (e : Event) → AreFresh held events → AreApart events → find (is_ready held) events ≡ Some e

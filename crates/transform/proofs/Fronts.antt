@@ -1,10 +1,10 @@
 -- What the versions of a history know of its first events.
 use Rattle.std.proofs.Common.{◌≡◌, ℕ, zero, suc, ◌+◌, Bool, true, false, cond, ◌||◌, List, [], ◌∷◌, ◌++◌, length, refl, sym, ap, ◌∙◌, subst, arith, append_assoc, append-nil}
-use Rattle.std.proofs.lemmas.Bool.{false≢true, false_from_ne_true, or_left}
+use Rattle.std.proofs.lemmas.Bool.{false≢true, false_from_ne_true, or_left, or_parts}
 use Rattle.ew_model.specs.declared.id.Id.{Id}
 use Rattle.ew_model.specs.declared.event.Event.{Event}
 use Rattle.ew_model.specs.Ids.{id_eq, is_among}
-use Rattle.ew_model.specs.Ancestors.{ids_of, is_held, is_parent, version_events, ancestors}
+use Rattle.ew_model.specs.Ancestors.{ids_of, is_held, version_events, ancestors}
 use Rattle.ew_model.specs.Walks.{positions_among}
 use Rattle.ew_model.specs.Positions.{known_positions, positions_in, parent_positions}
 use Rattle.ew_model.specs.PositionLaws.{AgreesByPositions}
@@ -16,6 +16,7 @@ use Rattle.ew_model.proofs.CoverLaws.{ids_alike}
 use Rattle.ew_model.proofs.SortingLaws.{all_from}
 use Rattle.ew_model.proofs.GraphOrder.{other_name}
 use Rattle.transform.specs.Reaching.{prepared_behind}
+use Rattle.ew_model.proofs.IndexLaw.{unheld}
 
 -- POSITIONS OF IDS
 kept-append : (b : Bool) (n : ℕ) (ps qs : List ℕ) → cond b (n ∷ (ps ++ qs)) (ps ++ qs) ≡ cond b (n ∷ ps) ps ++ qs
@@ -43,14 +44,10 @@ positions_last ids front e h =
     let same : 0 + length front ≡ length front = omega arith in
     positions-append ids 0 front (e ∷ []) ∙ (λ i. positions_in front ids ++ cond (h i) (same i ∷ []) [])
 
-both_false : (a b : Bool) → (a || b) ≡ false → (a ≡ false) × (b ≡ false)
-both_false true b h = absurd (false≢true (sym h))
-both_false false b h = (refl, h)
-
 -- ids that no event has
 unheld_named : (events : List Event) (x : Id) → is_held events x ≡ false → NoneNamed events (x ∷ [])
 unheld_named [] x h = tt
-unheld_named (e ∷ events) x h = let parts = both_false (id_eq x e.id) (is_held events x) h in (ap (λ b. b || false) (ids_alike.symm e.id x ∙ parts.0), unheld_named events x parts.1)
+unheld_named (e ∷ events) x h = let parts = or_parts (id_eq x e.id) (is_held events x) h in (ap (λ b. b || false) (ids_alike.symm e.id x ∙ parts.0), unheld_named events x parts.1)
 
 itself_named : (x : Id) → is_among (x ∷ []) x ≡ true
 itself_named x = or_left (id_eq x x) false (ids_alike.refl x)
@@ -87,29 +84,12 @@ prepared_last before prepared (f ∷ front) e = prepared_last (before ++ f ∷ [
 pub prepared_ids : (front : List Event) (e : Event) → prepared_from (front ++ e ∷ []) 0 ≡ ancestors (front ++ e ∷ []) (e.id ∷ [])
 prepared_ids front e = prepared_last [] [] front e
 
--- naming an id that no event has changes nothing
-version_unheld : (events : List Event) (x : Id) (named : List Id) → is_held events x ≡ false → version_events events (x ∷ named) ≡ version_events events named
-version_unheld [] x named h = refl
-version_unheld (f ∷ events) x named h =
-    let none = unheld_named (f ∷ events) x h in
-    let more : version_events events (x ∷ named) ≡ version_events events named = version_unheld events x named (rest (id_eq x f.id) (is_held events x) h) in
-    (λ i. cond (is_among (x ∷ named) f.id || is_parent (more i) f.id) (f ∷ more i) (more i))
-    ∙ ap (λ b. cond (b || is_parent (version_events events named) f.id) (f ∷ version_events events named) (version_events events named)) (first (id_eq f.id x) (is_among named f.id) none.0)
-  where
-    rest : (a b : Bool) → (a || b) ≡ false → b ≡ false
-    rest true b h = absurd (false≢true (sym h))
-    rest false b h = h
-
-    first : (a b : Bool) → (a || false) ≡ false → (a || b) ≡ b
-    first true b h = absurd (false≢true (sym h))
-    first false b h = refl
-
 -- the version of the event behind the front: what it was made over, and itself
 own_version : (front : List Event) (e : Event) → is_held front e.id ≡ false → ancestors (front ++ e ∷ []) (e.id ∷ []) ≡ ancestors front e.parents ++ e.id ∷ []
 own_version front e new =
     ap ids_of (version_events_of_last front e (e.id ∷ []) (itself_named e.id))
     ∙ ids-append (version_events front (e.id ∷ e.parents)) (e ∷ [])
-    ∙ ap (λ vs. ids_of vs ++ e.id ∷ []) (version_unheld front e.id e.parents new)
+    ∙ ap (λ vs. ids_of vs ++ e.id ∷ []) (unheld front e.id e.parents new)
   where
     ids-append : (xs ys : List Event) → ids_of (xs ++ ys) ≡ ids_of xs ++ ids_of ys
     ids-append [] ys = refl
@@ -130,7 +110,7 @@ other_among (z ∷ ids) x y h = ap (λ b. id_eq y z || b) (other_among ids x y h
 positions_other : (ids : List Id) (x : Id) (n : ℕ) (events : List Event) → is_held events x ≡ false → positions_among (ids ++ x ∷ []) n events ≡ positions_among ids n events
 positions_other ids x n [] h = refl
 positions_other ids x n (e ∷ events) h =
-    let parts = both_false (id_eq x e.id) (is_held events x) h in
+    let parts = or_parts (id_eq x e.id) (is_held events x) h in
     (λ i. cond (other_among ids x e.id (ids_alike.symm e.id x ∙ parts.0) i) (n ∷ positions_other ids x (suc n) events parts.1 i) (positions_other ids x (suc n) events parts.1 i))
 
 -- What is prepared behind one more event: what it was made over, and itself.

@@ -10,6 +10,7 @@ use Rattle.ew_model.specs.Ancestors.{is_held, is_reduced}
 use Rattle.ew_model.specs.Texts.{text_at}
 use Rattle.ew_model.specs.Verdicts.{Ruling, first_row, id_rows, parent_rows, range_rows, is_outside, graph_verdict, next_verdict, follows_its_agent, is_verdict_good, IsGood, IsGoodAfter, first_bad, first_bad_after}
 use Rattle.ew_model.specs.Verdicts.Ruling.{Repeat, Clash, SelfParent, TooManyParents, ParentsUnsorted, Unknown, NotReduced, Skipped, Good, OutOfRange}
+use Rattle.ew_model.proofs.KeptLaws.{good-push}
 
 -- the row never answers Good
 abbrev NeverGood : Option Ruling → Type 0
@@ -75,16 +76,13 @@ out_of_range held e len h same outside =
     ∙ ap OutOfRange (sym same)
 
 -- GOOD EVENTS, AND THE FIRST BAD ONE
-good_on : (before front : List Event) (e : Event) → IsGoodAfter before front → next_verdict (before ++ front) e ≡ Good → IsGoodAfter before (front ++ e ∷ [])
-good_on before [] e h v = (ap (λ (w : List Event). next_verdict w e) (sym (append-nil before)) ∙ v, tt)
-good_on before (f ∷ front) e h v = (h.0, good_on (before ++ f ∷ []) front e h.1 (ap (λ (w : List Event). next_verdict w e) (append_assoc before (f ∷ []) front) ∙ v))
-
+-- GOOD EVENTS, AND THE FIRST BAD ONE
 -- one more good event
 pub good_more : (front : List Event) (e : Event) → IsGood front → next_verdict front e ≡ Good → IsGood (front ++ e ∷ [])
 unfolding IsGood
-good_more front e h v = good_on [] front e h v
+good_more front e h v = good-push [] front e h v
 
-behind_good : (held front later : List Event) → IsGoodAfter held front → first_bad_after held (front ++ later) ≡ first_bad_after (held ++ front) later
+pub behind_good : (held front later : List Event) → IsGoodAfter held front → first_bad_after held (front ++ later) ≡ first_bad_after (held ++ front) later
 behind_good held [] later h = ap (λ (l : List Event). first_bad_after l later) (sym (append-nil held))
 behind_good held (e ∷ front) later h =
     ap (λ (r : Ruling). cond (is_verdict_good r) (first_bad_after (held ++ e ∷ []) (front ++ later)) (Some (record { position = length held; verdict = r }))) h.0

@@ -7,10 +7,8 @@ use Rattle.ew_model.specs.declared.event.Event.{Event}
 use Rattle.ew_model.specs.declared.text_op.TextOp.{TextOp}
 use Rattle.ew_model.specs.Operations.{operations_of, operations}
 use Rattle.ew_model.specs.Touches.{touches}
-use Rattle.ew_model.specs.Tree.{applied_after}
 use Rattle.ew_model.specs.Verdicts.{first_bad}
 use Rattle.ew_model.specs.Walks.{base_at, walked_from}
-use Rattle.ew_model.proofs.ClearingLaw.{length-operations, length-applied}
 use Rattle.ew_model.proofs.CutLaws.{start_critical}
 use Rattle.ew_model.proofs.FirstBadLaws.{good_has_no_bad}
 use Rattle.ew_model.proofs.TouchSteps.{touches_add}
@@ -21,8 +19,10 @@ use Rattle.transform.specs.Walking.{StandsBehind, bad_at}
 use Rattle.transform.specs.declared.apply.Turn.{Turn}
 use Rattle.transform.specs.declared.apply.Turn.TheVariants.{Applied, OutOfRange}
 use Rattle.transform.proofs.Judging.{first_bad_is}
-use Rattle.transform.proofs.Sides.{there, split_at, take_next, length_front}
+use Rattle.transform.proofs.Sides.{split_at, take_next, length_front}
 use Rattle.transform.proofs.Steps.{base_is_none, no_event_is_good}
+use Rattle.ew_model.proofs.ListParts.{element_there}
+use Rattle.ew_model.proofs.TextLengths.{length_operations}
 
 -- THE BEGINNING
 pub starts : (history : List Event) (cut : ℕ) (state : Kept) → cut ≡ 0 → StandsFor state (base_at history cut) [] [] → Reached (take cut history) state
@@ -51,10 +51,7 @@ pub starts_untouched : (history : List Event) (cut steps : ℕ) → cut ≡ 0 �
 starts_untouched history cut steps none = omega (arith, ap (λ k. touches (take k history) 0) none ∙ no_touches)
 
 -- THE OPERATIONS
-length_of_operations : (history : List Event) → length (operations history) ≡ length history
-unfolding operations operations_of
-length_of_operations history = length-operations 0 [] (applied_after [] history) ∙ length-applied [] history
-
+-- THE OPERATIONS
 emitted_by : (n : ℕ) (xs : List TextOp) (op : TextOp) (b : Bool) → nat_le n (length xs) ≡ b → cond b (drop n xs ++ op ∷ []) (drop n xs) ≡ drop n (xs ++ op ∷ [])
 emitted_by n xs op true q = sym (drop-append-le n xs (op ∷ []) (leb-true n (length xs) q))
 emitted_by n xs op false q =
@@ -66,7 +63,7 @@ pub emitted : (history : List Event) (lv n : ℕ) (e : Event) (old new : List Te
     → old ≡ drop n (operations (take lv history)) → new ≡ cond (nat_le n lv) (old ++ op ∷ []) old → new ≡ drop n (operations (take (lv + 1) history))
 emitted history lv n e old new op at more before after =
     let front = take lv history in
-    let long : lv ≡ length (operations front) = sym (length_of_operations front ∙ length_front history lv e at) in
+    let long : lv ≡ length (operations front) = sym (length_operations front ∙ length_front history lv e at) in
     after
     ∙ (λ i. cond (nat_le n (long i)) (before i ++ op ∷ []) (before i))
     ∙ emitted_by n (operations front) op (nat_le n (length (operations front))) refl
@@ -77,7 +74,7 @@ emitted history lv n e old new op at more before after =
 pub goes_on : (history : List Event) (lv : ℕ) (state : Kept) (turn : Turn) (op : TextOp) → lv < length history → turn ≡ Applied op → ((e : Event) → slice_get history lv ≡ Some e → Turned (take lv history) e state turn)
     → (e : Event) × (slice_get history lv ≡ Some e) × Reached (take (lv + 1) history) state × (operations (take lv history ++ e ∷ []) ≡ operations (take lv history) ++ op ∷ [])
 goes_on history lv state turn op within is turned =
-    let found = there history lv within in
+    let found = element_there history lv within in
     let done = subst (Turned (take lv history) found.0 state) is (turned found.0 found.1) in
     (found.0, found.1, subst (λ es. Reached es state) (sym (take_next history lv found.0 found.1)) done.0, done.1)
 
@@ -95,7 +92,7 @@ pub stops : (history : List Event) (lv : ℕ) (old state : Kept) (turn : Turn) (
     → (Some (bad_at (lv, len)) ≡ first_bad history) × StandsBehind history (take lv history) state
 stops history lv old state turn len within is reached turned =
     let front = take lv history in
-    let found = there history lv within in
+    let found = element_there history lv within in
     let e = found.0 in
     let done = subst (Turned front e state) is (turned e found.1) in
     let later = drop (suc lv) history in (

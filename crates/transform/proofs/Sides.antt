@@ -10,12 +10,7 @@ use Rattle.event_graph.proofs.Admitted.{agrees, laid}
 use Rattle.transform.specs.Moving.{alone}
 use Rattle.transform.specs.Reaching.{prepared_behind, over_of}
 use Rattle.transform.proofs.Fronts.{last_before, last_known, none_prepared, over_known}
-
--- an event stands at each place
-pub there : (history : List Event) (n : ℕ) → n < length history → (e : Event) × (slice_get history n ≡ Some e)
-there [] n h = let no : ⊥ = omega (arith, h) in absurd no
-there (f ∷ history) zero h = (f, refl)
-there (f ∷ history) (suc n) h = there history n (omega (arith, h))
+use Rattle.ew_model.proofs.ListParts.{element_there}
 
 pub split_at : (history : List Event) (n : ℕ) (e : Event) → slice_get history n ≡ Some e → history ≡ take n history ++ e ∷ drop (suc n) history
 split_at [] n e h = let no : ⊥ = cc in absurd no
@@ -54,7 +49,7 @@ known_over history n e admitted at =
 known_last : (history : List Event) (n : ℕ) → IsAdmitted history → n < length history → known_positions (parent_positions history) (last_before n) ≡ prepared_behind (take n history)
 known_last history zero admitted h = none_prepared history (laid history admitted) (agrees history admitted)
 known_last history (suc n) admitted h =
-    let last = there history n (omega (arith, h)) in
+    let last = element_there history n (omega (arith, h)) in
     let front = take n history in
     let later = drop (suc n) history in
     let split : history ≡ (front ++ last.0 ∷ []) ++ later = split_at history n last.0 last.1 ∙ sym (append_assoc front (last.0 ∷ []) later) in

@@ -1,9 +1,10 @@
 -- The positions of spans, the highest first.
-use Rattle.std.proofs.Common.{◌≡◌, ℕ, suc, ◌+◌, ◌-◌, ◌<◌, ◌≤◌, List, [], ◌∷◌, ◌++◌, reverse, take, sym, ap, ◌∙◌, append_assoc, append-nil, arith, length, get_or}
+use Rattle.std.proofs.Common.{◌≡◌, ℕ, suc, ◌+◌, ◌-◌, ◌<◌, ◌≤◌, List, [], ◌∷◌, ◌++◌, reverse, take, sym, ap, ◌∙◌, arith, length, get_or}
 use Rattle.std.specs.List.{range_with_len}
 use Rattle.std.proofs.lemmas.List.{reverse-append, take_more}
 use Rattle.ancestors.specs.declared.spans.Span.{Span}
 use Rattle.ancestors.specs.Spans.{positions_in, positions_of}
+use Rattle.ancestors.proofs.SpanLists.{positions_push}
 
 -- one more position at the low end of a range
 pub range_lower : (low high : ℕ) → 0 < low → low ≤ high → reverse (range_with_len (low - 1) (high - (low - 1))) ≡ reverse (range_with_len low (high - low)) ++ (low - 1) ∷ []
@@ -13,10 +14,6 @@ range_lower low high some within =
     ap (λ n. reverse (range_with_len (low - 1) n)) long
     ∙ reverse-append ((low - 1) ∷ []) (range_with_len (low - 1 + 1) (high - low))
     ∙ ap (λ m. reverse (range_with_len m (high - low)) ++ (low - 1) ∷ []) next
-
-positions_push : (spans : List Span) (s : Span) → positions_of (spans ++ s ∷ []) ≡ positions_in s ++ positions_of spans
-positions_push [] s = sym (append-nil (positions_in s))
-positions_push (t ∷ spans) s = ap (λ ps. ps ++ positions_in t) (positions_push spans s) ∙ append_assoc (positions_in s) (positions_of spans) (positions_in t)
 
 -- one more span
 pub falling_more : (spans : List Span) (s : Span) → reverse (positions_of (spans ++ s ∷ [])) ≡ reverse (positions_of spans) ++ reverse (positions_in s)

@@ -1,7 +1,7 @@
 -- The events of a walk from cut 0, as it applies them.
 use Rattle.std.proofs.Common.{◌≡◌, ℕ, suc, ◌+◌, ◌<◌, ◌≤◌, nat_eq, Bool, true, false, ◌||◌, List, [], ◌∷◌, ◌++◌, length, refl, sym, ap, ◌∙◌, arith, append_assoc, append-nil, eq-eqb, ne_eqb}
 use Rattle.std.specs.List.{list_any}
-use Rattle.std.proofs.lemmas.Bool.{false≢true}
+use Rattle.std.proofs.lemmas.Bool.{false≢true, or_parts}
 use Rattle.ew_model.specs.declared.id.Id.{Id}
 use Rattle.ew_model.specs.declared.event.Op.{Op}
 use Rattle.ew_model.specs.declared.event.Op.TheVariants.{Ins, Del}
@@ -75,14 +75,10 @@ uninserted_act : (x y : Id) (op : Op) → id_eq x y ≡ false → inserts_as x (
 uninserted_act x y (Ins at ch) h = ids_alike.symm y x ∙ h
 uninserted_act x y (Del at) h = refl
 
-both_false : (a b : Bool) → (a || b) ≡ false → (a ≡ false) × (b ≡ false)
-both_false true b h = absurd (false≢true (sym h))
-both_false false b h = (refl, h)
-
 uninserted_after : (before events : List Event) (x : Id) → is_held events x ≡ false → list_any (λ (c : Applied ℕ). inserts_as x c.act) (walked_after 0 [] before events) ≡ false
 uninserted_after before [] x h = refl
 uninserted_after before (e ∷ events) x h =
-    let parts = both_false (id_eq x e.id) (is_held events x) h in
+    let parts = or_parts (id_eq x e.id) (is_held events x) h in
     ap (λ b. b || list_any (λ (c : Applied ℕ). inserts_as x c.act) (walked_after 0 [] (before ++ e ∷ []) events)) (uninserted_act x e.id e.op parts.0)
     ∙ uninserted_after (before ++ e ∷ []) events x parts.1
 

@@ -5,36 +5,24 @@ use Rattle.std.specs.List.{AllByRecursion}
 use Rattle.std.specs.List.Sorted.{IsStrictlySortedBy}
 use Rattle.std.specs.Map.{keys_of, values_of, set_value}
 use Rattle.std.specs.Ordering.{nat_cmp}
-use Rattle.std.proofs.lemmas.Bool.{or_parts}
+use Rattle.std.proofs.lemmas.Bool.{or_parts, or_from}
 use Rattle.std.proofs.lemmas.Map.{keys-set_value, length-set_value}
 use Rattle.ew_model.specs.declared.id.Id.{Id}
 use Rattle.ew_model.specs.declared.event.Event.{Event}
 use Rattle.ew_model.specs.Ids.{id_eq}
 use Rattle.ew_model.specs.Ancestors.{is_held}
 use Rattle.ew_model.specs.Kept.{AreApart}
-use Rattle.ew_model.proofs.KeptLaws.{held_joined}
+use Rattle.ew_model.proofs.KeptLaws.{apart-wait}
 use Rattle.waiting_pool.specs.declared.waiter.Place.{Place}
 use Rattle.waiting_pool.specs.declared.waiter.Waiter.{Waiter}
 use Rattle.waiting_pool.specs.Keeping.{AreIndexed, IsPool}
 use Rattle.waiting_pool.specs.Waiting.{without, without_first}
-use Rattle.waiting_pool.proofs.Entries.{Entries, kept_events, is_of, same_ids}
-
-both_false : (b c : Bool) → b ≡ false → c ≡ false → (b || c) ≡ false
-both_false b c p q = (λ i. p i || c) ∙ q
-
--- one more event behind the others
-pub apart_more : (events : List Event) (e : Event) → AreApart events → is_held events e.id ≡ false → AreApart (events ++ e ∷ [])
-apart_more [] e a n = (refl, tt)
-apart_more (w ∷ events) e a n =
-    let parts = or_parts (id_eq e.id w.id) (is_held events e.id) n in (
-      held_joined events (e ∷ []) w.id ∙ both_false (is_held events w.id) (id_eq w.id e.id || false) a.0 (both_false (id_eq w.id e.id) false (same_ids.symm w.id e.id ∙ parts.0) refl),
-      apart_more events e a.1 parts.1,
-    )
+use Rattle.waiting_pool.proofs.Entries.{Entries, kept_events, is_of}
 
 -- one event less
 less_at : (b c d : Bool) → (c || d) ≡ false → (held : List Event → Bool) (events rest : List Event) (e : Event) → held events ≡ d → held (e ∷ rest) ≡ (c || held rest) → held rest ≡ false → held (cond b events (e ∷ rest)) ≡ false
 less_at true c d h held events rest e one more less = one ∙ (or_parts c d h).1
-less_at false c d h held events rest e one more less = more ∙ both_false c (held rest) (or_parts c d h).0 less
+less_at false c d h held events rest e one more less = more ∙ or_from c (held rest) (or_parts c d h).0 less
 
 pub held_less : (events : List Event) (x y : Id) → is_held events y ≡ false → is_held (without events x) y ≡ false
 held_less [] x y h = refl
@@ -98,7 +86,7 @@ module _ (limit next : ℕ) (entries after : Entries) (number number' : Id → O
     listed = record {
       ordered = ordered;
       below = subst (λ (es : Entries). AllByRecursion (λ k. k < next + 1) (keys_of es)) (sym same) (below_more entries next w pool.listed.below);
-      apart = subst AreApart (sym (ap kept_events same ∙ kept-push entries next w)) (apart_more (kept_events entries) w.event pool.listed.apart new);
+      apart = subst AreApart (sym (ap kept_events same ∙ kept-push entries next w)) (apart-wait (kept_events entries) w.event pool.listed.apart new);
     };
     indexed = indexed;
   }

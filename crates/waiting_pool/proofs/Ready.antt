@@ -16,7 +16,7 @@ held_found_at : (b : Bool) (w e : Event) (found : Option Event) (x : Id) → con
 held_found_at true w e found x q h more = let same : w ≡ e = cc in ap (λ (z : Event). id_eq x z.id) (sym same) ∙ h
 held_found_at false w e found x q h more = more q
 
-held_found : (held events : List Event) (e : Event) (x : Id) → find (is_ready held) events ≡ Some e → is_held events x ≡ false → id_eq x e.id ≡ false
+pub held_found : (held events : List Event) (e : Event) (x : Id) → find (is_ready held) events ≡ Some e → is_held events x ≡ false → id_eq x e.id ≡ false
 held_found held [] e x f h = let no : ⊥ = cc in absurd no
 held_found held (w ∷ events) e x f h =
     let parts = or_parts (id_eq x w.id) (is_held events x) h in

@@ -1,18 +1,8 @@
-use Rattle.std.proofs.Common.{◌≡◌, ℕ, ◌+◌, Bool, true, false, cond, not, ◌&&◌, ◌||◌, List, [], ◌∷◌, position, Option, Some, None, option_map, is_some, refl, sym, ap, ◌∙◌}
-use Rattle.std.specs.List.{list_any}
+use Rattle.std.proofs.Common.{◌≡◌, Bool, true, false, not, ◌&&◌, is_some, refl, sym, ap, ◌∙◌}
 use Rattle.ew_model.specs.Ids.{id_eq, name_eq}
 use Rattle.ew_model.specs.Ancestors.{ids_of, is_held}
-use Rattle.ew_model.proofs.TextLaws.{position-cons}
 use Rattle.replica.proofs.awaiting.is_missing.Goals as goal
-
-is_some_at : (b : Bool) (o : Option ℕ) → is_some (cond b (Some 0) (option_map (λ i. 1 + i) o)) ≡ (b || is_some o)
-is_some_at true o = refl
-is_some_at false None = refl
-is_some_at false (Some i) = refl
-
-is_some-position : {X : Type 0} (p : X → Bool) (xs : List X) → is_some (position p xs) ≡ list_any p xs
-is_some-position p [] = refl
-is_some-position p (x ∷ xs) = ap is_some (position-cons p x xs) ∙ is_some_at (p x) (position p xs) ∙ ap (λ b. p x || b) (is_some-position p xs)
+use Rattle.ew_model.proofs.ListParts.{is_some-position}
 
 twice_not : (b : Bool) → b ≡ not (not b)
 twice_not true = refl

@@ -1,13 +1,14 @@
 use Rattle.std.proofs.Common.{take, ◌∙◌}
 use Rattle.transform.proofs.Applies.{id_is, op_is, ready}
-use Rattle.transform.proofs.Sides.{there, length_front}
+use Rattle.transform.proofs.Sides.{length_front}
 use Rattle.transform.proofs.apply.apply.Goals as goal
+use Rattle.ew_model.proofs.ListParts.{element_there}
 
 pub insert-requires : goal.insert-requires
 insert-requires g c =
     let now = c.args.graph.now in
     let lv = c.args.lv in
-    let found = there now lv c.requires.within in
+    let found = element_there now lv c.requires.within in
     let e = found.0 in (
       take lv now,
       e,
@@ -21,7 +22,7 @@ pub delete-requires : goal.delete-requires
 delete-requires g c =
     let now = c.args.graph.now in
     let lv = c.args.lv in
-    let found = there now lv c.requires.within in
+    let found = element_there now lv c.requires.within in
     let e = found.0 in (
       take lv now,
       e,

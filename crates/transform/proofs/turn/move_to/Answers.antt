@@ -5,15 +5,15 @@ use Rattle.ew_model.specs.Moves.{after_retreats, after_advances}
 use Rattle.advance_retreat.specs.Standing.{StandsFor}
 use Rattle.transform.specs.Moving.{MayRetreatEach, MayAdvanceEach}
 use Rattle.transform.specs.Reaching.{prepared_behind}
-use Rattle.transform.proofs.Sides.{there}
 use Rattle.transform.proofs.Turning.{downs_of, ups_of, may_retreat, may_advance, arrived, cost}
 use Rattle.transform.proofs.turn.move_to.Goals as goal
+use Rattle.ew_model.proofs.ListParts.{element_there}
 
 pub retreat_all-requires : goal.retreat_all-requires
 retreat_all-requires g c =
     let now = c.args.graph.now in
     let front = take c.args.lv now in
-    let found = there now c.args.lv c.requires.within in
+    let found = element_there now c.args.lv c.requires.within in
     let e = found.0 in
     let downs : c.as_slice.result.now ≡ downs_of front e = c.as_slice.ensures.value ∙ c.in_ok-downs.ensures ∙ ap reverse (c.in_ok-out.ensures.out e found.1) in
     (0, walked_from front 0, prepared_behind front, c.requires.reached.stands, subst (MayRetreatEach (walked_from front 0) (prepared_behind front)) (sym downs) (may_retreat front e c.args.state.now c.requires.reached))
@@ -22,7 +22,7 @@ pub advance_all-requires : goal.advance_all-requires
 advance_all-requires g c =
     let now = c.args.graph.now in
     let front = take c.args.lv now in
-    let found = there now c.args.lv c.requires.within in
+    let found = element_there now c.args.lv c.requires.within in
     let e = found.0 in
     let downs : c.as_slice.result.now ≡ downs_of front e = c.as_slice.ensures.value ∙ c.in_ok-downs.ensures ∙ ap reverse (c.in_ok-out.ensures.out e found.1) in
     let ups : c.as_slice-2.result.now ≡ ups_of front e = c.as_slice-2.ensures.value ∙ c.reverse.ensures.items ∙ ap reverse (c.in_ok-ups.ensures ∙ ap reverse (c.in_ok-out.ensures.into e found.1)) ∙ reverse-reverse (ups_of front e) in
@@ -36,24 +36,24 @@ advance_all-requires g c =
 
 pub returns-in_err-out-clause-most : goal.returns-in_err-out-clause-most
 returns-in_err-out-clause-most g c =
-    let found = there c.args.graph.now c.args.lv c.requires.within in
+    let found = element_there c.args.graph.now c.args.lv c.requires.within in
     omega (arith, cost c.args.graph.now c.args.lv found.0 c.args.state.now found.1 c.requires.reached)
 
 pub returns-in_err-downs-clause-most : goal.returns-in_err-downs-clause-most
 returns-in_err-downs-clause-most g c =
-    let found = there c.args.graph.now c.args.lv c.requires.within in
+    let found = element_there c.args.graph.now c.args.lv c.requires.within in
     omega (arith, cost c.args.graph.now c.args.lv found.0 c.args.state.now found.1 c.requires.reached)
 
 pub returns-in_err-ups-clause-most : goal.returns-in_err-ups-clause-most
 returns-in_err-ups-clause-most g c =
-    let found = there c.args.graph.now c.args.lv c.requires.within in
+    let found = element_there c.args.graph.now c.args.lv c.requires.within in
     omega (arith, cost c.args.graph.now c.args.lv found.0 c.args.state.now found.1 c.requires.reached)
 
 pub returns-in_err-retreat_all-clause-most : goal.returns-in_err-retreat_all-clause-most
 returns-in_err-retreat_all-clause-most g c =
     let now = c.args.graph.now in
     let front = take c.args.lv now in
-    let found = there now c.args.lv c.requires.within in
+    let found = element_there now c.args.lv c.requires.within in
     let downs : c.as_slice.result.now ≡ downs_of front found.0 = c.as_slice.ensures.value ∙ c.in_ok-downs.ensures ∙ ap reverse (c.in_ok-out.ensures.out found.0 found.1) in
     omega (arith, cost now c.args.lv found.0 c.args.state.now found.1 c.requires.reached, ap (length {A = ℕ}) downs, c.retreat_all.ensures.most)
 
@@ -61,7 +61,7 @@ pub returns-in_err-advance_all-clause-most : goal.returns-in_err-advance_all-cla
 returns-in_err-advance_all-clause-most g c =
     let now = c.args.graph.now in
     let front = take c.args.lv now in
-    let found = there now c.args.lv c.requires.within in
+    let found = element_there now c.args.lv c.requires.within in
     let e = found.0 in
     let downs : c.as_slice.result.now ≡ downs_of front e = c.as_slice.ensures.value ∙ c.in_ok-downs.ensures ∙ ap reverse (c.in_ok-out.ensures.out e found.1) in
     let ups : c.as_slice-2.result.now ≡ ups_of front e = c.as_slice-2.ensures.value ∙ c.reverse.ensures.items ∙ ap reverse (c.in_ok-ups.ensures ∙ ap reverse (c.in_ok-out.ensures.into e found.1)) ∙ reverse-reverse (ups_of front e) in
@@ -71,7 +71,7 @@ pub returns-clause-most : goal.returns-clause-most
 returns-clause-most g c =
     let now = c.args.graph.now in
     let front = take c.args.lv now in
-    let found = there now c.args.lv c.requires.within in
+    let found = element_there now c.args.lv c.requires.within in
     let e = found.0 in
     let downs : c.as_slice.result.now ≡ downs_of front e = c.as_slice.ensures.value ∙ c.in_ok-downs.ensures ∙ ap reverse (c.in_ok-out.ensures.out e found.1) in
     let ups : c.as_slice-2.result.now ≡ ups_of front e = c.as_slice-2.ensures.value ∙ c.reverse.ensures.items ∙ ap reverse (c.in_ok-ups.ensures ∙ ap reverse (c.in_ok-out.ensures.into e found.1)) ∙ reverse-reverse (ups_of front e) in
@@ -81,7 +81,7 @@ pub returns-clause-steps : goal.returns-clause-steps
 returns-clause-steps g c =
     let now = c.args.graph.now in
     let front = take c.args.lv now in
-    let found = there now c.args.lv c.requires.within in
+    let found = element_there now c.args.lv c.requires.within in
     let e = found.0 in
     let downs : c.as_slice.result.now ≡ downs_of front e = c.as_slice.ensures.value ∙ c.in_ok-downs.ensures ∙ ap reverse (c.in_ok-out.ensures.out e found.1) in
     let ups : c.as_slice-2.result.now ≡ ups_of front e = c.as_slice-2.ensures.value ∙ c.reverse.ensures.items ∙ ap reverse (c.in_ok-ups.ensures ∙ ap reverse (c.in_ok-out.ensures.into e found.1)) ∙ reverse-reverse (ups_of front e) in

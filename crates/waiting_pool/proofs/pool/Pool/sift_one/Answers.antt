@@ -8,9 +8,10 @@ use Rattle.waiting_pool.specs.declared.waiter.Waiter.{Waiter}
 use Rattle.waiting_pool.specs.Knowing.{is_missed}
 use Rattle.waiting_pool.specs.Places.{same_missing}
 use Rattle.waiting_pool.specs.Waiting.{Waiting, has_id, has_missing}
-use Rattle.waiting_pool.proofs.Notes.{kept_noted, find_passes, not_some, missed-with_missing, fewer-with_missing, missed_found, settled_by, all_pass, some_there, none_there}
+use Rattle.waiting_pool.proofs.Notes.{kept_noted, find_passes, not_some, missed-with_missing, fewer-with_missing, missed_found, settled_by, all_pass, some_there}
 use Rattle.waiting_pool.proofs.pool.Pool.sift_one.Goals as goal
 use Rattle.waiting_pool.proofs.pool.Pool.sift_one.Goals.{After-id-id}
+use Rattle.ew_model.proofs.ListParts.{none_from_is_some}
 
 own : (c : After-id-id) → find (has_id c.id-id.result) c.args.self.now.waiters ≡ Some c.in-Some.waiter.now
 own c = ap (λ (x : Id). find (has_id x) c.args.self.now.waiters) c.id-id.ensures ∙ c.in-Some.ensures.own
@@ -26,7 +27,7 @@ returns-in-None-clause-settled c = λ _. settled_by c.args.graph.now c.args.self
 
 pub returns-then-is_none-clause-settled : goal.returns-then-is_none-clause-settled
 returns-then-is_none-clause-settled c =
-    let none = none_there c.has-missing.result (c.is_none.ensures ∙ ap not c.if-is_none.true) in
+    let none = none_from_is_some c.has-missing.result (c.is_none.ensures ∙ ap not c.if-is_none.true) in
     λ _. settled_by c.args.graph.now c.args.self.now.waiters (Some c.in-Some.waiter.now) c.requires c.in-Some.ensures.first
     (all_pass (is_held c.args.graph.now) c.in-Some.waiter.now.event.parents (ap (first_unknown c.args.graph.now) (sym c.as_slice.ensures) ∙ sym c.has-missing.ensures ∙ none))
 
