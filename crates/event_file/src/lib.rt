@@ -14,4 +14,3 @@ mod writing;
 pub use fault::{FileFault, RecordFault};
 pub use reading::decode;
 pub use writing::encode;
-
