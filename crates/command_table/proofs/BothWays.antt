@@ -14,7 +14,8 @@ use Rattle.ew_model.proofs.GoodLaws.{equal_sets_agree}
 use Rattle.ew_outside.specs.Files.{Files}
 use Rattle.command_table.specs.MergeLaws.{MergesAgree, HoldsBytes, command_answer}
 use Rattle.command_table.specs.Table.{Text, content, merge, Answer, prints, open_file, over_events, show_reply}
-use Rattle.command_table.proofs.MergedFiles.{Opens, opened_is, Done, is_done, good_of, IsStorable, storable, merged_storable, opens_once, opened_new, opens_new, other_stays}
+use Rattle.command_table.proofs.MergedFiles.{Opens, opened_is, Done, is_done, IsStorable, storable, merged_storable, opens_once, opened_new, opens_new, other_stays}
+use Rattle.replica.proofs.Beginnings.{good_from_none_bad}
 
 -- the elements of a history that took in another, and of the other after it took in that one
 same_both : (xs ys one other : List Event) → SameElements one (xs ++ ys) → SameElements other (ys ++ one) → SameElements one other
@@ -53,7 +54,7 @@ module _ (limits : LimitNumbers) (numbers : AreLimits limits) (files : Files) (o
       let sets : SameElements xs last =
       same_both d.events d.others xs last (subst (λ (l : List Event). SameElements l (d.events ++ d.others)) (sym xs_is) d.merged.whole)
       (subst (λ (l : List Event). SameElements last (l ++ xs)) events_is e.merged.whole) in
-      let texts : text_of xs ≡ text_of last = (equal_sets_agree xs last (good_of xs e.second.good) t.0 sets).whole in
+      let texts : text_of xs ≡ text_of last = (equal_sets_agree xs last (good_from_none_bad xs e.second.good) t.0 sets).whole in
       record {
         text = encode_utf8_all (text_of xs);
         first = ap (over_events (show_reply content)) (opened_is one limits back.files xs kept);

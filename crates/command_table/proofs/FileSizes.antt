@@ -15,6 +15,7 @@ use Rattle.ew_model.specs.Names.{is_name, is_name_byte, begins_with_dash}
 use Rattle.ew_model.specs.Sound.{AreSound}
 use Rattle.ew_model.specs.File.{four_bytes, name_bytes, with_agent, agents_of, op_bytes, record_bytes, file_content, file_of, are_writable_after, IsWritable}
 use Rattle.ew_model.specs.Limits.{most_file_bytes}
+use Rattle.ew_model.proofs.FileEvents.{agents_few_from}
 
 four-long : (n : ℕ) → length (four_bytes n) ≡ 4
 four-long n = refl
@@ -36,14 +37,6 @@ name_short name h =
 names_length : (agents : List (List ℕ)) → AllByRecursion (λ name. length name ≤ 32) agents → length (flat_map name_bytes agents) ≤ 33 * length agents
 names_length [] h = omega arith
 names_length (name ∷ agents) h = omega (arith, length-append (name_bytes name) (flat_map name_bytes agents), h.0, names_length agents h.1)
-
-one_agent : (b : Bool) (agents : List (List ℕ)) (name : List ℕ) → length (if b then agents else agents ++ name ∷ []) ≤ length agents + 1
-one_agent true agents name = omega arith
-one_agent false agents name = omega (arith, length-append agents (name ∷ []))
-
-agents_few : (agents : List (List ℕ)) (events : List Event) → length (fold with_agent agents events) ≤ length agents + length events
-agents_few agents [] = omega arith
-agents_few agents (e ∷ events) = omega (arith, agents_few (with_agent agents e) events, one_agent (list_any (name_eq e.id.agent) agents) agents e.id.agent)
 
 all_push : (P : List ℕ → Type 0) (xs : List (List ℕ)) (x : List ℕ) → AllByRecursion P xs → P x → AllByRecursion P (xs ++ x ∷ [])
 all_push P [] x h p = (p, tt)
@@ -100,7 +93,7 @@ content_length history sound writable =
     let names = flat_map name_bytes agents in
     let records = flat_map (record_bytes history) history in
     let all : length (file_content history) ≡ 16 + (length names + length records) = simp length-append (omega (arith, four-long (length agents), four-long (length history))) in
-    omega (arith, all, names_length agents (agents_short [] history tt sound), agents_few [] history, records_length history history (few_parents [] history writable.each))
+    omega (arith, all, names_length agents (agents_short [] history tt sound), agents_few_from [] history, records_length history history (few_parents [] history writable.each))
 
 pub file_length : (history : List Event) → AreSound history → IsWritable history → length (file_of history) ≤ most_file_bytes (length history)
 unfolding file_of

@@ -22,7 +22,7 @@ use Rattle.ew_model.proofs.SetLaws.{among_joined}
 use Rattle.ew_model.proofs.SortingLaws.{all_at, all_from}
 use Rattle.ew_model.proofs.IdLaws.{names_equal}
 use Rattle.ew_model.proofs.FirstBadLaws.{good_has_no_bad}
-use Rattle.ew_model.proofs.FileReading.{file_take, file_again}
+use Rattle.ew_model.proofs.FileReading.{file_take, file_again, file_is}
 use Rattle.ew_model.proofs.LimitsKept.{arrivals_keep}
 use Rattle.ew_model.proofs.WritableLaws.{good_is_writable}
 use Rattle.ew_outside.specs.Files.{Files}
@@ -34,6 +34,7 @@ use Rattle.command_table.specs.Text.{too_many_events}
 use Rattle.ew_model.proofs.MergeByAnswers.{merge_unless_clash}
 use Rattle.command_table.proofs.Merges.{none_ends, appended_none}
 use Rattle.command_table.proofs.FileSizes.{file_length}
+use Rattle.replica.proofs.Beginnings.{good_from_none_bad}
 
 -- ---- a file that is opened
 
@@ -132,9 +133,6 @@ pub record Done (limits : LimitNumbers) (files : Files) (name other : Text) (t :
   pub out : t.out ≡ outcome_text (length events) (arrive limits events [] others)
   pub stored : (t.files ≡ insert files name (file_of (arrive limits events [] others).desk.held)) ⊎ (((arrive limits events [] others).desk.held ≡ events) × (t.files ≡ files))
 
-pub good_of : (events : List Event) → first_bad events ≡ None → IsGood events
-good_of events h = (good_has_no_bad events).1 h
-
 pub is_done : (limits : LimitNumbers) (files : Files) (name other : Text) (t : Answer) → t ≡ answer_of (over_both (merge_reply name limits) (open_file name limits files) (open_file other limits files)) files → t.status ≡ 0
     → Done limits files name other t
 is_done limits files name other t is zero =
@@ -150,7 +148,7 @@ is_done limits files name other t is zero =
     let clear = clash_none (find (λ (p : Id × Refusal). is_clash p.1) refusals) open_room two.2 in
     let room = full_none full (too_many_events limits.events) kept clear.1 in
     let none = none_ends o.answers clear.0 room in
-    let whole = merge_unless_clash limits one.0 two.0 (good_of one.0 one.1.good) (good_of two.0 two.1.good) none in
+    let whole = merge_unless_clash limits one.0 two.0 (good_from_none_bad one.0 one.1.good) (good_from_none_bad two.0 two.1.good) none in
     let same : reply ≡ kept =
     ap (over_both (merge_reply name limits) (open_file name limits files)) (opened_is other limits files two.0 two.1)
     ∙ ap (λ (x : Opened). over_both (merge_reply name limits) x (opened two.0)) (opened_is name limits files one.0 one.1)
@@ -188,21 +186,18 @@ storable limits files name events all o =
 same_some : (xs ys : List ℕ) → Some xs ≡ Some ys → xs ≡ ys
 same_some xs ys e = cc
 
-same_file : (xs ys : List Event) → IsFile xs ≡ IsFile ys → xs ≡ ys
-same_file xs ys e = cc
-
 -- one map and name are opened as one list
 pub opens_once : (limits : LimitNumbers) (files more : Files) (name : Text) (xs ys : List Event) → get more name ≡ get files name → Opens limits files name xs → Opens limits more name ys → ys ≡ xs
 opens_once limits files more name xs ys same o p =
     let bytes : p.bytes ≡ o.bytes = same_some p.bytes o.bytes (sym p.here ∙ same ∙ o.here) in
-    same_file ys xs (sym p.read ∙ ap (file_finding limits.events) bytes ∙ o.read)
+    file_is ys xs (sym p.read ∙ ap (file_finding limits.events) bytes ∙ o.read)
 
 -- the history after a merge can be held by a file
 pub merged_storable : (limits : LimitNumbers) (events others : List Event) → first_bad events ≡ None → IsStorable limits events → IsStorable limits others → IsMerged events others (arrive limits events [] others)
     → IsGood (arrive limits events [] others).desk.held × IsStorable limits (arrive limits events [] others).desk.held
 merged_storable limits events others good one two m =
     let held = (arrive limits events [] others).desk.held in
-    let before : IsKept limits events [] = record { orderly = record { good = good_of events good; fresh = tt; apart = tt }; few = one.few; few_wait = omega arith } in
+    let before : IsKept limits events [] = record { orderly = record { good = good_from_none_bad events good; fresh = tt; apart = tt }; few = one.few; few_wait = omega arith } in
     let kept = arrivals_keep limits events [] others before in (
       kept.orderly.good,
       record {
@@ -232,7 +227,7 @@ opened_new limits files name other t d xs numbers one two o =
     (λ stored.
     let s = merged_storable limits d.events d.others d.first.good one two d.merged in
     let bytes : o.bytes ≡ file_of held = same_some o.bytes (file_of held) (sym o.here ∙ ap (λ (m : Files). get m name) stored ∙ stored_here files name (file_of held)) in
-    same_file xs held (sym o.read ∙ ap (file_finding limits.events) bytes ∙ read_again limits held numbers s.0 s.1))
+    file_is xs held (sym o.read ∙ ap (file_finding limits.events) bytes ∙ read_again limits held numbers s.0 s.1))
     (λ same. opens_once limits files t.files name d.events xs (ap (λ (m : Files). get m name) same.1) d.first o ∙ sym same.0)
     d.stored
 
