@@ -1,0 +1,611 @@
+"""What .ci/second runs: the program and the second reader side by side. Words: the repository, the program, an empty folder."""
+
+import hashlib
+import importlib.util
+import itertools
+import os
+import pathlib
+import re
+import subprocess
+import sys
+import traceback
+from collections import Counter
+
+ROOT, PROGRAM, FOLDER = map(pathlib.Path, sys.argv[1:])
+READER_FILE = ROOT / "docs" / "second_reader.py"
+READER_COMMAND = [sys.executable, "-I", "-S", str(READER_FILE)]
+SEED = 2718281828
+
+spec = importlib.util.spec_from_file_location("second_reader", READER_FILE)
+reader = importlib.util.module_from_spec(spec)
+sys.dont_write_bytecode = True
+spec.loader.exec_module(reader)
+Id, Op, Event = reader.Id, reader.Op, reader.Event
+
+
+class Draws:
+    """Numbers from a seed: the same on every machine."""
+
+    def __init__(self, seed):
+        self.last = seed
+
+    def below(self, bound):
+        self.last = (self.last * 6364136223846793005 + 1442695040888963407) % 2**64
+        return (self.last >> 33) % bound
+
+    def one_of(self, items):
+        return items[self.below(len(items))]
+
+
+def put(path, data):
+    """Writes a file anew: never through a link."""
+    if path.is_symlink() or path.exists():
+        path.unlink()
+    path.write_bytes(data)
+
+
+def contents(folder):
+    """What lies in a folder: each name with what is there."""
+    found = {}
+    for path in sorted(folder.rglob("*")):
+        name = str(path.relative_to(folder))
+        if path.is_symlink():
+            found[name] = "link to " + os.readlink(path)
+        elif path.is_dir():
+            found[name] = "folder"
+        else:
+            size = path.stat().st_size
+            found[name] = path.read_bytes() if size < 10**8 else f"{size} bytes"
+    return found
+
+
+class Beside:
+    """Two folders that are alike. Each command line is run in both: by the program in one, by the reader in the other."""
+
+    def __init__(self):
+        self.sides = [
+            (FOLDER / "first", [str(PROGRAM)]),
+            (FOLDER / "second", READER_COMMAND),
+        ]
+        for folder, _ in self.sides:
+            folder.mkdir()
+        self.parts = Counter()
+        self.part = ""
+        self.failing = 0
+        self.texts = Counter()
+
+    def fork_reader(self):
+        """From now on the reader is run in forks of this process: the same text, read once."""
+        self.sides[1] = (self.sides[1][0], None)
+
+    def files(self, **named):
+        for name, data in named.items():
+            self.file(name, data)
+
+    def file(self, name, data):
+        for folder, _ in self.sides:
+            put(folder / name, data)
+
+    def copy(self, name, target):
+        for folder, _ in self.sides:
+            put(folder / target, (folder / name).read_bytes())
+
+    def clear(self):
+        for folder, _ in self.sides:
+            for path in sorted(folder.rglob("*"), reverse=True):
+                path.rmdir() if path.is_dir() and not path.is_symlink() else path.unlink()
+
+    def run(self, *words, input=b"", out=None, err=None):
+        """Compares one command line. Gives the status and the output of the program."""
+        if isinstance(input, bytes):
+            put(FOLDER / "input", input)
+        path = FOLDER / "input" if isinstance(input, bytes) else input
+        seen = [self.one_side(side, words, path, out, err) for side in self.sides]
+        self.parts[self.part] += 1
+        status, output, text, _ = seen[0]
+        self.texts[status, shape_of(text)] += 1
+        if seen[0] != seen[1]:
+            self.fail(words, input, seen)
+        return status, output
+
+    def one_side(self, side, words, path, out, err):
+        folder, command = side
+        source = os.open(path, os.O_RDONLY)
+        with open(FOLDER / "out", "wb") as got_out, open(FOLDER / "err", "wb") as got_err:
+            streams = [source, (out or got_out).fileno(), (err or got_err).fileno()]
+            status = run_command(command + list(words), folder, streams) if command else run_reader(words, folder, streams)
+        os.close(source)
+        return status, (FOLDER / "out").read_bytes(), (FOLDER / "err").read_bytes(), contents(folder)
+
+    def fail(self, words, input, seen):
+        self.failing += 1
+        shown = input[:80] if isinstance(input, bytes) else input
+        print(f"{self.part}: egw {' '.join(map(repr, words))} over the input {shown}: another answer", flush=True)
+        for what, one, other in zip(("status", "output", "error text"), seen[0], seen[1]):
+            if one != other:
+                print(f"  {what}: the program {str(one)[:200]}, the second reader {str(other)[:200]}")
+        for name in sorted(seen[0][3].keys() | seen[1][3].keys()):
+            if seen[0][3].get(name) != seen[1][3].get(name):
+                print(f"  the file {name} is another")
+
+    def wrong(self, text):
+        self.failing += 1
+        print(f"{self.part}: {text}", flush=True)
+
+
+def run_command(command, folder, streams):
+    source, out, err = streams
+    return subprocess.run(command, cwd=folder, stdin=source, stdout=out, stderr=err).returncode
+
+
+def run_reader(words, folder, streams):
+    """The second reader in a process of its own, which has read its text already."""
+    child = os.fork()
+    if child:
+        status = os.waitpid(child, 0)[1]
+        return os.WEXITSTATUS(status) if os.WIFEXITED(status) else -os.WTERMSIG(status)
+    try:
+        os.chdir(folder)
+        for number, stream in enumerate(streams):
+            os.dup2(stream, number)
+        sys.argv = ["second_reader.py", *map(os.fsdecode, words)]
+        os._exit(reader.main())
+    except BaseException:
+        traceback.print_exc()
+        os._exit(101)
+
+
+def shape_of(text):
+    """An error text without its names and numbers."""
+    text = re.sub(rb"^egw: (?!line|input|file |no file|clash|more than|\d+ heads|shelf|source|sink)[^:]*: ", b"egw: F: ", text)
+    text = re.sub(rb"(no file|file|clash) [^\n]*?( is there)?\n", rb"\1 NAME\2\n", text)
+    return re.sub(rb"[0-9a-f]{64}|[0-9]+", b"N", text).decode(errors="replace").strip()
+
+
+LISTINGS = ("cat", "heads", "log", "check")
+
+
+def list_all(beside, name):
+    return [beside.run(listing, name) for listing in LISTINGS]
+
+
+# The examples
+
+
+def examples(beside):
+    beside.part = "examples"
+    paths = sorted((ROOT / "examples").rglob("*.egw"))
+    for path in paths:
+        beside.file(path.name, path.read_bytes())
+        list_all(beside, path.name)
+        beside.run("merge", path.name, path.name)
+        beside.run("merge", path.name, "letter.egw")
+        beside.file(path.name, path.read_bytes())
+    for line in (ROOT / "examples" / "histories" / "merged").read_text().splitlines():
+        one, other = (name + ".egw" for name in line.split()[:2])
+        beside.copy(one, "whole")
+        beside.run("merge", "whole", other)
+        list_all(beside, "whole")
+    for path in sorted((ROOT / "examples").rglob("*.script")):
+        beside.run("new", path.stem)
+        beside.run("edit", path.stem, "--agent", "ada", input=path.read_bytes())
+        list_all(beside, path.stem)
+    beside.clear()
+    return len(paths)
+
+
+# Histories of several agents who edit apart and merge
+
+
+def draw_text(draws):
+    letters = "abcdefghijklmnopqrstuvwxyz     \n\\" + "äß√𝄞\u0000\r\U0010ffff"
+    return "".join(draws.one_of(letters) for _ in range(1 + draws.below(8)))
+
+
+def draw_script(draws, length):
+    """A script of a few lines that are in range."""
+    lines = []
+    for _ in range(1 + draws.below(3)):
+        if length and draws.below(3) == 0:
+            at = draws.below(length)
+            count = draws.below(min(4, length - at) + 1)
+            lines.append(f"del {at} {count}")
+            length -= count
+        else:
+            text = draw_text(draws)
+            escaped = text.replace("\\", "\\\\").replace("\n", "\\n")
+            lines.append(f"ins {draws.below(length + 1)} {escaped}")
+            length += len(text)
+    return ("\n".join(lines) + draws.one_of(["", "\n", "\n\n"])).encode()
+
+
+def edit_once(beside, draws, name, agent):
+    text = beside.run("cat", name)[1].decode()
+    beside.run("edit", name, "--agent", agent, input=draw_script(draws, len(text)))
+
+
+def people(beside, draws):
+    """Three people edit apart, merge now and then, and at the end in all orders."""
+    agents = [draws.one_of(["a", "ab", "b", "B", "0", "_x", "z-9"]) + str(n) for n in range(3)]
+    beside.run("new", "start")
+    if draws.below(2):
+        edit_once(beside, draws, "start", "base")
+    for agent in agents:
+        beside.copy("start", agent)
+    for _ in range(2 + draws.below(3)):
+        for agent in agents:
+            if draws.below(4):
+                edit_once(beside, draws, agent, agent)
+        if draws.below(2):
+            beside.run("merge", draws.one_of(agents), draws.one_of(agents))
+    for agent in agents:
+        list_all(beside, agent)
+    texts = set()
+    for order in itertools.permutations(agents):
+        beside.copy("start", "whole")
+        for agent in order:
+            beside.run("merge", "whole", agent)
+        texts.add(beside.run("cat", "whole"))
+        beside.run("check", "whole")
+    if len(texts) != 1:
+        beside.wrong("the orders of merging came to several texts")
+    beside.run("merge", agents[0], "whole")
+    beside.run("merge", "whole", agents[0])
+    beside.clear()
+    return 4
+
+
+# Event graphs of any form, and files that are damaged
+
+
+def draw_graph(draws, size):
+    """Events with any reduced parents, each behind its agent's last."""
+    history, last = reader.History(), {}
+    while len(history.events) < size:
+        agent = draws.one_of([b"a", b"b", b"c", b"d", b"ab"])
+        parents = {last[agent]} if agent in last else set()
+        for _ in range(draws.below(3)):
+            if history.events:
+                parents.add(draws.one_of(history.events).id)
+        known = history.version(parents)
+        covered = 0
+        for parent in parents:
+            covered |= history.ancestors[history.position[parent]]
+        parents = tuple(sorted(p for p in parents if not covered >> history.position[p] & 1))
+        length = len(history.visible(known))
+        if length and draws.below(4) == 0:
+            op = Op(draws.below(length), None)
+        else:
+            op = Op(draws.below(length + 1), ord(draws.one_of("abcdefghijklmnopqrstuvwxyz")))
+        event = Event(Id(agent, history.count_of(agent)), parents, op)
+        history.append(event)
+        last[agent] = event.id
+    return history.events
+
+
+def graphs(beside, draws):
+    """Two parts of one graph, merged both ways."""
+    events = draw_graph(draws, 3 + draws.below(22))
+    # A part is a set of events with all their ancestors, in the same order.
+    history = reader.History()
+    for event in events:
+        history.append(event)
+    parts = []
+    for _ in range(2):
+        known = history.version({draws.one_of(events).id for _ in range(3)})
+        parts.append([event for position, event in enumerate(events) if known >> position & 1])
+    beside.files(graph=reader.file_of(events), one=reader.file_of(parts[0]), other=reader.file_of(parts[1]))
+    for name in ("graph", "one", "other"):
+        list_all(beside, name)
+    beside.copy("one", "kept")
+    beside.run("merge", "one", "other")
+    beside.run("merge", "other", "kept")
+    beside.run("merge", "one", "graph")
+    texts = {list_all(beside, name)[0] for name in ("one", "graph")}
+    if len(texts) != 1:
+        beside.wrong("two orders of one history came to several texts")
+    beside.clear()
+    return 3
+
+
+def with_digest(content):
+    return content + hashlib.sha256(content).digest()
+
+
+def bad_events(draws, events):
+    """One event changed, so that it may not be good any more, or clash with the one that it was."""
+    place = draws.below(len(events))
+    event = events[place]
+    earlier = sorted(e.id for e in events[:place])
+    choice = draws.below(4)
+    if choice == 0:
+        event = event._replace(op=Op(event.op.at + draws.below(40), event.op.ch))
+    elif choice == 1:
+        event = event._replace(parents=tuple(sorted({draws.one_of(earlier) for _ in range(3)} if earlier else ())))
+    elif choice == 2:
+        event = event._replace(id=Id(event.id.agent, event.id.seq + draws.below(3)))
+    else:
+        event = event._replace(op=Op(event.op.at, 65) if event.op.ch is not None else Op(event.op.at, None))
+    changed = events[:place] + [event] + events[place + 1 :]
+    ids = [e.id for e in changed]
+    held = set()
+    for e in changed:
+        if not held.issuperset(e.parents):
+            return None
+        held.add(e.id)
+    return changed if len(set(ids)) == len(ids) else None
+
+
+def damaged(beside, draws):
+    """One file in which something is wrong, or perhaps nothing; and a good one to merge it with."""
+    events = draw_graph(draws, 2 + draws.below(10))
+    good = reader.file_of(events)
+    content = bytearray(good[:-32])
+    choice = draws.below(10)
+    if choice == 0:
+        data = good[: draws.below(len(good))]
+    elif choice == 1:
+        data = bytearray(good)
+        data[draws.below(len(data))] ^= 1 << draws.below(8)
+    elif choice == 2:
+        data = with_digest(content[: 16 + draws.below(len(content) - 15)])
+    elif choice == 3:
+        data = with_digest(content + bytes(1 + draws.below(5)))
+    elif choice < 7:
+        place = 8 + draws.below(len(content) - 8)
+        content[place] = draws.one_of([0, 1, 2, 3, 16, 17, 33, 45, 216, 255, content[place] ^ 1])
+        data = with_digest(content)
+    else:
+        changed = bad_events(draws, events)
+        data = good if changed is None else reader.file_of(changed)
+    beside.files(good=good, bad=bytes(data))
+    list_all(beside, "bad")
+    beside.run("edit", "bad", "--agent", "a", input=b"ins 0 x")
+    beside.run("merge", "good", "bad")
+    beside.run("merge", "bad", "good")
+    beside.clear()
+    return 1
+
+
+def record(agent, seq, parents, kind, at, ch=None):
+    numbers = [agent, seq], parents, [at] + ([] if ch is None else [ch])
+    spelled = [b"".join(n.to_bytes(4, "little") for n in part) for part in numbers]
+    return spelled[0] + bytes([len(parents)]) + spelled[1] + bytes([kind]) + spelled[2]
+
+
+def by_hand(beside):
+    """A file for each fault of a field, and the rows of docs/FORMATS.md."""
+    beside.part = "files by hand"
+
+    def content(agents, records, count=None):
+        names = b"".join(bytes([len(name)]) + name for name in agents)
+        numbers = [len(agents).to_bytes(4, "little"), (len(records) if count is None else count).to_bytes(4, "little")]
+        return b"EGWFILE\x01" + numbers[0] + names + numbers[1] + b"".join(records)
+
+    first, second = record(0, 0, [], 0, 0, 97), record(0, 1, [0], 0, 1, 98)
+    other = record(1, 0, [], 0, 0, 99)
+    files = [
+        content([], []),
+        content([b""], []),
+        content([b"a" * 33], []),
+        content([b"a" * 32], [first]),
+        content([b"-a"], [first]),
+        content([b"a b"], [first]),
+        content([b"a", b"a"], [first, other]),
+        content([b"b", b"a"], [first, other]),
+        content([b"a"], [other]),
+        content([b"a", b"b"], [other, first]),
+        content([b"a", b"b"], [first]),
+        content([b"a", b"b"], [first]) + b"\0",
+        content([b"a"], [first, first]),
+        content([b"a"], [first, record(0, 1, [0] * 17, 0, 1, 98)]),
+        content([b"a"], [first, record(0, 1, [1], 0, 1, 98)]),
+        content([b"a"], [first, record(0, 1, [0, 0], 0, 1, 98)]),
+        content([b"b", b"a"], [first, other, record(0, 1, [0, 1], 0, 1, 98)]),
+        content([b"b", b"a"], [first, other, record(0, 1, [1, 0], 0, 2, 98)]),
+        content([b"a"], [first, record(0, 1, [0], 2, 1, 98)]),
+        content([b"a"], [record(0, 0, [], 0, 0, 0xD800)]),
+        content([b"a"], [record(0, 0, [], 0, 0, 0xDFFF)]),
+        content([b"a"], [record(0, 0, [], 0, 0, 0xE000)]),
+        content([b"a"], [record(0, 0, [], 0, 0, 0x10FFFF)]),
+        content([b"a"], [record(0, 0, [], 0, 0, 0x110000)]),
+        content([b"a"], [record(0, 0, [], 1, 0)]),
+        content([b"a"], [record(0, 0, [], 0, 1, 97)]),
+        content([b"a"], [record(0, 1, [], 0, 0, 97)]),
+        content([b"a"], [record(0, 4294967295, [], 0, 4294967295, 97)]),
+        content([b"a"], [first, second, record(0, 2, [0, 1], 0, 0, 97)]),
+        content([b"a", b"b"], [first, second, record(1, 0, [0, 1], 0, 9, 97)]),
+        content([b"a", b"b"], [first, second, record(1, 1, [0], 0, 9, 97)]),
+        content([b"a"], [first], count=1_000_000),
+        content([b"a"], [first], count=1_000_001),
+        content([b"a"], [first, second])[:8] + b"\xff\xff\xff\xff",
+        content([b"a"], [first, second])[:-1],
+    ]
+    for number, data in enumerate(files):
+        name = f"file{number}"
+        beside.file(name, with_digest(data))
+        list_all(beside, name)
+        beside.clear()
+    good = with_digest(content([b"a"], [first, second]))
+    for data in (b"", good[:47], good[:48], good[:-1], good + b"\0", b"EGWFILF" + good[7:], b"EGWFILE\x02" + good[8:]):
+        beside.file("bytes", data)
+        list_all(beside, "bytes")
+    beside.clear()
+    return len(files) + 7 + page_rows(beside)
+
+
+def page_rows(beside):
+    """The rows of the page: what each says of the text and the cuts."""
+    page = (ROOT / "docs" / "FORMATS.md").read_text()
+    rows = re.findall(r"^\| (`.*) \| `(\w+)` \| ([0-9, ]+) \|$", page, re.MULTILINE)
+    if not rows:
+        beside.wrong("docs/FORMATS.md has no rows")
+    for lines, text, cuts in rows:
+        events = [event_of(line) for line in re.findall(r"`([^`]*)`", lines)]
+        beside.file("row", reader.file_of(events))
+        answers = list_all(beside, "row")
+        if answers[0] != (0, text.encode()) or f"cuts {len(cuts.split(', '))}\n" not in answers[3][1].decode():
+            beside.wrong(f"the row with the text {text} of docs/FORMATS.md is another")
+    beside.clear()
+    return len(rows)
+
+
+def event_of(line):
+    """The event of a line as `log` prints it."""
+
+    def id_of(text):
+        agent, seq = text.split(":")
+        return Id(agent.encode(), int(seq))
+
+    id, parents, kind, at, *ch = line.split(" ")
+    known = () if parents == "root" else tuple(id_of(parent) for parent in parents.split(","))
+    return Event(id_of(id), known, Op(int(at), ord(ch[0]) if kind == "ins" else None))
+
+
+# Scripts with bad lines
+
+
+LINES = [b"", b"ins 0 x", b"ins 0 ", b"ins 0", b"ins  0 x", b" ins 0 x", b"ins 0  x ", b"ins 00 x", b"ins 1 \\n\\\\", b"ins 0 \\", b"ins 0 a\\t",
+         b"ins 0 a\\\\\\n", b"ins 4 x", b"ins 4 ", b"ins 3 x", b"ins +1 x", b"ins -1 x", b"ins 4294967295 x", b"ins 4294967296 x", b"ins 1\tx",
+         b"ins 18446744073709551616 x", b"ins " + b"9" * 5000 + b" x", b"ins 0 \xc3\xa4\xf0\x9d\x84\x9e", b"ins 0 \xc3", b"ins 0 \xed\xa0\x80",
+         b"ins 0 \xc0\x80", b"ins 0 \xf4\x90\x80\x80", b"ins 0 a\rb\0c", b"ins 0 x\r", b"INS 0 x", b"ins x 0", b"del 0 1", b"del 0 0", b"del 3 0", b"del 4 0",
+         b"del 2 1", b"del 2 2", b"del 0 4", b"del 0 3", b"del 0", b"del 0 ", b"del 0 1 ", b"del 0  1", b"del 01 1", b"del 0 01", b"del 0 4294967295",
+         b"del 4294967295 4294967295", b"del 0 4294967296", b"del 0 -1", b"del 0 1\r", b"del a 1", b"dele 0 1", b"del", b"ins", b"x", b" ", b"\xff",
+         b"\xef\xbb\xbfins 0 x", "del ٣ ٤".encode(), "ins ١ x".encode()]
+
+
+def scripts(beside, draws):
+    beside.part = "scripts"
+    beside.run("new", "text")
+    beside.run("edit", "text", "--agent", "a", input=b"ins 0 abc")
+    inputs = LINES + [line + b"\n" for line in LINES] + [b"ins 0 y\n" + line + b"\n" for line in LINES] + [b"\n\n" + line + b"\n\nnonsense" for line in LINES]
+    for _ in range(200):
+        line = bytearray(draws.one_of(LINES))
+        if line:
+            line[draws.below(len(line))] = draws.one_of(b"0 \\n1\n-x9")
+        inputs.append(b"\n".join([draws.one_of(LINES), bytes(line), draws.one_of(LINES)]))
+    beside.copy("text", "kept")
+    for script in inputs:
+        beside.copy("kept", "text")
+        beside.run("edit", "text", "--agent", "b", input=script)
+    beside.run("log", "text")
+    beside.clear()
+    return len(inputs)
+
+
+# Lines of words
+
+
+WORDS = ["new", "edit", "cat", "heads", "log", "check", "merge", "replay", "F", "F", "F", "G", "--agent", "--agent", "--agent=a", "--agent=", "--agent==a", "a",
+         "-", "--", "--", "", "-h", "--help", "help", "-V", "--version", "--at", "-F", "--agents", "--agen", "-agent", "---", "--=", "a" * 32, "a" * 33, "-1", "ä", "-ä", "=", "a b"]
+TAKEN = [["edit", "F", "--agent", "a"], ["edit", "--agent", "a", "F"], ["edit", "--agent=a", "--", "F"], ["edit", "F", "--agent=a"], ["edit", "--agent", "a", "--", "-F"],
+         ["edit", "F", "--", "--agent", "a"], ["edit", "F", "--agent", "--", "a"], ["edit", "F", "--agent", "a", "--agent", "a"], ["edit", "F", "--agent", "a", "--agent=a"],
+         ["edit", "--agent", "--agent", "a", "F"], ["edit", "F", "--agent", "-"], ["edit", "F", "--agent", ""], ["edit", "F", "--agent", "a", "--"], ["edit", "--", "F"],
+         ["cat", "--", "F"], ["cat", "--", "--"], ["cat", "F", "--"], ["cat", "-"], ["cat", ""], ["cat", "--", "-F"], ["cat", "-F"], ["merge", "F", "--", "G"], ["merge", "--", "F", "G"],
+         ["merge", "F", "G", "--"], ["merge", "F"], ["merge", "F", "G", "H"], ["merge", "F", "F"], ["merge", "F", "--agent", "G"], ["cat", "F", "G"], ["--", "cat", "F"], [],
+         ["help"], ["help", "cat"], ["cat", "help"], ["cat", "--help"], ["cat", "F", "--help"], ["--help"], ["-h"], ["cat", "F", "-h"], ["edit", "F", "--agent", "-h"],
+         ["edit", "F", "--agent", "a" * 32], ["edit", "F", "--agent", "a" * 33], ["edit", "F", "--agent", "a.b"], ["edit", "F", "--agent", "_-"], ["new", "G"], ["new", "F"],
+         ["Cat", "F"], ["cat ", "F"], ["heads", "G"], ["log", "G"], ["check", "G"], ["merge", "F", "nothing"], ["merge", "nothing", "F"], ["cat", "F", "--at", "a:0"], ["replay", "F"],
+         ["ask", "F"], ["serve", "F"], ["net"], ["make", "--seed", "1", "--count", "1"], [b"cat", b"\xff"], [b"\xff", b"F"]]
+
+
+def words(beside, draws):
+    beside.part = "words"
+    beside.run("new", "F")
+    beside.run("edit", "F", "--agent", "a", input=b"ins 0 abc")
+    beside.copy("F", "kept")
+    lines = TAKEN + [[draws.one_of(WORDS[:8])] + [draws.one_of(WORDS) for _ in range(draws.below(6))] for _ in range(400)]
+    lines += [["edit"] + [draws.one_of(["F", "--agent", "--agent=a", "a", "--", "-", "-x", ""]) for _ in range(1 + draws.below(5))] for _ in range(200)]
+    for line in lines:
+        beside.run(*line, input=b"ins 0 x")
+    beside.clear()
+    return len(lines)
+
+
+# Limits, and what the system refuses
+
+
+def limits(beside):
+    beside.part = "limits"
+    beside.run("new", "F")
+    for agents in (16, 17):
+        events = [Event(Id(b"p%d" % n, 0), (), Op(0, 97 + n)) for n in range(agents)]
+        beside.file("heads", reader.file_of(events))
+        for script in (b"ins 0 x", b"ins 0 ", b"del 0 1", b"del 0 0", b"ins 99 x", b"ins 99 "):
+            beside.run("edit", "heads", "--agent", "a", input=script)
+    beside.run("edit", "F", "--agent", "a", input=b"\n" * reader.MOST_INPUT)
+    beside.run("edit", "F", "--agent", "a", input=b"\n" * (reader.MOST_INPUT + 1))
+    beside.run("edit", "F", "--agent", "a", input=b"ins 0 " + b"x" * (reader.MOST_EVENTS + 1))
+    for size in (reader.MOST_FILE, reader.MOST_FILE + 1):
+        for folder, _ in beside.sides:
+            with open(folder / "large", "wb") as file:
+                file.truncate(size)
+        beside.run("cat", "large")
+        beside.run("new", "large")
+    beside.clear()
+
+
+def refusals(beside):
+    beside.part = "what the system refuses"
+    beside.run("new", "F")
+    beside.run("edit", "F", "--agent", "a", input=b"ins 0 abc")
+    for folder, _ in beside.sides:
+        (folder / "folder").mkdir()
+        (folder / "link").symlink_to("F")
+        (folder / "dangling").symlink_to("nothing")
+        (folder / "loop").symlink_to("loop")
+    for name in ("folder", "F/x", "folder/x", "nowhere/x", "loop", "dangling", "link", "n" * 250, "n" * 255, "n" * 256, "."):
+        beside.run("cat", name)
+        beside.run("edit", name, "--agent", "a", input=b"ins 0 x")
+        beside.run("merge", name, "F")
+        beside.run("merge", "F", name)
+        beside.run("new", name)
+    beside.file("F.0.new", b"another file")
+    beside.run("edit", "F", "--agent", "a", input=b"ins 0 y")
+    with open("/dev/full", "wb") as full:
+        beside.run("cat", "F", out=full)
+        beside.run("new", "unseen", out=full)
+        beside.run("edit", "F", "--agent", "a", input=b"ins 0 z", out=full)
+        beside.run("cat", "nowhere", err=full)
+        beside.run("cat", err=full)
+    beside.run("edit", "F", "--agent", "a", input=FOLDER)
+    beside.run("edit", "nowhere", "--agent", "a", input=FOLDER)
+    beside.run("cat", "F", input=FOLDER)
+    beside.clear()
+
+
+# Each text that a run may give, without its names and numbers, has to come at least once.
+WANTED = [(0, "")] + [(2, reader.USAGE.decode().strip())]
+WANTED += [(3, "egw: no file NAME"), (3, "egw: file NAME is there"), (4, "egw: F: short, N bytes"), (4, "egw: F: not an event file"), (4, "egw: F: version N"), (4, "egw: F: digest N, found N")]
+WANTED += [(4, f"egw: F: byte N: {fault}") for fault in ("cut", "bad name", "name twice", "agent number", "id twice", "parent count", "parent position", "parent order", "kind", "scalar", "trailing bytes", "unused agent")]
+WANTED += [(4, f"egw: F: event N: {fault}") for fault in ("not reduced", "skipped", "out of range, length N")]
+WANTED += [(5, "egw: line N: unreadable"), (5, "egw: line N: out of range, length N"), (5, "egw: clash NAME")]
+WANTED += [(6, f"egw: {what} failed") for what in ("shelf", "source", "sink")]
+WANTED += [(7, "egw: F: more than N bytes"), (7, "egw: F: more than N events"), (7, "egw: input: more than N bytes"), (7, "egw: more than N events"), (7, "egw: N heads, more than N")]
+
+
+def main():
+    beside = Beside()
+    draws = Draws(SEED)
+    files = examples(beside)
+    beside.fork_reader()
+    for part, make, count in (("people", people, 20), ("graphs", graphs, 40), ("damaged files", damaged, 160)):
+        beside.part = part
+        files += sum(make(beside, draws) for _ in range(count))
+    files += by_hand(beside)
+    scripts_run = scripts(beside, draws)
+    lines = words(beside, draws)
+    limits(beside)
+    refusals(beside)
+    beside.part = "texts"
+    for wanted in WANTED:
+        if not beside.texts[wanted]:
+            beside.wrong(f"never seen: status {wanted[0]} with the text {wanted[1]!r}")
+    parts = ", ".join(f"{part} {count}" for part, count in beside.parts.items())
+    print(f"the second reader: {sum(beside.parts.values())} runs compared ({parts}), over {files} files, {scripts_run} scripts and {lines} lines of words")
+    if beside.failing:
+        print(f"the second reader: {beside.failing} comparisons fail")
+    return 1 if beside.failing else 0
+
+
+sys.exit(main())
