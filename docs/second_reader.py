@@ -5,9 +5,11 @@ It does each thing as the page says it, and takes no care to be fast. Python 3, 
 """
 
 import hashlib
+import itertools
 import os
 import re
 import sys
+from bisect import insort
 from collections import namedtuple
 
 MOST_EVENTS = 1_000_000
@@ -43,40 +45,25 @@ class Refused(Exception):
         self.text = text
 
 
-# Histories and texts
+# Histories and texts. A set of events is a number, in which bit p stands for the event at position p.
 
 
 class Node:
-    """A character of the tree; the root has none. A set of events is a number: bit p stands for the event at position p."""
+    """A node of the tree: its id, its character, the event that inserted it, and those that delete it."""
 
     def __init__(self, id=None, ch=None, event=0):
         self.id, self.ch, self.event = id, ch, event
-        self.left, self.right = [], []
-        self.deleters = 0
+        self.left, self.right, self.deleters = [], [], 0
 
-    def is_visible(self, known):
-        return self.event & known and not self.deleters & known
-
-
-def first_below(node):
-    while node.left:
-        node = node.left[0]
-    return node
-
-
-def last_below(node):
-    while node.right:
-        node = node.right[-1]
-    return node
+    def __lt__(self, other):
+        return self.id < other.id
 
 
 class History:
-    """The events of a good history, the ancestors of each, its nodes in the order of the walk (the root first)."""
+    """The events of a good history, the ancestors of each, and the tree."""
 
     def __init__(self):
-        self.events, self.position, self.ancestors = [], {}, []
-        self.root = Node()
-        self.walk = [self.root]
+        self.events, self.position, self.ancestors, self.root = [], {}, [], Node()
 
     def version(self, ids):
         """The events of these ids and all their ancestors."""
@@ -85,14 +72,45 @@ class History:
             known |= self.ancestors[self.position[id]] | 1 << self.position[id]
         return known
 
-    def all(self):
-        return (1 << len(self.events)) - 1
+    def walk(self):
+        """For each node its left children, the node, its right children."""
+        to_do = [(self.root, False)]
+        while to_do:
+            node, is_its_turn = to_do.pop()
+            if is_its_turn:
+                yield node
+            else:
+                to_do += [(child, False) for child in reversed(node.right)] + [(node, True)]
+                to_do += [(child, False) for child in reversed(node.left)]
 
-    def visible(self, known):
-        return [node for node in self.walk if node.is_visible(known)]
+    def append(self, event):
+        """Appends an event, or says in words why it isn't good."""
+        parents = [self.position[parent] for parent in event.parents]
+        if any(self.ancestors[p] >> q & 1 for p in parents for q in parents):
+            return "not reduced"
+        known = self.version(event.parents)
+        before = self.position.get(Id(event.id.agent, event.id.seq - 1), len(self.events))
+        if event.id.seq and not known >> before & 1:
+            return "skipped"
+        walk = [node for node in self.walk() if node is self.root or node.event & known]
+        visible = [node for node in walk if node.event & known and not node.deleters & known]
+        at, ch = event.op
+        if at > len(visible) or ch is None and at == len(visible):
+            return f"out of range, length {len(visible)}"
+        bit = 1 << len(self.events)
+        if ch is None:
+            visible[at].deleters |= bit
+        else:
+            left = visible[at - 1] if at else self.root
+            has_right_child = any(child.event & known for child in left.right)
+            insort(walk[walk.index(left) + 1].left if has_right_child else left.right, Node(event.id, ch, bit))
+        self.position[event.id] = len(self.events)
+        self.ancestors.append(known)
+        self.events.append(event)
+        return None
 
     def text(self):
-        return "".join(chr(node.ch) for node in self.visible(self.all()))
+        return "".join(chr(node.ch) for node in self.walk() if node is not self.root and not node.deleters)
 
     def heads(self):
         parents = {parent for event in self.events for parent in event.parents}
@@ -104,54 +122,6 @@ class History:
     def is_critical(self, cut):
         below = (1 << cut) - 1
         return all(known & below == below for known in self.ancestors[cut:])
-
-    def fault(self, event):
-        """Why the next event isn't good, in words, or None."""
-        for parent in event.parents:
-            if any(self.ancestors[self.position[parent]] >> self.position[other] & 1 for other in event.parents):
-                return "not reduced"
-        known = self.version(event.parents)
-        before = Id(event.id.agent, event.id.seq - 1)
-        if event.id.seq and not (before in self.position and known >> self.position[before] & 1):
-            return "skipped"
-        length = len(self.visible(known))
-        if event.op.at > length or event.op.ch is None and event.op.at == length:
-            return f"out of range, length {length}"
-        return None
-
-    def append(self, event):
-        """Appends an event that is good."""
-        known = self.version(event.parents)
-        bit = 1 << len(self.events)
-        if event.op.ch is None:
-            self.visible(known)[event.op.at].deleters |= bit
-        else:
-            self.place(Node(event.id, event.op.ch, bit), known, event.op.at)
-        self.position[event.id] = len(self.events)
-        self.ancestors.append(known)
-        self.events.append(event)
-
-    def place(self, node, known, at):
-        left = self.visible(known)[at - 1] if at else self.root
-        if not any(child.event & known for child in left.right):
-            self.put_right(node, left)
-        else:
-            behind = self.walk[self.walk.index(left) + 1 :]
-            self.put_left(node, next(other for other in behind if other.event & known))
-
-    def put_right(self, node, parent):
-        """Behind the parent, and behind all that is below the siblings with lower ids."""
-        lower = [other for other in parent.right if other.id < node.id]
-        before = last_below(lower[-1]) if lower else parent
-        parent.right.insert(len(lower), node)
-        self.walk.insert(self.walk.index(before) + 1, node)
-
-    def put_left(self, node, parent):
-        """Before the parent, and before all that is below the siblings with higher ids."""
-        higher = [other for other in parent.left if other.id > node.id]
-        behind = first_below(higher[0]) if higher else parent
-        parent.left.insert(len(parent.left) - len(higher), node)
-        self.walk.insert(self.walk.index(behind), node)
 
 
 # Files
@@ -166,7 +136,7 @@ def is_scalar(ch):
 
 
 class Reader:
-    """Takes fields off the front of a file's bytes, and refuses the first bad one by its offset."""
+    """Takes fields off the front of a file's bytes, and refuses the first bad one by the offset of its first byte."""
 
     def __init__(self, name, content):
         self.name, self.content, self.at = name, content, 8
@@ -217,8 +187,7 @@ class Reader:
         return Op(at, None if kind else self.checked(is_scalar, "scalar"))
 
     def events(self):
-        agents, used, ids, events = [], set(), [], []
-        seen = set()
+        agents, used, ids, seen, events = [], set(), [], set(), []
         for _ in range(self.number()):
             agents.append(self.agent(agents))
         count = self.number()
@@ -318,13 +287,12 @@ def store(name, data):
 
 
 def free_neighbour(name):
-    number = 0
-    while True:
+    for number in itertools.count():
         neighbour = b"%s.%d.new" % (name, number)
         try:
             return neighbour, open(neighbour, "xb")
         except FileExistsError:
-            number += 1
+            pass
 
 
 def opened(name):
@@ -336,9 +304,8 @@ def opened(name):
         raise Refused(7, name + b": more than %d bytes" % MOST_FILE)
     history = History()
     for position, event in enumerate(read_events(name, data)):
-        if fault := history.fault(event):
+        if fault := history.append(event):
             raise Refused(4, name + f": event {position}: {fault}".encode())
-        history.append(event)
     return history
 
 
@@ -378,14 +345,12 @@ def read_line(number, line):
 
 
 def do_edit(history, agent, line, at, what):
-    if isinstance(what, str):
-        needed, operations = at, [Op(at + n, ord(ch)) for n, ch in enumerate(what)]
-    else:
-        needed, operations = at + what, None
-    length = len(history.visible(history.all()))
-    if needed > length:
+    length = len(history.text())
+    if (at if isinstance(what, str) else at + what) > length:
         raise Refused(5, b"line %d: out of range, length %d" % (line, length))
-    if operations is None:
+    if isinstance(what, str):
+        operations = [Op(at + n, ord(ch)) for n, ch in enumerate(what)]
+    else:
         operations = [Op(at, None)] * what
     if not operations:
         return
@@ -458,7 +423,7 @@ def check(name):
     count = len(history.events)
     agents = len({event.id.agent for event in history.events})
     cuts = sum(history.is_critical(cut) for cut in range(count + 1))
-    length = len(history.visible(history.all()))
+    length = len(history.text())
     return f"events {count}\nagents {agents}\nheads {len(history.heads())}\ncuts {cuts}\nlength {length}\n"
 
 
