@@ -2,6 +2,7 @@
 #![tactic(auto)]
 
 pub mod list;
+mod spans;
 #[cfg(test)]
 mod tests;
 
