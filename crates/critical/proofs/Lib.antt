@@ -1,3 +1,7 @@
-pub mod Searching
-pub mod InnerCuts
 pub mod CutsKept
+pub mod InnerCuts
+pub mod LastHeads
+pub mod Ranges
+pub mod Searching
+pub mod SpanChanges
+pub mod SpanSearches

@@ -1,8 +1,8 @@
 -- What is kept of the critical cuts of a history.
-use Rattle.std.specs.Prelude.{◌≡◌, ℕ, ◌+◌, ◌<◌, List, [], ◌∷◌, ◌++◌, map, filter, take, length, nat_lt}
-use Rattle.std.specs.List.{All}
-use Rattle.std.specs.List.Sorted.{IsStrictlyIncreasing}
+use Rattle.std.specs.Prelude.{◌≡◌, ℕ, ◌+◌, List, [], ◌∷◌, ◌++◌, map, filter, take, length, nat_lt}
 use Rattle.ew_model.specs.Positions.{frontier_of, cuts_at}
+use Rattle.critical.specs.declared.spans.CutSpan.{CutSpan}
+use Rattle.critical.specs.Spans.{RiseFrom, EndBelow}
 
 -- critical cuts, the heads of the events below each, and how many events there are
 pub record KeptCuts : Type 0 where
@@ -30,8 +30,12 @@ with_whole kept heads = record { cuts = kept.cuts ++ kept.count ∷ []; heads = 
 abbrev pub with_first : KeptCuts → ℕ → KeptCuts
 with_first kept n = record { cuts = take n kept.cuts; heads = take n kept.heads; count = kept.count + 1 }
 
--- the cuts rise up to below the count, and each has its heads
-pub record AreOrdered (cuts : List ℕ) (heads : List (List ℕ)) (count : ℕ) : Type 0 where
-  pub rising : IsStrictlyIncreasing cuts
-  pub below : All (λ k. k < count) cuts
-  pub alike : length heads ≡ length cuts
+-- one more event, which keeps the cuts below a number, and not the whole length so far
+abbrev pub with_below : KeptCuts → ℕ → KeptCuts
+with_below kept end = with_first kept (length (filter (λ k. nat_lt k end) kept.cuts))
+
+-- the spans rise up to below the count, and each has heads
+pub record AreKept (spans : List CutSpan) (heads : List (List ℕ)) (count : ℕ) : Type 0 where
+  pub rising : RiseFrom 0 spans
+  pub below : EndBelow count spans
+  pub alike : length heads ≡ length spans

@@ -1,2 +1,4 @@
+pub mod CutRuns
 pub mod KeptCuts
 pub mod Searches
+pub mod Spans

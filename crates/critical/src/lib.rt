@@ -2,5 +2,6 @@
 #![tactic(auto)]
 
 pub mod list;
+mod spans;
 
 pub use list::Cuts;

@@ -1,14 +1,18 @@
 //! The list of the critical cuts.
 
-ghost use Rattle.std.specs.Prelude.{◌≡◌, ◌≢◌, ℕ, ◌+◌, ◌<◌, ◌≤◌, ◌^◌, Bool, true, List, [], ◌∷◌, ◌++◌, map, length, take, filter, nat_eq, IfOk, IsOkAnd, OnOk, OnErr};
-ghost use Rattle.std.specs.List.Sorted.{IsStrictlyIncreasing};
-ghost use Rattle.ew_model.specs.Graph.{is_named};
+ghost use Rattle.std.specs.Prelude.{◌≡◌, ◌≢◌, ℕ, suc, ◌+◌, ◌<◌, ◌≤◌, ◌^◌, Bool, true, List, [], ◌∷◌, ◌++◌, filter, length, nat_lt, IfOk, IsOkAnd, OnOk, OnErr};
+ghost use Rattle.ew_model.specs.Sets.{Among};
 ghost use Rattle.ew_model.specs.CutChange.{stays_behind};
 ghost use Rattle.ew_model.specs.Positions.{AreParents, IsHistoryOfParents, frontier_of, is_reduced_at, is_cut_at, latest_cut_at, cuts_at};
 ghost use Rattle.ew_model.specs.PositionCuts.{past_parents};
-ghost use Rattle.critical.specs.KeptCuts.{kept_for, with_whole, with_first};
-ghost use Rattle.critical.specs.Searches.{TellsHeads, IsGreatestTo};
+ghost use Rattle.critical.specs.CutRuns.{cut_runs};
+ghost use Rattle.critical.specs.KeptCuts.{kept_for, with_whole, with_below};
+ghost use Rattle.critical.specs.Searches.{TellsHeads};
 
+use crate::spans::{
+    CutSpan, add_cut, copy_heads, ends_before, find_span, greatest_to, has_heads, keep_below,
+    list_span,
+};
 use ew_model::NoMem;
 use frontier::Frontier;
 use smallvec::SmallVec;
@@ -19,22 +23,23 @@ use std::marker::Model;
 /// events, which is a critical cut too, stands by itself. Contracts see the lists and that number.
 #[derive(Drop)]
 pub struct Cuts {
-    /// The critical cuts below the number of the events, rising.
-    cuts: Vec<u32>,
-    /// For each of them the heads of the events below it.
+    /// The critical cuts below the number of the events, rising, as spans of neighbours.
+    spans: Vec<CutSpan>,
+    /// For each span the heads of the events below its first cut. Below a further one the cut before it is the only head.
     heads: Vec<SmallVec<u32, 4>>,
     count: u32,
 }
 
 impl Model for Cuts {
     ghost use Rattle.std.specs.Prelude.{map};
-    ghost use Rattle.critical.specs.KeptCuts.{KeptCuts, AreOrdered};
+    ghost use Rattle.critical.specs.KeptCuts.{KeptCuts, AreKept};
+    ghost use Rattle.critical.specs.Spans.{cuts_in, heads_in};
 
     ghost Value = { KeptCuts };
 
-    ghost view = { λ c. record { cuts = c.cuts.items; heads = map (λ v. v.items) c.heads.items; count = c.count } };
+    ghost view = { λ c. record { cuts = cuts_in c.spans.items; heads = heads_in c.spans.items (map (λ v. v.items) c.heads.items); count = c.count } };
 
-    ghost invariant = { λ c. AreOrdered c.cuts.items (map (λ v. v.items) c.heads.items) c.count };
+    ghost invariant = { λ c. AreKept c.spans.items (map (λ v. v.items) c.heads.items) c.count };
 }
 
 impl Cuts {
@@ -43,7 +48,7 @@ impl Cuts {
         ensures { IsOkAnd result (λ c. c ≡ kept_for []) }
     {
         Ok(Cuts {
-            cuts: Vec::new(alloc),
+            spans: Vec::new(alloc),
             heads: Vec::new(alloc),
             count: 0,
         })
@@ -88,28 +93,30 @@ impl Cuts {
         ensures count { self.new.count ≡ self.old.count + 1 }
     {
         let past = past_last(parents, self.count);
-        let kept = count_kept(&self.cuts, &self.heads, past, parents);
-        self.keep_first(kept);
+        let same = has_heads(&self.spans, &self.heads, past, parents);
+        let end = end_of_kept(past, same);
+        self.keep_cuts_below(end);
     }
 
     /// Takes in an event that keeps all cuts: the whole length so far has these heads, which are its parents.
     fn keep_whole(&mut self, heads: &[u32]) -> Result<(), NoMem>
         requires room { self.old.count + 1 < 2 ^ 32 }
-        ensures ok { OnOk result (self.new ≡ with_whole self.old heads.now) }
+        // Where the number before is a cut too, it must be the only head.
+        ensures ok { OnOk result (((k : ℕ) → suc k ≡ self.old.count → Among k self.old.cuts → heads.now ≡ k ∷ []) → self.new ≡ with_whole self.old heads.now) }
+        ensures count { OnOk result (self.new.count ≡ self.old.count + 1) }
         ensures err { OnErr result (self.new ≡ self.old) }
     {
-        add_cut(&mut self.cuts, &mut self.heads, self.count, heads)?;
+        add_cut(&mut self.spans, &mut self.heads, self.count, heads)?;
         self.count += 1;
         Ok(())
     }
 
-    /// Takes in an event that keeps the first n cuts, and not the whole length so far.
-    fn keep_first(&mut self, n: usize)
+    /// Takes in an event that keeps the cuts below a number, and not the whole length so far.
+    fn keep_cuts_below(&mut self, end: u32)
         requires room { self.old.count + 1 < 2 ^ 32 }
-        ensures { self.new ≡ with_first self.old n }
+        ensures { self.new ≡ with_below self.old end }
     {
-        self.cuts.truncate(n);
-        self.heads.truncate(n);
+        keep_below(&mut self.spans, &mut self.heads, end);
         self.count += 1;
     }
 
@@ -120,7 +127,7 @@ impl Cuts {
         if at_most >= self.count {
             self.count
         } else {
-            greatest_to(&self.cuts, at_most)
+            greatest_to(&self.spans, at_most)
         }
     }
 
@@ -128,32 +135,56 @@ impl Cuts {
     pub fn is_cut(&self, k: u32) -> bool
         ensures { (history : List (List ℕ)) → self.now ≡ kept_for history → result ≡ is_cut_at history k }
     {
-        k == self.count || contains(&self.cuts, k)
+        k == self.count || k < self.count && find_span(&self.spans, k).is_some()
     }
 
     /// The critical cuts, rising.
     pub fn list_cuts(&self) -> Result<Vec<u32>, NoMem>
         ensures { IfOk result (λ v. (history : List (List ℕ)) → self.now ≡ kept_for history → v.items ≡ cuts_at history) }
     {
-        let mut cuts = Vec::with_capacity(*self.cuts.allocator(), self.cuts.len() + 1)?;
-        cuts.extend_from_slice(&self.cuts)?;
-        cuts.push(self.count)?;
+        let count = self.count;
+        let mut cuts = Vec::new(*self.spans.allocator());
+        for span in &self.spans {
+            list_span(&mut cuts, *span)?;
+        }
+        cuts.push(count)?;
         Ok(cuts)
+    }
+
+    /// How many spans of neighbouring critical cuts there are. It takes no memory.
+    pub fn runs(&self) -> u32
+        ensures { (history : List (List ℕ)) → self.now ≡ kept_for history → result ≡ cut_runs history }
+    {
+        let count = self.count;
+        let spans = self.spans.len() as u32;
+        if ends_before(&self.spans, count) {
+            spans
+        } else {
+            spans + 1
+        }
     }
 
     /// A second one of the same cuts.
     pub fn copy(&self) -> Result<Cuts, NoMem>
         ensures { IfOk result (λ c. c ≡ self.now) }
     {
-        let alloc = *self.cuts.allocator();
-        let cuts = Vec::from_slice(alloc, &self.cuts)?;
+        let alloc = *self.spans.allocator();
+        let spans = Vec::from_slice(alloc, &self.spans)?;
         let heads = copy_heads(alloc, &self.heads)?;
         Ok(Cuts {
-            cuts,
+            spans,
             heads,
             count: self.count,
         })
     }
+}
+
+/// The number that the cuts that stay are below: all that are below `past`, and that one too if `same` holds.
+fn end_of_kept(past: u32, same: bool) -> u32
+    requires { past + 1 < 2 ^ 32 }
+    ensures { (k : ℕ) → nat_lt k result ≡ stays_behind past same k }
+{
+    if same { past + 1 } else { past }
 }
 
 /// The position behind the last of the parents.
@@ -166,72 +197,4 @@ fn past_last(parents: &[u32], count: u32) -> u32
         Some(last) => *last + 1,
         None => 0,
     }
-}
-
-/// Puts one more cut behind the others.
-fn add_cut(
-    cuts: &mut Vec<u32>,
-    heads: &mut Vec<SmallVec<u32, 4>>,
-    cut: u32,
-    below: &[u32],
-) -> Result<(), NoMem>
-    ensures cuts { OnOk result (cuts.new.items ≡ cuts.old.items ++ cut ∷ []) }
-    ensures heads { OnOk result (map (λ v. v.items) heads.new.items ≡ map (λ v. v.items) heads.old.items ++ below.now ∷ []) }
-    ensures same_cuts { OnErr result (cuts.new.items ≡ cuts.old.items) }
-    ensures same_heads { OnErr result (map (λ v. v.items) heads.new.items ≡ map (λ v. v.items) heads.old.items) }
-{
-    let below = SmallVec::from_slice(*cuts.allocator(), below)?;
-    cuts.reserve(1)?;
-    heads.push(below)?;
-    cuts.push_reserved(cut);
-    Ok(())
-}
-
-/// How many cuts stay, from the first on, when an event with these parents comes: those up to the last parent, and the
-/// one right behind that where the parents are its heads.
-fn count_kept(cuts: &[u32], heads: &[SmallVec<u32, 4>], past: u32, parents: &[u32]) -> usize
-    requires rising { IsStrictlyIncreasing cuts.now }
-    requires alike { length heads.now ≡ length cuts.now }
-    ensures { (same : Bool) → TellsHeads cuts.now (map (λ v. v.items) heads.now) past parents.now same → take result cuts.now ≡ filter (stays_behind past same) cuts.now }
-{
-    match cuts.binary_search(&past) {
-        Ok(i) => {
-            if heads[i].as_slice() == parents {
-                i + 1
-            } else {
-                i
-            }
-        }
-        Err(i) => i,
-    }
-}
-
-/// Whether the number is among the rising ones.
-fn contains(cuts: &[u32], k: u32) -> bool
-    requires { IsStrictlyIncreasing cuts.now }
-    ensures { result ≡ is_named nat_eq cuts.now k }
-{
-    cuts.binary_search(&k).is_ok()
-}
-
-/// The greatest of the rising numbers that is at most this, or 0.
-fn greatest_to(cuts: &[u32], at_most: u32) -> u32
-    requires { IsStrictlyIncreasing cuts.now }
-    ensures { IsGreatestTo cuts.now at_most result }
-{
-    match cuts.binary_search(&at_most) {
-        Ok(_) => at_most,
-        Err(0) => 0,
-        Err(i) => cuts[i - 1],
-    }
-}
-
-fn copy_heads(alloc: Global, heads: &[SmallVec<u32, 4>]) -> Result<Vec<SmallVec<u32, 4>>, NoMem>
-    ensures { IfOk result (λ v. map (λ h. h.items) v.items ≡ map (λ h. h.items) heads.now) }
-{
-    let mut copy = Vec::with_capacity(alloc, heads.len())?;
-    for list in heads {
-        copy.push(SmallVec::from_slice(alloc, list.as_slice())?)?;
-    }
-    Ok(copy)
 }

@@ -1,11 +1,12 @@
-use Rattle.std.proofs.Common.{◌≡◌, ◌∙◌, ℕ, List, map, take, filter, sym, ap, subst, length, true≢false}
+use Rattle.std.proofs.Common.{◌≡◌, ◌∙◌, sym, ap, subst, length, true≢false}
 use Rattle.std.proofs.lemmas.Result.{on_ok_weaker}
-use Rattle.ew_model.specs.CutChange.{stays_behind}
 use Rattle.ew_model.specs.Positions.{AreParents, frontier_of}
-use Rattle.ew_model.specs.PositionCuts.{past_parents, is_frontier}
-use Rattle.critical.specs.KeptCuts.{KeptCuts, inner_cuts, heads_below, with_whole, with_first}
-use Rattle.critical.specs.Searches.{TellsHeads}
-use Rattle.critical.proofs.CutsKept.{inner_tells, whole_kept, first_kept}
+use Rattle.ew_model.specs.PositionCuts.{past_parents}
+use Rattle.ew_model.specs.Sets.{Among}
+use Rattle.critical.specs.KeptCuts.{KeptCuts, with_whole}
+use Rattle.critical.proofs.CutsKept.{whole_kept}
+use Rattle.critical.proofs.InnerCuts.{inner_of}
+use Rattle.critical.proofs.LastHeads.{last_is_head}
 use Rattle.critical.proofs.list.Cuts.push.Goals as goal
 use Rattle.critical.proofs.list.Cuts.push.Goals.{else-past-self-via-then-past-self+else-equals, else-past-self-via-else-past-self}
 
@@ -17,7 +18,8 @@ returns-then-equals-clause-ok c =
     let lower : AreParents (length history) c.args.parents.now = subst (λ n. AreParents n c.args.parents.now) count c.requires.parents in
     let at : past_parents c.args.parents.now ≡ length history = sym c.past_last-past.ensures.value ∙ c.if-past-self.true ∙ ap (λ (v : KeptCuts). v.count) c.self.view_is ∙ count in
     let heads : c.args.parents.now ≡ frontier_of history = sym (c.equals.ensures.0 c.if-equals.true) ∙ front in
-    made ∙ ap (λ (v : KeptCuts). with_whole v c.args.parents.now) stands ∙ sym (whole_kept history c.args.parents.now good lower reduced at heads))
+    made (λ k long m. heads ∙ last_is_head history k good (long ∙ count) (inner_of history k (subst (λ (v : KeptCuts). Among k v.cuts) stands m)).0)
+    ∙ ap (λ (v : KeptCuts). with_whole v c.args.parents.now) stands ∙ sym (whole_kept history c.args.parents.now good lower reduced at heads))
     c.keep_whole.ensures.ok
 
 pub returns-else-past-self-clause-ok : goal.returns-else-past-self-clause-ok
