@@ -1,11 +1,11 @@
 -- What a search among rising numbers finds.
 use Rattle.std.proofs.Common.{◌≡◌, ℕ, zero, suc, ◌<◌, ◌≤◌, Bool, true, false, ◌&&◌, ◌||◌, ◌⊎◌, inl, inr, ⊎_elim, nat_eq, nat_lt, slice_get, List, [], ◌∷◌, length, get_or, Some, refl, sym, ap, ◌∙◌, arith, lt-ltb, le-ltb, eq-eqb}
-use Rattle.std.specs.List.{AllByRecursion}
 use Rattle.std.proofs.lemmas.Bool.{ne_eqb, eqb-true}
 use Rattle.std.proofs.lemmas.Option.{slice_get-get_or}
 use Rattle.ew_model.specs.Sets.{Among}
 use Rattle.ew_model.specs.CutChange.{stays_behind}
 use Rattle.ew_model.proofs.RisingLists.{Rise}
+use Rattle.frontier.proofs.Removals.{at_least}
 use Rattle.critical.specs.Searches.{TellsHeads}
 
 -- elements and places
@@ -17,11 +17,6 @@ pub among_place : (xs : List ℕ) (j : ℕ) → j < length xs → Among (get_or 
 among_place [] j l = absurd (omega (arith, l))
 among_place (x ∷ xs) zero l = inl refl
 among_place (x ∷ xs) (suc j) l = inr (among_place xs j (omega (arith, l)))
-
-at_least : (xs : List ℕ) (x : ℕ) → AllByRecursion (λ y. x < y) xs → (j : ℕ) → j < length xs → x < get_or xs j 0
-at_least [] x h j l = absurd (omega (arith, l))
-at_least (y ∷ xs) x h zero l = h.0
-at_least (y ∷ xs) x h (suc j) l = at_least xs x h.1 j (omega (arith, l))
 
 pub rise_strict : (xs : List ℕ) → Rise xs → (i j : ℕ) → i < j → j < length xs → get_or xs i 0 < get_or xs j 0
 rise_strict [] h i j le l = absurd (omega (arith, l))
