@@ -1,3 +1,4 @@
 pub mod Agents
 pub mod OwnPositions
 pub mod Numbers
+pub mod RunLists

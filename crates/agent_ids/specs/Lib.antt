@@ -1,2 +1,3 @@
 pub mod Agents
+pub mod IdRuns
 pub mod Table

@@ -7,8 +7,10 @@ ghost use Rattle.indexmap.specs.IndexSet.{contains};
 ghost use Rattle.ew_model.specs.declared.id.Id.{Id};
 ghost use Rattle.ew_model.specs.Ids.{name_eq, id_eq};
 ghost use Rattle.agent_ids.specs.Agents.{agents_of, count_of, AreNumbered};
+ghost use Rattle.agent_ids.specs.IdRuns.{id_runs};
 ghost use Rattle.agent_ids.specs.Table.{AreAgents, positions_of};
 
+use crate::runs::IdRuns;
 use ew_model::NoMem;
 use ew_model::id::Id;
 use ew_model::name::Name;
@@ -20,7 +22,7 @@ use std::marker::Model;
 /// Contracts see the list of the ids.
 #[derive(Drop)]
 pub struct AgentTable {
-    ids: Vec<Id>,
+    ids: IdRuns,
     names: IndexSet<Name>,
     /// For each agent the positions of its ids: its id number n stands at place n.
     positions: Vec<Vec<u32>>,
@@ -33,9 +35,9 @@ impl Model for AgentTable {
 
     ghost Value = { List Id };
 
-    ghost view = { λ t. t.ids.items };
+    ghost view = { λ t. t.ids };
 
-    ghost invariant = { λ t. IsTable t.ids.items t.names.keys (map (λ v. v.items) t.positions.items) };
+    ghost invariant = { λ t. IsTable t.ids t.names.keys (map (λ v. v.items) t.positions.items) };
 }
 
 impl AgentTable {
@@ -44,7 +46,7 @@ impl AgentTable {
         ensures { IsOkAnd result (λ t. t ≡ []) }
     {
         Ok(AgentTable {
-            ids: Vec::new(alloc),
+            ids: IdRuns::new(alloc),
             names: IndexSet::new(alloc),
             positions: Vec::new(alloc),
         })
@@ -99,7 +101,14 @@ impl AgentTable {
         requires { lv < length self.now }
         ensures { slice_get self.now lv ≡ Some result }
     {
-        self.ids[lv as usize]
+        self.ids.get(lv)
+    }
+
+    /// How many runs of ids there are: an id goes on with the run before it where it is the next one of the same agent.
+    pub fn runs(&self) -> u32
+        ensures { result ≡ id_runs self.now }
+    {
+        self.ids.runs()
     }
 
     /// Puts one more id behind the others: the next one of its agent, or the first one of a new agent.
@@ -109,10 +118,13 @@ impl AgentTable {
         ensures ok { OnOk result (self.new ≡ self.old ++ id ∷ []) }
         ensures err { OnErr result (self.new ≡ self.old) }
     {
-        let lv = self.ids.len() as u32;
-        self.ids.reserve(1)?;
-        add_position(&mut self.names, &mut self.positions, id.agent, lv)?;
-        self.ids.push_reserved(id);
+        let lv = self.ids.len();
+        let agent = id.agent;
+        self.ids.push(id)?;
+        if let Err(fault) = add_position(&mut self.names, &mut self.positions, agent, lv) {
+            self.ids.pop();
+            return Err(fault);
+        }
         Ok(())
     }
 
@@ -120,7 +132,7 @@ impl AgentTable {
     pub fn truncate(&mut self, n: u32)
         ensures { self.new ≡ take n self.old }
     {
-        while self.ids.len() > n as usize {
+        while self.ids.len() > n {
             self.remove_last();
         }
     }

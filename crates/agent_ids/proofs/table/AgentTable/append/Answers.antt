@@ -12,15 +12,15 @@ add_position-requires c =
     let alike = kept_alike _ _ _ c.self.invariant.agents in
     record { alike = omega (arith, alike, c.self.inside.positions.ok.0, length-map c.self.inside.positions.items (λ (v : Vec ℕ Global). v.items)) }
 
-pub invariant_of-self-2 : goal.invariant_of-self-2
-invariant_of-self-2 c =
-    let ids = c.self.inside.ids.items in
-    let more : ids ++ c.args.id ∷ [] ≡ c.push_reserved.new.self.items = ap (λ xs. xs ++ c.args.id ∷ []) (sym c.in_ok-reserve.ensures.items) ∙ sym c.push_reserved.ensures.items in
-    let place : length ids ≡ c.len-lv.result = sym c.self.inside.ids.ok.0 ∙ sym c.len-lv.ensures in
+pub invariant_of-self-in_default : goal.invariant_of-self-in_default
+invariant_of-self-in_default c =
+    let ids = c.self.inside.ids in
+    let more : ids ++ c.args.id ∷ [] ≡ c.push.new.self = sym c.in_ok-push.ensures.ok in
+    let place : length ids ≡ c.len-lv.result = sym c.len-lv.ensures in
     let next = subst (λ (xs : List Id). c.args.id.seq ≡ count_of xs c.args.id.agent) (sym c.self.view_is) c.requires.next in
     let long = ap (length {A = Id}) c.self.view_is in
     subst (λ (xs : List Id). IsTable xs c.add_position.new.names.keys (map (λ (v : Vec ℕ Global). v.items) c.add_position.new.positions.items)) more (record {
-      agents = c.in_ok-add_position.ensures.ok ids c.args.id c.self.invariant.agents place refl;
+      agents = c.in_default.ensures.ok ids c.args.id c.self.invariant.agents place refl;
       numbered = numbered_push ids c.args.id c.self.invariant.numbered next;
       few = omega (arith, c.requires.room, long, length-append ids (c.args.id ∷ []));
     })

@@ -13,11 +13,11 @@ remove_position-requires c =
 
 pub invariant_of-self : goal.invariant_of-self
 invariant_of-self c =
-    let front : c.self.inside.ids.items ≡ c.pop.new.self.items ++ c.in-Some.id ∷ [] = c.in-Some.ensures.items in
-    let was : IsTable (c.pop.new.self.items ++ c.in-Some.id ∷ []) c.self.inside.names.keys (map (λ (v : Vec ℕ Global). v.items) c.self.inside.positions.items) =
+    let front : c.self.inside.ids ≡ c.pop.new.self ++ c.in-Some.id ∷ [] = c.in-Some.ensures.some in
+    let was : IsTable (c.pop.new.self ++ c.in-Some.id ∷ []) c.self.inside.names.keys (map (λ (v : Vec ℕ Global). v.items) c.self.inside.positions.items) =
     subst (λ (xs : List Id). IsTable xs c.self.inside.names.keys (map (λ (v : Vec ℕ Global). v.items) c.self.inside.positions.items)) front c.self.invariant in
     record {
-      agents = c.remove_position.ensures c.pop.new.self.items c.in-Some.id was.agents refl;
-      numbered = numbered_front c.pop.new.self.items c.in-Some.id was.numbered;
-      few = omega (arith, was.few, length-append c.pop.new.self.items (c.in-Some.id ∷ []));
+      agents = c.remove_position.ensures c.pop.new.self c.in-Some.id was.agents refl;
+      numbered = numbered_front c.pop.new.self c.in-Some.id was.numbered;
+      few = omega (arith, was.few, length-append c.pop.new.self (c.in-Some.id ∷ []));
     }

@@ -1,0 +1,233 @@
+-- Ids in runs: where one stands, one more, one fewer, and how many runs there are.
+use Rattle.std.proofs.Common.{◌≡◌, ℕ, zero, suc, ◌+◌, ◌-◌, ◌<◌, ◌≤◌, ◌^◌, Bool, true, false, cond, List, [], ◌∷◌, ◌++◌, length, map, set, slice_get, slice_index_or, Some, refl, sym, ap, ◌∙◌, subst, arith, append-nil, append_assoc, length-append, eq-eqb, take, nat_eq, nat_lt, ◌⊎◌, inl, inr, ⊎_elim}
+use Rattle.std.specs.List.{range_with_len}
+use Rattle.std.proofs.lemmas.Bool.{eqb-true, eqb-false, ne_eqb, true≢false}
+use Rattle.std.proofs.lemmas.List.{length-map, map-append}
+use Rattle.std.proofs.lemmas.List.FromFn.{length-range_with_len}
+use Rattle.std.proofs.lemmas.Option.{same_Some, slice_get-get_or}
+use Rattle.ew_model.specs.declared.id.Id.{Id}
+use Rattle.ew_model.specs.Ids.{id_eq}
+use Rattle.ew_model.proofs.IdLaws.{is_same_id}
+use Rattle.agent_ids.specs.declared.runs.IdRun.{IdRun}
+use Rattle.agent_ids.specs.IdRuns.{id_runs, id_with, is_next, ids_in, last_of, IsApart, AreRuns, goes_on, with_more, with_fewer}
+
+-- so many ids of an agent, from a number on
+abbrev pub block : List ℕ → ℕ → ℕ → List Id
+block agent seq n = map (id_with agent) (range_with_len seq n)
+
+range_more : (a n : ℕ) → range_with_len a (suc n) ≡ range_with_len a n ++ (a + n) ∷ []
+range_more a zero = let e : a ≡ a + 0 = omega arith in ap (λ (k : ℕ). k ∷ []) e
+range_more a (suc n) = let e : a + 1 + n ≡ a + suc n = omega arith in ap (λ xs. a ∷ xs) (range_more (a + 1) n ∙ ap (λ k. range_with_len (a + 1) n ++ k ∷ []) e)
+
+block_more : (agent : List ℕ) (seq n : ℕ) → block agent seq (suc n) ≡ block agent seq n ++ id_with agent (seq + n) ∷ []
+block_more agent seq n = ap (map (id_with agent)) (range_more seq n) ∙ map-append (id_with agent) (range_with_len seq n) ((seq + n) ∷ [])
+
+read_block : (agent : List ℕ) (seq n : ℕ) (rest : List Id) (p : ℕ) → p < n → slice_get (block agent seq n ++ rest) p ≡ Some (id_with agent (seq + p))
+read_block agent seq zero rest p l = absurd (omega (arith, l))
+read_block agent seq (suc n) rest zero l = let e : seq ≡ seq + 0 = omega arith in ap (λ k. Some (id_with agent k)) e
+read_block agent seq (suc n) rest (suc p) l = let e : seq + 1 + p ≡ seq + suc p = omega arith in read_block agent (seq + 1) n rest p (omega (arith, l)) ∙ ap (λ k. Some (id_with agent k)) e
+
+skip_block : (agent : List ℕ) (seq n : ℕ) (rest : List Id) (p q : ℕ) → q ≡ n + p → slice_get (block agent seq n ++ rest) q ≡ slice_get rest p
+skip_block agent seq zero rest p q e = let same : q ≡ p = omega (arith, e) in ap (slice_get rest) same
+skip_block agent seq (suc n) rest p zero e = absurd (omega (arith, e))
+skip_block agent seq (suc n) rest p (suc q) e = skip_block agent (seq + 1) n rest p q (omega (arith, e))
+
+pub length_in : (runs : List IdRun) (start end : ℕ) → AreRuns start runs end → start + length (ids_in runs) ≡ end
+length_in [] start end r = omega (arith, r)
+length_in (x ∷ runs) start end r =
+    let ih = length_in runs (start + suc x.more) end r.3 in
+    let one = length-append (block x.agent x.seq (suc x.more)) (ids_in runs) in
+    let two = length-map (range_with_len x.seq (suc x.more)) (id_with x.agent) in
+    let three = length-range_with_len x.seq (suc x.more) in
+    omega (arith, ih, one, two, three)
+
+pub runs_end : (runs : List IdRun) (start end : ℕ) → AreRuns start runs end → start + length runs ≤ end
+runs_end [] start end r = omega (arith, r)
+runs_end (x ∷ runs) start end r = let ih = runs_end runs (start + suc x.more) end r.3 in omega (arith, ih)
+
+pub run_within : (runs : List IdRun) (start end place : ℕ) (x : IdRun) → AreRuns start runs end → slice_get runs place ≡ Some x → (start ≤ x.start) × (x.start + suc x.more ≤ end) × (x.seq + x.more < 2 ^ 32)
+run_within [] start end place x r e = let no : ⊥ = cc in absurd no
+run_within (y ∷ runs) start end zero x r e =
+    let high = runs_end runs (start + suc y.more) end r.3 in
+    subst (λ (z : IdRun). (start ≤ z.start) × (z.start + suc z.more ≤ end) × (z.seq + z.more < 2 ^ 32)) (same_Some y x e) ((let at = r.0 in omega (arith, at)), (let at = r.0 in omega (arith, at, high)), r.1)
+run_within (y ∷ runs) start end (suc place) x r e = let ih = run_within runs (start + suc y.more) end place x r.3 e in ((let low = ih.0 in omega (arith, low)), ih.1, ih.2)
+
+pub starts_rise : (runs : List IdRun) (start end i j : ℕ) (d : IdRun) → AreRuns start runs end → i ≤ j → j < length runs → (slice_index_or runs i d).start ≤ (slice_index_or runs j d).start
+starts_rise [] start end i j d r l m = absurd (omega (arith, m))
+starts_rise (y ∷ runs) start end zero zero d r l m = omega arith
+starts_rise (y ∷ runs) start end (suc i) zero d r l m = absurd (omega (arith, l))
+starts_rise (y ∷ runs) start end zero (suc j) d r l m =
+    let high = (run_within runs (start + suc y.more) end j (slice_index_or runs j d) r.3 (slice_get-get_or runs j d (omega (arith, m)))).0 in
+    let at = r.0 in omega (arith, high, at)
+starts_rise (y ∷ runs) start end (suc i) (suc j) d r l m = starts_rise runs (start + suc y.more) end i j d r.3 (omega (arith, l)) (omega (arith, m))
+
+-- THE ID at a place
+pub read_run : (runs : List IdRun) (start end place i p : ℕ) (x : IdRun) → AreRuns start runs end → slice_get runs i ≡ Some x → x.start ≤ place → place ≤ x.start + x.more → start + p ≡ place
+    → slice_get (ids_in runs) p ≡ Some (id_with x.agent (x.seq + (place - x.start)))
+read_run [] start end place i p x r e l h q = let no : ⊥ = cc in absurd no
+read_run (y ∷ runs) start end place zero p x r e l h q =
+    let same = same_Some y x e in
+    let at : x.start ≡ start = ap (λ (z : IdRun). z.start) (sym same) ∙ r.0 in
+    let more = ap (λ (z : IdRun). z.more) same in
+    let there : place - x.start ≡ p = omega (arith, at, q) in
+    read_block y.agent y.seq (suc y.more) (ids_in runs) p (omega (arith, at, more, q, h)) ∙ ap (λ (z : IdRun). Some (id_with z.agent (z.seq + p))) same ∙ ap (λ k. Some (id_with x.agent (x.seq + k))) (sym there)
+read_run (y ∷ runs) start end place (suc i) p x r e l h q =
+    let high = (run_within runs (start + suc y.more) end i x r.3 e).0 in
+    let back : start + suc y.more + (p - suc y.more) ≡ place = omega (arith, high, l, q) in
+    skip_block y.agent y.seq (suc y.more) (ids_in runs) (p - suc y.more) p (omega (arith, high, l, q)) ∙ read_run runs (start + suc y.more) end place i (p - suc y.more) x r.3 e l h back
+
+pub in_run : (runs : List IdRun) (start end place i : ℕ) (x : IdRun) → AreRuns start runs end → slice_get runs i ≡ Some x → place < end
+    → ((t : IdRun) → slice_get runs (suc i) ≡ Some t → place < t.start) → place ≤ x.start + x.more
+in_run [] start end place i x r e l f = let no : ⊥ = cc in absurd no
+in_run (y ∷ []) start end place zero x r e l f =
+    let same = same_Some y x e in
+    let at = ap (λ (z : IdRun). z.start) same in let more = ap (λ (z : IdRun). z.more) same in
+    let first = r.0 in let last = r.3 in omega (arith, at, more, first, last, l)
+in_run (y ∷ t ∷ runs) start end place zero x r e l f =
+    let same = same_Some y x e in
+    let at = ap (λ (z : IdRun). z.start) same in let more = ap (λ (z : IdRun). z.more) same in
+    let first = r.0 in let next = r.3.0 in let low = f t refl in omega (arith, at, more, first, next, low)
+in_run (y ∷ runs) start end place (suc i) x r e l f = in_run runs (start + suc y.more) end place i x r.3 e l f
+
+-- HOW MANY RUNS there are
+next_of_agent : (agent : List ℕ) (seq next : ℕ) → next ≡ suc seq → is_next (id_with agent seq) (id_with agent next) ≡ true
+next_of_agent agent seq next e = ap (λ k. id_eq (id_with agent (suc seq)) (id_with agent k)) e ∙ (is_same_id (id_with agent (suc seq)) (id_with agent (suc seq))).1 refl
+
+count_alone : (agent : List ℕ) (seq n : ℕ) → id_runs (block agent seq (suc n) ++ []) ≡ 1
+count_alone agent seq zero = refl
+count_alone agent seq (suc n) =
+    let rest = id_runs (block agent (seq + 1) (suc n) ++ []) in
+    ap (λ b. cond b rest (suc rest)) (next_of_agent agent seq (seq + 1) (omega arith)) ∙ count_alone agent (seq + 1) n
+
+count_then : (agent : List ℕ) (seq n : ℕ) (y : Id) (ids : List Id) → is_next (id_with agent (seq + n)) y ≡ false → id_runs (block agent seq (suc n) ++ y ∷ ids) ≡ suc (id_runs (y ∷ ids))
+count_then agent seq zero y ids e =
+    let same : seq + 0 ≡ seq = omega arith in
+    ap (λ b. cond b (id_runs (y ∷ ids)) (suc (id_runs (y ∷ ids)))) (ap (λ k. is_next (id_with agent k) y) (sym same) ∙ e)
+count_then agent seq (suc n) y ids e =
+    let rest = id_runs (block agent (seq + 1) (suc n) ++ y ∷ ids) in
+    let same : seq + 1 + n ≡ seq + suc n = omega arith in
+    ap (λ b. cond b rest (suc rest)) (next_of_agent agent seq (seq + 1) (omega arith)) ∙ count_then agent (seq + 1) n y ids (ap (λ k. is_next (id_with agent k) y) same ∙ e)
+
+pub count_in : (runs : List IdRun) (start end : ℕ) → AreRuns start runs end → id_runs (ids_in runs) ≡ length runs
+count_in [] start end r = refl
+count_in (x ∷ []) start end r = count_alone x.agent x.seq x.more
+count_in (x ∷ y ∷ runs) start end r =
+    count_then x.agent x.seq x.more (id_with y.agent y.seq) (block y.agent (y.seq + 1) y.more ++ ids_in runs) r.2 ∙ ap suc (count_in (y ∷ runs) (start + suc x.more) end r.3)
+
+-- ONE MORE, in the last run
+pub more_in : (runs : List IdRun) (start end : ℕ) (x : Id) → AreRuns start runs end → goes_on runs x ≡ true → x.seq < 2 ^ 32
+    → (ids_in (with_more runs) ≡ ids_in runs ++ x ∷ []) × AreRuns start (with_more runs) (end + 1)
+more_in [] start end x r e l = absurd (true≢false (sym e))
+more_in (y ∷ []) start end x r e l =
+    let is : id_with y.agent (suc (y.seq + y.more)) ≡ x = (is_same_id (id_with y.agent (suc (y.seq + y.more))) x).0 e in
+    let next = ap (λ (z : Id). z.seq) is in
+    let more : suc (y.more + 1) ≡ suc (suc y.more) = omega arith in
+    let top : y.seq + suc y.more ≡ suc (y.seq + y.more) = omega arith in (
+      append-nil (block y.agent y.seq (suc (y.more + 1))) ∙ ap (block y.agent y.seq) more ∙ block_more y.agent y.seq (suc y.more)
+          ∙ (λ i. sym (append-nil (block y.agent y.seq (suc y.more))) i ++ (ap (id_with y.agent) top ∙ is) i ∷ []),
+      (r.0, (omega (arith, next, l)), tt, (let last = r.3 in omega (arith, last))),
+    )
+more_in (y ∷ z ∷ runs) start end x r e l =
+    let ih = more_in (z ∷ runs) (start + suc y.more) end x r.3 e l in (
+      ap (λ xs. block y.agent y.seq (suc y.more) ++ xs) ih.0 ∙ sym (append_assoc (block y.agent y.seq (suc y.more)) (ids_in (z ∷ runs)) (x ∷ [])),
+      (r.0, r.1, apart runs, ih.1),
+    )
+  where
+    apart : (later : List IdRun) → IsApart (last_of y) (with_more (z ∷ later))
+    apart [] = r.2
+    apart (t ∷ later) = r.2
+
+-- in a run of its own
+pub started_in : (runs : List IdRun) (start end : ℕ) (x : Id) → AreRuns start runs end → goes_on runs x ≡ false → x.seq < 2 ^ 32
+    → (ids_in (runs ++ record { start = end; agent = x.agent; seq = x.seq; more = 0 } ∷ []) ≡ ids_in runs ++ x ∷ []) × AreRuns start (runs ++ record { start = end; agent = x.agent; seq = x.seq; more = 0 } ∷ []) (end + 1)
+started_in [] start end x r e l = (refl, ((sym r), (omega (arith, l)), tt, (omega (arith, r))))
+started_in (y ∷ []) start end x r e l = (
+  sym (append_assoc (block y.agent y.seq (suc y.more)) [] (x ∷ [])),
+  (r.0, r.1, e, ((let last = r.3 in sym last), (omega (arith, l)), tt, (let last = r.3 in omega (arith, last)))),
+)
+started_in (y ∷ z ∷ runs) start end x r e l =
+    let ih = started_in (z ∷ runs) (start + suc y.more) end x r.3 e l in (
+      ap (λ xs. block y.agent y.seq (suc y.more) ++ xs) ih.0 ∙ sym (append_assoc (block y.agent y.seq (suc y.more)) (ids_in (z ∷ runs)) (x ∷ [])),
+      (r.0, r.1, r.2, ih.1),
+    )
+
+-- ONE FEWER
+pub fewer_in : (runs : List IdRun) (start end place : ℕ) (x : IdRun) → AreRuns start runs end → length runs ≡ suc place → slice_get runs place ≡ Some x
+    → (ids_in runs ≡ ids_in (with_fewer runs) ++ last_of x ∷ []) × AreRuns start (with_fewer runs) (end - 1) × (0 < end)
+fewer_in [] start end place x r long e = absurd (omega (arith, long))
+fewer_in (y ∷ []) start end (suc place) x r long e = absurd (omega (arith, long))
+fewer_in (y ∷ []) start end zero x r long e = at (nat_eq y.more 0) refl
+  where
+    last : last_of y ≡ last_of x
+    last = ap last_of (same_Some y x e)
+
+    shorter : IdRun
+    shorter = record { start = y.start; agent = y.agent; seq = y.seq; more = y.more - 1 }
+
+    at : (b : Bool) → nat_eq y.more 0 ≡ b → (ids_in (y ∷ []) ≡ ids_in (cond b [] (shorter ∷ [])) ++ last_of x ∷ []) × AreRuns start (cond b [] (shorter ∷ [])) (end - 1) × (0 < end)
+    at true q =
+        let none = eqb-true y.more 0 q in let stop = r.3 in
+        let same : y.seq + 0 ≡ y.seq = omega arith in (
+          ap (λ n. block y.agent y.seq (suc n) ++ []) none ∙ (λ i. id_with y.agent (sym same i) ∷ []) ∙ ap (λ n. id_with y.agent (y.seq + n) ∷ []) (sym none) ∙ ap (λ (z : Id). z ∷ []) last,
+          omega (arith, none, stop),
+          omega (arith, stop),
+        )
+    at false q =
+        let some = eqb-false y.more 0 q in let stop = r.3 in let fits = r.1 in
+        let back : y.more ≡ suc (y.more - 1) = omega (arith, some) in
+        let top : y.seq + suc (y.more - 1) ≡ y.seq + y.more = omega (arith, some) in (
+          append-nil (block y.agent y.seq (suc y.more)) ∙ ap (λ n. block y.agent y.seq (suc n)) back ∙ block_more y.agent y.seq (suc (y.more - 1))
+              ∙ (λ i. sym (append-nil (block y.agent y.seq (suc (y.more - 1)))) i ++ (ap (id_with y.agent) top ∙ last) i ∷ []),
+          (r.0, (omega (arith, fits)), tt, (omega (arith, stop, back))),
+          omega (arith, stop),
+        )
+fewer_in (y ∷ z ∷ runs) start end zero x r long e = absurd (omega (arith, long))
+fewer_in (y ∷ z ∷ runs) start end (suc place) x r long e =
+    let ih = fewer_in (z ∷ runs) (start + suc y.more) end place x r.3 (omega (arith, long)) e in (
+      ap (λ xs. block y.agent y.seq (suc y.more) ++ xs) ih.0 ∙ sym (append_assoc (block y.agent y.seq (suc y.more)) (ids_in (with_fewer (z ∷ runs))) (last_of x ∷ [])),
+      (r.0, r.1, apart runs, ih.1),
+      ih.2,
+    )
+  where
+    apart : (later : List IdRun) → IsApart (last_of y) (with_fewer (z ∷ later))
+    apart [] = one (nat_eq z.more 0)
+      where
+        one : (b : Bool) → IsApart (last_of y) (cond b [] (record { start = z.start; agent = z.agent; seq = z.seq; more = z.more - 1 } ∷ []))
+        one true = tt
+        one false = r.2
+    apart (t ∷ later) = r.2
+
+pub last_more : (runs : List IdRun) (place : ℕ) (x : IdRun) → length runs ≡ suc place → x ≡ slice_index_or runs place x → set runs place (record { start = x.start; agent = x.agent; seq = x.seq; more = x.more + 1 }) ≡ with_more runs
+last_more [] place x long e = absurd (omega (arith, long))
+last_more (y ∷ []) zero x long e = ap (λ (z : IdRun). record { start = z.start; agent = z.agent; seq = z.seq; more = z.more + 1 } ∷ []) e
+last_more (y ∷ []) (suc place) x long e = absurd (omega (arith, long))
+last_more (y ∷ z ∷ runs) zero x long e = absurd (omega (arith, long))
+last_more (y ∷ z ∷ runs) (suc place) x long e = ap (λ rs. y ∷ rs) (last_more (z ∷ runs) place x (omega (arith, long)) e)
+
+pub last_goes_on : (runs : List IdRun) (place : ℕ) (r : IdRun) (x : Id) → length runs ≡ suc place → slice_get runs place ≡ Some r → goes_on runs x ≡ is_next (last_of r) x
+last_goes_on [] place r x long e = absurd (omega (arith, long))
+last_goes_on (y ∷ []) zero r x long e = ap (λ (z : IdRun). is_next (last_of z) x) (same_Some y r e)
+last_goes_on (y ∷ []) (suc place) r x long e = absurd (omega (arith, long))
+last_goes_on (y ∷ z ∷ runs) zero r x long e = absurd (omega (arith, long))
+last_goes_on (y ∷ z ∷ runs) (suc place) r x long e = last_goes_on (z ∷ runs) place r x (omega (arith, long)) e
+
+pub some_before : (runs : List IdRun) (end place below : ℕ) → AreRuns 0 runs end → place < end → ((d : IdRun) → below ≤ 0 → 0 < length runs → place < (slice_index_or runs 0 d).start) → 1 ≤ below
+some_before [] end place below r l f = let stop = r in absurd (omega (arith, stop, l))
+some_before (y ∷ runs) end place zero r l f = let high = f y (omega arith) (omega arith) in let first = r.0 in absurd (omega (arith, high, first))
+some_before (y ∷ runs) end place (suc below) r l f = omega arith
+
+pub last_fewer : (runs : List IdRun) (place : ℕ) (x : IdRun) → length runs ≡ suc place → x ≡ slice_index_or runs place x → (x.more ≡ 0 → ⊥) → set runs place (record { start = x.start; agent = x.agent; seq = x.seq; more = x.more - 1 }) ≡ with_fewer runs
+last_fewer [] place x long e some = absurd (omega (arith, long))
+last_fewer (y ∷ []) zero x long e some =
+    ap (λ (z : IdRun). record { start = z.start; agent = z.agent; seq = z.seq; more = z.more - 1 } ∷ []) e
+    ∙ sym (ap (λ b. cond b [] (record { start = y.start; agent = y.agent; seq = y.seq; more = y.more - 1 } ∷ [])) (ne_eqb y.more 0 (λ q. some (ap (λ (z : IdRun). z.more) e ∙ q))))
+last_fewer (y ∷ []) (suc place) x long e some = absurd (omega (arith, long))
+last_fewer (y ∷ z ∷ runs) zero x long e some = absurd (omega (arith, long))
+last_fewer (y ∷ z ∷ runs) (suc place) x long e some = ap (λ rs. y ∷ rs) (last_fewer (z ∷ runs) place x (omega (arith, long)) e some)
+
+pub last_gone : (runs : List IdRun) (place : ℕ) (x : IdRun) → length runs ≡ suc place → x ≡ slice_index_or runs place x → x.more ≡ 0 → take place runs ≡ with_fewer runs
+last_gone [] place x long e none = absurd (omega (arith, long))
+last_gone (y ∷ []) zero x long e none = sym (ap (λ b. cond b [] (record { start = y.start; agent = y.agent; seq = y.seq; more = y.more - 1 } ∷ [])) (eq-eqb y.more 0 (ap (λ (z : IdRun). z.more) (sym e) ∙ none)))
+last_gone (y ∷ []) (suc place) x long e none = absurd (omega (arith, long))
+last_gone (y ∷ z ∷ runs) zero x long e none = absurd (omega (arith, long))
+last_gone (y ∷ z ∷ runs) (suc place) x long e none = ap (λ rs. y ∷ rs) (last_gone (z ∷ runs) place x (omega (arith, long)) e none)

@@ -1,0 +1,201 @@
+//! Ids in runs.
+
+ghost use Rattle.std.specs.Prelude.{◌≡◌, ℕ, suc, ◌+◌, ◌-◌, ◌<◌, ◌≤◌, ◌^◌, Bool, true, List, [], ◌∷◌, ◌++◌, take, length, Some, slice_get, IfSome, IfNone, OnOk, OnErr};
+ghost use Rattle.std.specs.List.{AllWithin};
+ghost use Rattle.ew_model.specs.declared.id.Id.{Id};
+ghost use Rattle.agent_ids.specs.declared.runs.IdRun.{IdRun};
+ghost use Rattle.agent_ids.specs.IdRuns.{id_runs, ids_in, is_next, last_of, AreRuns, goes_on, with_more, with_fewer};
+
+use ew_model::NoMem;
+use ew_model::id::Id;
+use ew_model::name::Name;
+use std::alloc::Global;
+use std::marker::Model;
+
+/// Neighbouring ids of one agent.
+#[derive(Clone, Copy)]
+pub struct IdRun {
+    /// The place of the first id.
+    pub start: u32,
+    pub agent: Name,
+    /// The number of the first id.
+    pub seq: u32,
+    /// How many more there are.
+    pub more: u32,
+}
+
+/// A list of ids, kept in runs. Contracts see the list.
+#[derive(Drop)]
+pub struct IdRuns {
+    runs: Vec<IdRun>,
+    count: u32,
+}
+
+impl Model for IdRuns {
+    ghost use Rattle.std.specs.Prelude.{List};
+    ghost use Rattle.ew_model.specs.declared.id.Id.{Id};
+    ghost use Rattle.agent_ids.specs.IdRuns.{ids_in, AreRuns};
+
+    ghost Value = { List Id };
+
+    ghost view = { λ r. ids_in r.runs.items };
+
+    ghost invariant = { λ r. AreRuns 0 r.runs.items r.count };
+}
+
+impl IdRuns {
+    /// No ids.
+    pub fn new(alloc: Global) -> IdRuns
+        ensures { result ≡ [] }
+    {
+        IdRuns {
+            runs: Vec::new(alloc),
+            count: 0,
+        }
+    }
+
+    /// How many ids there are.
+    pub fn len(&self) -> u32
+        ensures { result ≡ length self.now }
+    {
+        self.count
+    }
+
+    /// How many runs there are.
+    pub fn runs(&self) -> u32
+        ensures { result ≡ id_runs self.now }
+    {
+        let _count = self.count;
+        self.runs.len() as u32
+    }
+
+    /// The id at a place.
+    pub fn get(&self, place: u32) -> Id
+        requires { place < length self.now }
+        ensures { slice_get self.now place ≡ Some result }
+    {
+        let below = count_to(&self.runs, place);
+        let run = self.runs[below - 1];
+        Id {
+            agent: run.agent,
+            seq: run.seq + (place - run.start),
+        }
+    }
+
+    /// Puts one more id behind the others.
+    pub fn push(&mut self, id: Id) -> Result<(), NoMem>
+        requires room { length self.old + 1 < 2 ^ 32 }
+        ensures ok { OnOk result (self.new ≡ self.old ++ id ∷ []) }
+        ensures err { OnErr result (self.new ≡ self.old) }
+    {
+        put(&mut self.runs, self.count, id)?;
+        self.count += 1;
+        Ok(())
+    }
+
+    /// Takes the last id out.
+    pub fn pop(&mut self) -> Option<Id>
+        ensures none { IfNone result (self.old ≡ []) }
+        ensures some { IfSome result (λ x. self.old ≡ self.new ++ x ∷ []) }
+        ensures rest { self.new ≡ take (length self.old - 1) self.old }
+    {
+        let last = last_id(&self.runs)?;
+        shorten_last(&mut self.runs);
+        self.count -= 1;
+        Some(last)
+    }
+}
+
+/// How many of the runs begin at a place or before it.
+fn count_to(runs: &[IdRun], place: u32) -> usize
+    requires { (end : ℕ) × AreRuns 0 runs.now end }
+    ensures bound { result ≤ length runs.now }
+    ensures to { AllWithin (λ r. r.start ≤ place) runs.now 0 result }
+    ensures behind { AllWithin (λ r. place < r.start) runs.now result (length runs.now) }
+{
+    runs.partition_point(|run| run.start <= place)
+}
+
+/// Puts an id behind the others: into the last run, where that goes on with it, or else into a run of its own.
+fn put(runs: &mut Vec<IdRun>, start: u32, id: Id) -> Result<(), NoMem>
+    requires { AreRuns 0 runs.old.items start }
+    ensures ok { OnOk result (ids_in runs.new.items ≡ ids_in runs.old.items ++ id ∷ []) }
+    ensures runs { OnOk result (AreRuns 0 runs.new.items (start + 1)) }
+    ensures err { OnErr result (runs.new.items ≡ runs.old.items) }
+{
+    if goes_on(runs, &id) {
+        lengthen_last(runs);
+    } else {
+        runs.push(IdRun {
+            start,
+            agent: id.agent,
+            seq: id.seq,
+            more: 0,
+        })?;
+    }
+    Ok(())
+}
+
+/// Whether the last run goes on with an id.
+fn goes_on(runs: &[IdRun], id: &Id) -> bool
+    requires { (end : ℕ) × AreRuns 0 runs.now end }
+    ensures { result ≡ goes_on runs.now id.now }
+{
+    match last_id(runs) {
+        Some(last) => is_next(&last, id),
+        None => false,
+    }
+}
+
+/// Whether the second is the next id of the first one's agent.
+fn is_next(x: &Id, y: &Id) -> bool
+    ensures { result ≡ is_next x.now y.now }
+{
+    if x.seq < y.seq {
+        let next = Id {
+            agent: x.agent,
+            seq: x.seq + 1,
+        };
+        next.is(y)
+    } else {
+        false
+    }
+}
+
+/// The last id of the runs.
+fn last_id(runs: &[IdRun]) -> Option<Id>
+    requires { (end : ℕ) × AreRuns 0 runs.now end }
+    ensures none { IfNone result (runs.now ≡ []) }
+    ensures some { IfSome result (λ x. (place : ℕ) × (r : IdRun) × (length runs.now ≡ suc place) × (slice_get runs.now place ≡ Some r) × (x ≡ last_of r)) }
+{
+    let run = runs.last()?;
+    Some(Id {
+        agent: run.agent,
+        seq: run.seq + run.more,
+    })
+}
+
+/// Gives the last run one id more.
+fn lengthen_last(runs: &mut Vec<IdRun>)
+    requires { (end : ℕ) × AreRuns 0 runs.old.items end × (end < 2 ^ 32) }
+    ensures { runs.new.items ≡ with_more runs.old.items }
+{
+    let count = runs.len();
+    if count > 0 {
+        runs[count - 1].more += 1;
+    }
+}
+
+/// Takes one id from the last run.
+fn shorten_last(runs: &mut Vec<IdRun>)
+    ensures { runs.new.items ≡ with_fewer runs.old.items }
+{
+    let count = runs.len();
+    if count > 0 {
+        if runs[count - 1].more == 0 {
+            runs.pop();
+        } else {
+            runs[count - 1].more -= 1;
+        }
+    }
+}
