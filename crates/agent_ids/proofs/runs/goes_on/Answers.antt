@@ -1,4 +1,4 @@
-use Rattle.std.proofs.Common.{◌≡◌, ◌∙◌, sym, ap}
+use Rattle.std.proofs.Common.{◌∙◌, sym, ap}
 use Rattle.ew_model.specs.declared.id.Id.{Id}
 use Rattle.agent_ids.specs.IdRuns.{is_next}
 use Rattle.agent_ids.proofs.RunLists.{last_goes_on}

@@ -1,4 +1,4 @@
-use Rattle.std.proofs.Common.{◌≡◌, suc, sym, ap, arith}
+use Rattle.std.proofs.Common.{suc, sym, ap, arith}
 use Rattle.std.proofs.lemmas.Bool.{false_from_ne_true}
 use Rattle.ew_model.specs.declared.id.Id.{Id}
 use Rattle.ew_model.proofs.IdLaws.{is_same_id}

@@ -1,6 +1,6 @@
-use Rattle.std.proofs.Common.{◌≡◌, ◌∙◌, ◌+◌, ◌∷◌, ◌++◌, [], ℕ, List, true, false, sym, ap, subst, arith}
+use Rattle.std.proofs.Common.{◌≡◌, ◌∙◌, ◌+◌, ◌∷◌, ◌++◌, [], List, true, false, sym, ap, subst, arith}
 use Rattle.agent_ids.specs.declared.runs.IdRun.{IdRun}
-use Rattle.agent_ids.specs.IdRuns.{ids_in, AreRuns, goes_on, with_more}
+use Rattle.agent_ids.specs.IdRuns.{ids_in, AreRuns, goes_on}
 use Rattle.agent_ids.proofs.RunLists.{more_in, started_in}
 use Rattle.agent_ids.proofs.runs.put.Goals.{After-lengthen_last, In_ok-push}
 use Rattle.agent_ids.proofs.runs.put.Goals as goal

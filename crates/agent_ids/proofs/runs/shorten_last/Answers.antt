@@ -1,4 +1,4 @@
-use Rattle.std.proofs.Common.{◌≡◌, ◌∙◌, ◌-◌, ◌<◌, suc, length, take, sym, ap, arith}
+use Rattle.std.proofs.Common.{◌≡◌, ◌∙◌, ◌-◌, suc, length, take, sym, ap, arith}
 use Rattle.std.proofs.lemmas.List.{get_or_read}
 use Rattle.agent_ids.specs.declared.runs.IdRun.{IdRun}
 use Rattle.agent_ids.proofs.RunLists.{last_fewer, last_gone}

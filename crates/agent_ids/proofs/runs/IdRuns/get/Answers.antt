@@ -1,9 +1,7 @@
-use Rattle.std.proofs.Common.{◌≡◌, ◌∙◌, ◌+◌, ◌-◌, ◌<◌, ◌≤◌, ℕ, zero, suc, List, length, Some, slice_get, slice_index_or, sym, ap, subst, arith}
+use Rattle.std.proofs.Common.{◌≡◌, ◌∙◌, ◌+◌, ◌-◌, ◌<◌, ◌≤◌, suc, List, length, Some, slice_get, slice_index_or, sym, ap, subst, arith}
 use Rattle.std.proofs.lemmas.Option.{slice_get-get_or, slice_get_within, get_or_from_slice_get}
-use Rattle.std.proofs.lemmas.List.{get_or_read}
 use Rattle.ew_model.specs.declared.id.Id.{Id}
 use Rattle.agent_ids.specs.declared.runs.IdRun.{IdRun}
-use Rattle.agent_ids.specs.IdRuns.{AreRuns}
 use Rattle.agent_ids.proofs.RunLists.{length_in, run_within, in_run, read_run, some_before}
 use Rattle.agent_ids.proofs.runs.IdRuns.get.Goals.{After-count_to-below, After-struct_known-2-1}
 use Rattle.agent_ids.proofs.runs.IdRuns.get.Goals as goal

@@ -1,4 +1,4 @@
-use Rattle.std.proofs.Common.{◌≡◌, ◌∙◌, List, length, sym, ap, arith}
+use Rattle.std.proofs.Common.{length, ap, arith}
 use Rattle.ew_model.specs.declared.id.Id.{Id}
 use Rattle.agent_ids.proofs.RunLists.{length_in}
 use Rattle.agent_ids.proofs.runs.IdRuns.len.Goals as goal

@@ -1,8 +1,8 @@
-use Rattle.std.proofs.Common.{◌≡◌, ◌∙◌, ◌+◌, ◌-◌, ◌<◌, ◌∷◌, ◌++◌, [], ℕ, suc, List, length, take, Some, slice_get, sym, ap, subst, arith, length-append}
+use Rattle.std.proofs.Common.{◌≡◌, ◌∙◌, ◌-◌, ◌<◌, ◌∷◌, ◌++◌, [], List, length, take, slice_get, sym, ap, subst, arith, length-append}
 use Rattle.std.proofs.Math.Seq.{take-append_seam}
 use Rattle.ew_model.specs.declared.id.Id.{Id}
 use Rattle.agent_ids.specs.declared.runs.IdRun.{IdRun}
-use Rattle.agent_ids.specs.IdRuns.{ids_in, last_of, AreRuns, with_fewer}
+use Rattle.agent_ids.specs.IdRuns.{ids_in, AreRuns, with_fewer}
 use Rattle.agent_ids.proofs.RunLists.{fewer_in}
 use Rattle.agent_ids.proofs.runs.IdRuns.pop.Goals.{After-shorten_last, After-self-1}
 use Rattle.agent_ids.proofs.runs.IdRuns.pop.Goals as goal

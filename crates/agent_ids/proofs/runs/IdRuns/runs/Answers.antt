@@ -1,5 +1,4 @@
-use Rattle.std.proofs.Common.{◌≡◌, ◌∙◌, List, length, sym, ap, arith}
-use Rattle.ew_model.specs.declared.id.Id.{Id}
+use Rattle.std.proofs.Common.{◌≡◌, ◌∙◌, length, sym, ap, arith}
 use Rattle.agent_ids.specs.IdRuns.{id_runs}
 use Rattle.agent_ids.proofs.RunLists.{count_in, runs_end}
 use Rattle.agent_ids.proofs.runs.IdRuns.runs.Goals as goal
