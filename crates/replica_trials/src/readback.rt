@@ -1,30 +1,10 @@
 //! The state of a replica, read back: a replica made of the events that it holds has the same.
 
-ghost use Rattle.std.specs.Prelude.{◌≡◌, ◌≤◌, ◌<◌, length};
-
 use ew_model::NoMem;
-use ew_model::event::Event;
-use ew_model::limits::Limits;
 use ew_model::steps::Steps;
 use replica::{LoadFault, Replica};
 use std::alloc::Global;
-use std::marker::Brand;
-use std::sync::ledger::{Blank, Ledger};
-
-fn load_by<L: Ledger>(
-    alloc: Global,
-    events: Vec<Event>,
-    limits: Limits,
-    blank: Blank,
-) -> Result<Replica, LoadFault>
-    requires name { blank.name ≡ L.name }
-    requires parts { blank.parts ≡ L.parts }
-    requires some { 0 < blank.parts }
-    requires few { length events.items ≤ limits.events }
-{
-    let mut steps: Steps<L> = Steps::new(blank);
-    Replica::from_events(alloc, events, limits, &mut steps)
-}
+use std::sync::ledger::Ledger;
 
 /// Whether the text after each event is as long in both, and the same cuts are critical.
 fn have_same_lengths(one: &Replica, other: &Replica) -> bool {
@@ -41,18 +21,26 @@ fn have_same_lengths(one: &Replica, other: &Replica) -> bool {
 }
 
 /// Whether a replica made of the events held has the same text, lengths, heads and critical cuts.
-pub fn is_read_back(alloc: Global, replica: &Replica) -> Result<bool, NoMem> {
+pub fn is_read_back<L: Ledger>(
+    alloc: Global,
+    replica: &Replica,
+    steps: &mut Steps<L>,
+) -> Result<bool, NoMem> {
     let events = replica.events()?;
-    let again = match load_by::<Brand>(alloc, events, replica.limits(), Blank::new(1)) {
+    let again = match Replica::from_events(alloc, events, replica.limits(), steps) {
         Ok(again) => again,
         Err(LoadFault::OutOfMemory) => return Err(NoMem),
         Err(LoadFault::BadEvent { .. }) => return Ok(false),
     };
+    are_the_same(&again, replica)
+}
+
+fn are_the_same(again: &Replica, replica: &Replica) -> Result<bool, NoMem> {
     let text = replica.text()?;
     Ok(
         again.agrees(replica)
             && again.text()? == text
             && again.heads() == replica.heads()
-            && have_same_lengths(&again, replica),
+            && have_same_lengths(again, replica),
     )
 }

@@ -1,6 +1,6 @@
 //! Receiving in pieces, and what is told of all of them together.
 
-ghost use Rattle.std.specs.Prelude.{◌≡◌, ◌<◌, ◌^◌, length};
+ghost use Rattle.std.specs.Prelude.{◌<◌, ◌^◌, length};
 
 use crate::readback::is_read_back;
 use ew_model::NoMem;
@@ -10,8 +10,7 @@ use ew_model::steps::Steps;
 use ew_model::verdict::Refusal;
 use replica::{Replica, Stopped, Took};
 use std::alloc::Global;
-use std::marker::Brand;
-use std::sync::ledger::{Blank, Ledger};
+use std::sync::ledger::Ledger;
 
 /// What was told of the pieces so far.
 #[derive(Drop)]
@@ -28,12 +27,13 @@ pub struct Pieces {
 }
 
 impl Pieces {
-    pub fn new(alloc: Global) -> Pieces {
+    /// Nothing yet, where so many events wait already.
+    pub fn new(alloc: Global, waiting: u32) -> Pieces {
         Pieces {
             accepted: 0,
             repeats: 0,
             refused: Vec::new(alloc),
-            waiting: 0,
+            waiting,
             stopped: false,
             sound: true,
         }
@@ -57,53 +57,41 @@ impl Pieces {
     }
 }
 
-fn receive_by<L: Ledger>(
-    replica: &mut Replica,
-    events: Vec<Event>,
-    blank: Blank,
-) -> Result<Took, Stopped>
-    requires name { blank.name ≡ L.name }
-    requires parts { blank.parts ≡ L.parts }
-    requires some { 0 < blank.parts }
-    requires few { length events.items < 2 ^ 32 }
-{
-    let mut steps: Steps<L> = Steps::new(blank);
-    replica.receive(events, &mut steps)
-}
-
 /// Receives events, and answers those that weren't judged, for want of memory.
-fn receive_piece(
+fn receive_piece<L: Ledger>(
     alloc: Global,
     replica: &mut Replica,
     events: Vec<Event>,
     pieces: &mut Pieces,
+    steps: &mut Steps<L>,
 ) -> Result<Vec<Event>, NoMem> {
     let given = events.len();
     if given > u32::MAX as usize {
         return Err(NoMem);
     }
-    let (took, rest) = match receive_by::<Brand>(replica, events, Blank::new(1)) {
+    let (took, rest) = match replica.receive(events, steps) {
         Ok(took) => (took, Vec::new(alloc)),
         Err(Stopped { took, rest }) => (took, rest),
     };
     pieces.add(&took, given.saturating_sub(rest.len()))?;
-    pieces.sound = pieces.sound && is_read_back(alloc, replica)?;
+    pieces.sound = pieces.sound && is_read_back(alloc, replica, steps)?;
     Ok(rest)
 }
 
 /// Receives events, and again what was handed back of them.
-pub fn receive_all(
+pub fn receive_all<L: Ledger>(
     alloc: Global,
     replica: &mut Replica,
     events: Vec<Event>,
     pieces: &mut Pieces,
+    steps: &mut Steps<L>,
 ) -> Result<(), NoMem> {
-    let rest = receive_piece(alloc, replica, events, pieces)?;
+    let rest = receive_piece(alloc, replica, events, pieces, steps)?;
     if rest.is_empty() {
         return Ok(());
     }
     pieces.stopped = true;
-    let rest = receive_piece(alloc, replica, rest, pieces)?;
+    let rest = receive_piece(alloc, replica, rest, pieces, steps)?;
     pieces.sound = pieces.sound && rest.is_empty();
     Ok(())
 }

@@ -1,0 +1,296 @@
+//! Rows of a replica: it edits and receives, and it is asked what it has.
+
+ghost use Rattle.std.specs.Prelude.{◌<◌, ◌^◌, length, IfOk};
+
+use crate::pieces::{Pieces, receive_all};
+use crate::readback::is_read_back;
+use ew_model::event::{Event, Op};
+use ew_model::id::Id;
+use ew_model::limits::Limits;
+use ew_model::name::Name;
+use ew_model::parents::Parents;
+use ew_model::steps::Steps;
+use ew_model::verdict::Refusal;
+use replica::{EditFault, LoadFault, Replica, Took};
+use std::alloc::Global;
+use std::fmt::Write;
+use std::sync::ledger::Ledger;
+use trial_rows::fault::Fault;
+use trial_rows::report::Report;
+use trial_rows::show;
+use trial_rows::words::{first_word, history, id, number, two_numbers};
+
+/// The limits of the program, or so many events and so many that wait.
+fn limits(words: &str) -> Result<Limits, Fault> {
+    if words == "program" {
+        return Ok(Limits::program());
+    }
+    let (events, waiting) = two_numbers(words)?;
+    Limits::new(events, waiting, 64, 643).ok_or(Fault::Unreadable)
+}
+
+pub fn run<'a, L: Ledger>(
+    alloc: Global,
+    words: &str,
+    rows: &'a str,
+    report: &mut Report<'a>,
+    steps: &mut Steps<L>,
+) -> Result<(), Fault> {
+    let mut replica = Replica::new(alloc, limits(words)?)?;
+    for row in rows.split('\n') {
+        let asked = report.ask(row)?;
+        let (answer, stopped) = answer(alloc, &mut replica, asked, steps)?;
+        report.compare(answer.as_str())?;
+        if stopped {
+            report.note_stop();
+        }
+    }
+    Ok(())
+}
+
+/// The answer, and whether receiving stopped on the way.
+fn answer<L: Ledger>(
+    alloc: Global,
+    replica: &mut Replica,
+    asked: &str,
+    steps: &mut Steps<L>,
+) -> Result<(String, bool), Fault> {
+    let (verb, rest) = first_word(asked);
+    match verb {
+        "pieces" => pieces(alloc, replica, history(alloc, rest)?, steps),
+        "backwards" => pieces(alloc, replica, backwards(alloc, number(rest)?)?, steps),
+        _ => Ok((change(alloc, replica, verb, rest, steps)?, false)),
+    }
+}
+
+fn change<L: Ledger>(
+    alloc: Global,
+    replica: &mut Replica,
+    verb: &str,
+    rest: &str,
+    steps: &mut Steps<L>,
+) -> Result<String, Fault> {
+    match verb {
+        "receive" => receive(alloc, replica, rest, steps),
+        "ins" => insert(alloc, replica, rest, steps),
+        "del" => delete(alloc, replica, rest, steps),
+        "load" => load(alloc, replica, rest, steps),
+        "back" => Ok(show::yes_or_no(alloc, is_read_back(alloc, replica, steps)?)?),
+        _ => ask(alloc, replica, verb, rest),
+    }
+}
+
+fn ask(alloc: Global, replica: &Replica, verb: &str, rest: &str) -> Result<String, Fault> {
+    match verb {
+        "text" => text(alloc, replica),
+        "held" => held(alloc, replica),
+        "awaits" => awaits(alloc, replica, rest),
+        "heads" => Ok(show::ids(alloc, &replica.head_ids()?)?),
+        "cuts" => cuts(alloc, replica),
+        "events" => Ok(show::number(alloc, replica.count())?),
+        "find" => Ok(show::number_or_none(alloc, replica.graph().find(&id(rest)?))?),
+        _ => Err(Fault::Unreadable),
+    }
+}
+
+/// What was told, but for those that were refused.
+fn tell_numbers(out: &mut String, accepted: u64, waiting: u32, repeats: u64) -> Result<(), Fault> {
+    write!(
+        out,
+        "accepted {accepted} waiting {waiting} repeats {repeats}"
+    )?;
+    Ok(())
+}
+
+fn tell_refused(out: &mut String, refused: &[(Id, Refusal)]) -> Result<(), Fault> {
+    for (id, refusal) in refused {
+        write!(out, " {id} {refusal:?}")?;
+    }
+    Ok(())
+}
+
+/// Receives events, and goes on where memory was wanting.
+fn pieces<L: Ledger>(
+    alloc: Global,
+    replica: &mut Replica,
+    events: Vec<Event>,
+    steps: &mut Steps<L>,
+) -> Result<(String, bool), Fault> {
+    let mut pieces = Pieces::new(alloc, waiting(alloc, replica, steps)?);
+    receive_all(alloc, replica, events, &mut pieces, steps)?;
+    let mut out = String::new(alloc);
+    tell_numbers(&mut out, pieces.accepted, pieces.waiting, pieces.repeats)?;
+    let sound = pieces.sound;
+    write!(out, " sound {sound}")?;
+    tell_refused(&mut out, &pieces.refused)?;
+    Ok((out, pieces.stopped))
+}
+
+/// How many events wait.
+fn waiting<L: Ledger>(
+    alloc: Global,
+    replica: &mut Replica,
+    steps: &mut Steps<L>,
+) -> Result<u32, Fault> {
+    match replica.receive(Vec::new(alloc), steps) {
+        Ok(took) => Ok(took.waiting),
+        Err(_) => Err(Fault::OutOfMemory),
+    }
+}
+
+/// Receives events in one call.
+fn receive<L: Ledger>(
+    alloc: Global,
+    replica: &mut Replica,
+    rest: &str,
+    steps: &mut Steps<L>,
+) -> Result<String, Fault> {
+    let events = history(alloc, rest)?;
+    match replica.receive(events, steps) {
+        Ok(took) => told(alloc, &took),
+        Err(_) => Err(Fault::OutOfMemory),
+    }
+}
+
+fn told(alloc: Global, took: &Took) -> Result<String, Fault> {
+    let mut out = String::new(alloc);
+    tell_numbers(
+        &mut out,
+        u64::from(took.accepted),
+        took.waiting,
+        u64::from(took.repeats),
+    )?;
+    let cut = took.cut;
+    write!(out, " cut {cut}")?;
+    tell_refused(&mut out, &took.refused)?;
+    Ok(out)
+}
+
+/// The events of a typed text of so many characters, the last one first, and without the first.
+fn backwards(alloc: Global, count: u32) -> Result<Vec<Event>, Fault>
+    ensures { IfOk result (λ v. length v.items < 2 ^ 32) }
+{
+    let agent = Name::read(b"a")?;
+    let mut events = Vec::new(alloc);
+    for seq in (1..count).rev() {
+        events.push(typed(alloc, agent, seq)?)?;
+    }
+    if events.len() >= 100_000 {
+        return Err(Fault::Unreadable);
+    }
+    Ok(events)
+}
+
+/// The event of a typed alphabet with this number, on the one before.
+fn typed(alloc: Global, agent: Name, seq: u32) -> Result<Event, Fault> {
+    let mut parents = Parents::new(alloc)?;
+    if let Some(before) = seq.checked_sub(1) {
+        parents.push(Id { agent, seq: before })?;
+    }
+    let letter = b'a' + (seq % 26) as u8;
+    Ok(Event {
+        id: Id { agent, seq },
+        parents,
+        op: Op::Ins {
+            at: seq,
+            ch: char::from(letter),
+        },
+    })
+}
+
+/// The number of an edit's events, or why it is refused.
+fn edited(alloc: Global, answer: Result<u32, EditFault>) -> Result<String, Fault> {
+    match answer {
+        Ok(count) => Ok(show::number(alloc, count)?),
+        Err(EditFault::OutOfMemory) => Err(Fault::OutOfMemory),
+        Err(fault) => Ok(format!(in alloc; "{fault:?}")?),
+    }
+}
+
+fn insert<L: Ledger>(
+    alloc: Global,
+    replica: &mut Replica,
+    rest: &str,
+    steps: &mut Steps<L>,
+) -> Result<String, Fault> {
+    let (word, rest) = first_word(rest);
+    let agent = Name::read(word.as_bytes())?;
+    let (at, text) = first_word(rest);
+    let at = number(at)?;
+    if replica.awaits(&agent) {
+        return Err(Fault::Unreadable);
+    }
+    edited(alloc, replica.insert(agent, at, text, steps))
+}
+
+fn delete<L: Ledger>(
+    alloc: Global,
+    replica: &mut Replica,
+    rest: &str,
+    steps: &mut Steps<L>,
+) -> Result<String, Fault> {
+    let (word, rest) = first_word(rest);
+    let agent = Name::read(word.as_bytes())?;
+    let (at, n) = two_numbers(rest)?;
+    if replica.awaits(&agent) {
+        return Err(Fault::Unreadable);
+    }
+    edited(alloc, replica.delete(agent, at, n, steps))
+}
+
+/// Makes the replica anew of events, or tells why not: then it is as it was.
+fn load<L: Ledger>(
+    alloc: Global,
+    replica: &mut Replica,
+    rest: &str,
+    steps: &mut Steps<L>,
+) -> Result<String, Fault> {
+    let events = history(alloc, rest)?;
+    if events.len() > replica.limits().events() as usize {
+        return Err(Fault::Unreadable);
+    }
+    match Replica::from_events(alloc, events, replica.limits(), steps) {
+        Ok(loaded) => {
+            *replica = loaded;
+            Ok(show::text(alloc, "loaded")?)
+        }
+        Err(LoadFault::OutOfMemory) => Err(Fault::OutOfMemory),
+        Err(LoadFault::BadEvent { position, verdict }) => {
+            Ok(format!(in alloc; "{position} {verdict:?}")?)
+        }
+    }
+}
+
+fn text(alloc: Global, replica: &Replica) -> Result<String, Fault> {
+    Ok(show::bytes(alloc, &replica.text()?)?)
+}
+
+/// The text, how long it is after each event, the positions of the heads, and their ids.
+fn held(alloc: Global, replica: &Replica) -> Result<String, Fault> {
+    let text = text(alloc, replica)?;
+    let mut lengths = Vec::new(alloc);
+    for count in 0..replica.count() {
+        lengths.push(replica.length_at(count))?;
+    }
+    lengths.push(replica.len())?;
+    let lengths = show::numbers(alloc, &lengths)?;
+    let heads = show::numbers(alloc, replica.heads())?;
+    let ids = show::ids(alloc, &replica.head_ids()?)?;
+    Ok(format!(in alloc; "{text}; {lengths}; {heads}; {ids}")?)
+}
+
+fn awaits(alloc: Global, replica: &Replica, rest: &str) -> Result<String, Fault> {
+    let agent = Name::read(rest.as_bytes())?;
+    Ok(show::yes_or_no(alloc, replica.awaits(&agent))?)
+}
+
+/// The critical cuts.
+fn cuts(alloc: Global, replica: &Replica) -> Result<String, Fault> {
+    let mut cuts = Vec::new(alloc);
+    for cut in 0..replica.count().saturating_add(2) {
+        if replica.graph().is_cut(cut) {
+            cuts.push(cut)?;
+        }
+    }
+    Ok(show::numbers(alloc, &cuts)?)
+}
