@@ -6,23 +6,30 @@ use crate::replica_rows;
 use ew_model::NoMem;
 use ew_model::steps::Steps;
 use std::alloc::Global;
-use std::process::ExitCode;
+use std::marker::Brand;
 use std::sync::ledger::{Blank, Ledger};
 use trial_rows::fault::Fault;
-use trial_rows::input::status;
 use trial_rows::report::Report;
 use trial_rows::words::first_word;
 
-/// Carries out all groups over a ledger of their own, prints what is told of them, and answers how to end.
-pub fn run_by<L: Ledger>(rt: &HostRuntime, text: &str, blank: Blank) -> Result<ExitCode, NoMem>
+/// Carries out all groups of a text in UTF-8. Answers what is told of them, how many rows were wrong, and how often receiving stopped.
+pub fn carry_out(alloc: Global, text: &[u8]) -> Result<(String, u32, u32), NoMem> {
+    run_by::<Brand>(alloc, text, Blank::new(1))
+}
+
+/// The same over a ledger.
+fn run_by<L: Ledger>(alloc: Global, text: &[u8], blank: Blank) -> Result<(String, u32, u32), NoMem>
     requires name { blank.name ≡ L.name }
     requires parts { blank.parts ≡ L.parts }
     requires some { 0 < blank.parts }
 {
     let mut steps: Steps<L> = Steps::new(blank);
-    let report = run_groups(rt.alloc(), text, &mut steps)?;
-    let _ = rt.print(report.told());
-    Ok(status(&report))
+    let Ok(text) = str::from_utf8(text) else {
+        return Err(NoMem);
+    };
+    let report = run_groups(alloc, text, &mut steps)?;
+    let told = String::from_str(alloc, report.told())?;
+    Ok((told, report.wrong(), report.stops()))
 }
 
 /// All groups.
