@@ -1,0 +1,9 @@
+pub mod Loops
+pub mod Fields
+pub mod Lists
+pub mod Ascending
+pub mod Bodies
+pub mod Heads
+pub mod Cuts
+pub mod Answering
+pub mod Written

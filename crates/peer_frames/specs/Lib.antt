@@ -1,0 +1,6 @@
+pub mod Spelling
+pub mod Cutting
+pub mod Calls
+pub mod Answers
+pub mod Laws
+pub mod Reading
