@@ -1,3 +1,4 @@
 pub mod FaultLaws
+pub mod Lines
 pub mod Readings
 pub mod Stops

@@ -9,7 +9,7 @@ use Rattle.ew_model.specs.Scripts.{Numbered, IsScript, IsFirstBadLine}
 use Rattle.ew_model.proofs.ScriptReading.{scripts_are_unique, first_bad_lines_are_unique, scripts_have_no_bad_line}
 use Rattle.command_plans.specs.declared.reply.Plan.{Plan}
 use Rattle.command_plans.specs.declared.reply.Stop.{Stop}
-use Rattle.command_plans.specs.Edits.{EditsTo, PlansScript, PlansInput}
+use Rattle.command_plans.specs.Edits.{EditsTo, PlansScript, PlansInput, edits_reply}
 use Rattle.command_table.specs.Scripts.{Reading, script, bad_line, Means}
 use Rattle.ew_model.specs.declared.event.Event.{Event}
 use Rattle.command_table.specs.Table.{Reply, refuses, script_reply, input_reply, edited_reply, made_reply, Opened, opened, open_file, over_events, over_both}
@@ -31,16 +31,24 @@ module _ (name agent input : List ℕ) (r new : ReplicaState) where
   pub bad_script : (line : ℕ) (text : List ℕ) → IsFirstBadLine input line → text ≡ bad_line_text line → (reading : Reading) → Means input reading → refuses 5 text ≡ script_reply name agent r.limits r.held reading
   bad_script line text bad is = for_each input (bad_line line) (λ reading. refuses 5 text ≡ script_reply name agent r.limits r.held reading) bad (ap (refuses 5) is)
 
-  -- a script of which a line is refused
-  pub stopped_script : (items : List (Numbered Edit)) (p : Plan) → IsScript input items → EditsTo agent items r new (Ok (Some p)) → (reading : Reading) → Means input reading → plan_view p ≡ script_reply name agent r.limits r.held reading
-  stopped_script items p is done =
-      for_each input (script items) (λ reading. plan_view p ≡ script_reply name agent r.limits r.held reading) is (done.3 ∙ ap (edited_reply name r.limits (length r.held)) (sym done.2))
+  -- a script whose edits are done, or one of them refused
+  pub edits_script : (items : List (Numbered Edit)) (result : Result Plan AllocError) → IsScript input items → IfOk result (λ p. plan_view p ≡ edits_reply name agent r items) → PlansScript name agent r input result
+  edits_script items (Ok p) is told = for_each input (script items) (λ reading. plan_view p ≡ script_reply name agent r.limits r.held reading) is told
+  edits_script items (Err e) is told = tt
 
-  -- a script that is done to its end
-  pub done_script : (items : List (Numbered Edit)) (result : Result Plan AllocError) → IsScript input items → EditsTo agent items r new (Ok None) → IfOk result (λ p. plan_view p ≡ made_reply name (length r.held) new.held) → PlansScript name agent r input result
-  done_script items (Ok p) is done told =
-      for_each input (script items) (λ reading. plan_view p ≡ script_reply name agent r.limits r.held reading) is (told ∙ ap (edited_reply name r.limits (length r.held)) (sym done))
-  done_script items (Err e) is done told = tt
+  -- edits of which a line is refused
+  pub stopped_edits : (items : List (Numbered Edit)) (o : Option Plan) (p : Plan) → o ≡ Some p → EditsTo agent items r new (Ok o) → plan_view p ≡ edits_reply name agent r items
+  stopped_edits items o p is done =
+      let stop : EditsTo agent items r new (Ok (Some p)) = subst (λ x. EditsTo agent items r new (Ok x)) is done in
+      stop.3 ∙ ap (edited_reply name r.limits (length r.held)) (sym stop.2)
+
+  -- edits that are done to their end
+  pub done_edits : (items : List (Numbered Edit)) (o : Option Plan) (before : ℕ) (result : Result Plan AllocError) → o ≡ None → EditsTo agent items r new (Ok o) → before ≡ length r.held
+      → IfOk result (λ p. plan_view p ≡ made_reply name before new.held) → IfOk result (λ p. plan_view p ≡ edits_reply name agent r items)
+  done_edits items o before (Ok p) is done count told =
+      let all : EditsTo agent items r new (Ok None) = subst (λ x. EditsTo agent items r new (Ok x)) is done in
+      told ∙ ap (λ n. made_reply name n new.held) count ∙ ap (edited_reply name r.limits (length r.held)) (sym all)
+  done_edits items o before (Err e) is done count told = tt
 
 -- a plan over the replica of a file that was opened
 pub plans_opened :

@@ -1,5 +1,5 @@
 -- What the parts of the command `edit` answer.
-use Rattle.std.specs.Prelude.{◌≡◌, ⊤, ℕ, List, Option, None, Some, IsSomeAnd, Result, Ok, Err}
+use Rattle.std.specs.Prelude.{◌≡◌, ⊤, ℕ, List, length, Option, None, Some, IsSomeAnd, Result, Ok, Err}
 use Rattle.std.specs.declared.alloc.AllocError.{AllocError}
 use Rattle.ew_model.specs.Limits.{LimitNumbers}
 use Rattle.ew_model.specs.Kept.{ReplicaState}
@@ -10,7 +10,7 @@ use Rattle.replica.specs.Answers.{refusal_of}
 use Rattle.command_plans.specs.declared.reply.Plan.{Plan}
 use Rattle.command_plans.specs.declared.reply.Stop.{Stop}
 use Rattle.command_table.specs.Scripts.{Reading, Means, ran, stopped_at, edited_by}
-use Rattle.command_table.specs.Table.{input_reply, line_refusal, script_reply}
+use Rattle.command_table.specs.Table.{Reply, edited_reply, input_reply, line_refusal, script_reply}
 use Rattle.command_plans.specs.Views.{plan_view}
 
 -- the plan tells why the line is refused
@@ -24,6 +24,10 @@ EditsTo agent items old new (Ok None) = edited_by old.limits agent old.held item
 EditsTo agent items old new (Ok (Some p)) =
     (line : ℕ) × (why : EditRefusal) × (edited_by old.limits agent old.held items ≡ stopped_at line why) × (plan_view p ≡ line_refusal old.limits line why)
 EditsTo agent items old new (Err _) = ⊤
+
+-- what comes of an agent's edits of what a replica holds
+abbrev pub edits_reply : List ℕ → List ℕ → ReplicaState → List (Numbered Edit) → Reply
+edits_reply name agent r items = edited_reply name r.limits (length r.held) (edited_by r.limits agent r.held items)
 
 -- the plan is the table's, whatever the input means
 abbrev pub PlansScript : List ℕ → List ℕ → ReplicaState → List ℕ → Result Plan AllocError → Type 0

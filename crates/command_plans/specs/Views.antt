@@ -65,6 +65,11 @@ abbrev pub PlansBy : (Files → List ℕ → Reading → Reply) → Option Files
 PlansBy reply (Some m) (Some input) (Ok p) = (reading : Reading) → Means input reading → plan_view p ≡ reply m input reading
 PlansBy reply _ _ _ = ⊤
 
+-- the same of a line that has no use for the input
+abbrev pub PlansAlone : (Files → List ℕ → Reading → Reply) → Option Files → Result Plan Stop → Type 0
+PlansAlone reply (Some m) (Ok p) = (input : List ℕ) (reading : Reading) → plan_view p ≡ reply m input reading
+PlansAlone reply _ _ = ⊤
+
 -- at status 0 nothing is left of an input that was told
 abbrev pub ReadsAll : Option (List ℕ) → Option (List ℕ) → Result Plan Stop → Type 0
 ReadsAll (Some input) new (Ok p) = status_of p ≡ 0 → new ≡ Some []

@@ -2,18 +2,18 @@
 ghost use Rattle.std.specs.Prelude.{◌≡◌, ◌≢◌, ◌<◌, ◌^◌, [], length, IfOk, IfSome};
 ghost use Rattle.event_words.specs.Meaning.{edit_meant, numbered_edits};
 ghost use Rattle.replica.specs.Answers.{EditsBy};
-ghost use Rattle.command_plans.specs.Edits.{EditsTo, LineRefuses, PlansInput, PlansScript};
+ghost use Rattle.command_plans.specs.Edits.{EditsTo, LineRefuses, PlansInput, PlansScript, edits_reply};
 ghost use Rattle.command_table.specs.Table.{input_reply, made_reply, open_file, over_events};
 ghost use Rattle.command_plans.specs.Views.{Causes, IsCommandPlan, MissesBy, PlansBy, ReadsAll, SourceCauses, plan_view, status_of};
 
 use crate::input::{Input, read_input};
 use crate::open::{Found, open};
 use crate::reply::{Plan, Stop};
+use crate::store::store_plan;
 use command_texts::texts::{
     bad_line_text, input_too_long_text, line_out_of_range_text, made_text, too_many_events_text,
     too_many_heads_text,
 };
-use event_file::encode;
 use event_words::edit::Edit;
 use event_words::script::{ScriptFault, read_script};
 use ew_model::limits::Limits;
@@ -101,14 +101,30 @@ fn made_plan<'a>(
     let count = replica.count();
     if before < count {
         let out = made_text(alloc, u64::from(count - before))?;
-        let events = replica.events()?;
-        Ok(Plan::Stores {
-            out,
-            name,
-            bytes: encode(alloc, &events)?,
-        })
+        store_plan(alloc, name, replica, out)
     } else {
         Ok(Plan::Prints(made_text(alloc, 0)?))
+    }
+}
+
+/// Does the edits of a script over a replica, and plans what is to be stored and told.
+fn run_edits<'a, L: Ledger>(
+    alloc: Global,
+    name: &'a str,
+    agent: Name,
+    mut replica: Replica,
+    edits: &[(u32, Edit)],
+    steps: &mut Steps<L>,
+) -> Result<Plan<'a>, AllocError>
+    requires { replica.waiting ≡ [] }
+    ensures told { IfOk result (λ p. plan_view p ≡ edits_reply name.now agent replica (numbered_edits edits.now)) }
+    ensures plan { IfOk result IsCommandPlan }
+    ensures found { IfOk result (λ p. status_of p ≢ 3) }
+{
+    let before = replica.count();
+    match do_edits(alloc, &mut replica, agent, edits, steps)? {
+        Some(refusal) => Ok(refusal),
+        None => made_plan(alloc, name, &replica, before),
     }
 }
 
@@ -117,7 +133,7 @@ fn run_script<'a, L: Ledger>(
     alloc: Global,
     name: &'a str,
     agent: Name,
-    mut replica: Replica,
+    replica: Replica,
     script: &[u8],
     steps: &mut Steps<L>,
 ) -> Result<Plan<'a>, AllocError>
@@ -127,7 +143,6 @@ fn run_script<'a, L: Ledger>(
     ensures plan { IfOk result IsCommandPlan }
     ensures found { IfOk result (λ p. status_of p ≢ 3) }
 {
-    let before = replica.count();
     let edits = match read_script(alloc, script) {
         Ok(edits) => edits,
         Err(ScriptFault::OutOfMemory) => return Err(AllocError),
@@ -138,10 +153,7 @@ fn run_script<'a, L: Ledger>(
             });
         }
     };
-    match do_edits(alloc, &mut replica, agent, &edits, steps)? {
-        Some(refusal) => Ok(refusal),
-        None => made_plan(alloc, name, &replica, before),
-    }
+    run_edits(alloc, name, agent, replica, &edits, steps)
 }
 
 /// Reads the input, and runs it as a script over a replica.

@@ -9,3 +9,4 @@ mod merge;
 mod open;
 pub mod plan;
 pub mod reply;
+mod store;

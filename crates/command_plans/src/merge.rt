@@ -3,14 +3,15 @@ ghost use Rattle.std.specs.Prelude.{◌≡◌, ◌≢◌, ◌<◌, ◌^◌, [], 
 ghost use Rattle.std.specs.List.{list_any};
 ghost use Rattle.std.specs.Option.{option_copied};
 ghost use Rattle.command_plans.specs.Merging.{took_reply};
-ghost use Rattle.command_table.specs.Table.{merge_reply, open_file, over_both, over_events};
+ghost use Rattle.command_texts.specs.Told.{took_text};
+ghost use Rattle.command_table.specs.Table.{merge_reply, open_file, over_both, over_events, received_reply};
 ghost use Rattle.command_table.specs.Table as table;
 ghost use Rattle.command_plans.specs.Views.{IsCommandPlan, MissesBy, ShelfCauses, plan_view, status_of};
 
 use crate::open::{Found, open};
 use crate::reply::{Plan, Stop};
+use crate::store::store_plan;
 use command_texts::texts::{clash_text, received_text, too_many_events_text};
-use event_file::encode;
 use ew_model::NoMem;
 use ew_model::event::Event;
 use ew_model::id::Id;
@@ -48,6 +49,25 @@ fn any_graph_full(refused: &[(Id, Refusal)]) -> bool
     refused.iter().any(|p| is_graph_full(p.1))
 }
 
+/// What is told and stored of events of which none is a reason to refuse all.
+fn received_plan<'a>(
+    alloc: Global,
+    name: &'a str,
+    replica: &Replica,
+    took: &Took,
+) -> Result<Plan<'a>, AllocError>
+    ensures told { IfOk result (λ p. plan_view p ≡ received_reply name.now replica.now.held took.now.accepted (took_text took.now)) }
+    ensures plan { IfOk result IsCommandPlan }
+    ensures found { IfOk result (λ p. status_of p ≢ 3) }
+{
+    let out = received_text(alloc, took)?;
+    if took.accepted == 0 {
+        Ok(Plan::Prints(out))
+    } else {
+        store_plan(alloc, name, replica, out)
+    }
+}
+
 /// What is told and stored once the events are received.
 fn took_plan<'a>(
     alloc: Global,
@@ -72,16 +92,7 @@ fn took_plan<'a>(
             text: too_many_events_text(alloc, limits.events())?,
         });
     }
-    let out = received_text(alloc, took)?;
-    if took.accepted == 0 {
-        return Ok(Plan::Prints(out));
-    }
-    let events = replica.events()?;
-    Ok(Plan::Stores {
-        out,
-        name,
-        bytes: encode(alloc, &events)?,
-    })
+    received_plan(alloc, name, replica, took)
 }
 
 /// The events of a replica.

@@ -1,9 +1,9 @@
 //! From a command to what is to be done.
-ghost use Rattle.std.specs.Prelude.{◌≡◌, false, true};
+ghost use Rattle.std.specs.Prelude.{◌≡◌, false, true, IfOk, Some};
 ghost use Rattle.std.specs.Option.{option_map};
 ghost use Rattle.ew_model.specs.Names.{is_name};
-ghost use Rattle.command_table.specs.Table.{needs_file, reads_input, reply_of};
-ghost use Rattle.command_plans.specs.Views.{Causes, MissesFor, PlansBy, PlansLine, ReadsFor};
+ghost use Rattle.command_table.specs.Table.{needs_file, reads_input, reply_of, reply_to};
+ghost use Rattle.command_plans.specs.Views.{Causes, IsCommandPlan, MissesFor, PlansAlone, PlansBy, PlansLine, ReadsFor, ShelfCauses};
 ghost use Rattle.command_words.specs.Words.{IsNamed, line_view};
 
 use crate::commands::{create, show};
@@ -37,14 +37,34 @@ pub fn make_plan<'a, H: Shelf, S: Source, L: Ledger>(
     ensures cause { Causes (H.faults shelf.old) (H.faults shelf.new) (S.faults input.old) (S.faults input.new) result }
     ensures misses { MissesFor (needs_file (option_map line_view line.entry)) (H.misses shelf.old) (H.misses shelf.new) result }
 {
-    let Some(line) = line else {
-        return Ok(Plan::Refuses {
+    match line {
+        None => Ok(Plan::Refuses {
             status: 2,
             text: usage_text(alloc)?,
-        });
-    };
+        }),
+        Some(line) => plan_taken(alloc, line, limits, shelf, input, steps),
+    }
+}
+
+/// Reads what a line that is taken reads.
+fn plan_taken<'a, H: Shelf, S: Source, L: Ledger>(
+    alloc: Global,
+    line: Taken<'a>,
+    limits: &Limits,
+    shelf: &mut H,
+    input: &mut S,
+    steps: &mut Steps<L>,
+) -> Result<Plan<'a>, Stop>
+    requires { IsNamed (Some (line_view line)) }
+    ensures told { PlansBy (reply_to (line_view line.entry) limits.now) (H.files shelf.old) (S.left input.old) result }
+    ensures plan { IfOk result IsCommandPlan }
+    ensures same { H.files shelf.new ≡ H.files shelf.old }
+    ensures read { ReadsFor (reads_input (Some (line_view line.entry))) (S.left input.old) (S.left input.new) result }
+    ensures quiet { reads_input (Some (line_view line.entry)) ≡ false → S.faults input.new ≡ S.faults input.old }
+    ensures cause { Causes (H.faults shelf.old) (H.faults shelf.new) (S.faults input.old) (S.faults input.new) result }
+    ensures misses { MissesFor (needs_file (Some (line_view line.entry))) (H.misses shelf.old) (H.misses shelf.new) result }
+{
     match line {
-        Taken::New(name) => create(alloc, name, shelf),
         Taken::Edit { file, agent } => edit(
             alloc,
             file,
@@ -54,8 +74,30 @@ pub fn make_plan<'a, H: Shelf, S: Source, L: Ledger>(
             input,
             steps,
         ),
+        _ => plan_unread(alloc, line, limits, shelf, steps),
+    }
+}
+
+/// Plans a line that reads no input.
+fn plan_unread<'a, H: Shelf, L: Ledger>(
+    alloc: Global,
+    line: Taken<'a>,
+    limits: &Limits,
+    shelf: &mut H,
+    steps: &mut Steps<L>,
+) -> Result<Plan<'a>, Stop>
+    requires { reads_input (Some (line_view line)) ≡ false }
+    ensures told { PlansAlone (reply_to (line_view line.entry) limits.now) (H.files shelf.old) result }
+    ensures plan { IfOk result IsCommandPlan }
+    ensures same { H.files shelf.new ≡ H.files shelf.old }
+    ensures cause { ShelfCauses (H.faults shelf.old) (H.faults shelf.new) result }
+    ensures misses { MissesFor (needs_file (Some (line_view line.entry))) (H.misses shelf.old) (H.misses shelf.new) result }
+{
+    match line {
+        Taken::New(name) => create(alloc, name, shelf),
         Taken::Show { listing, file } => show(alloc, listing, file, limits, shelf, steps),
         Taken::Merge { file, other } => merge(alloc, file, other, limits, shelf, steps),
+        Taken::Edit { .. } => unreachable!(),
     }
 }
 

@@ -12,8 +12,9 @@ use Rattle.ew_model.proofs.SetLaws.{among_joined, joined_right}
 use Rattle.ew_model.proofs.IdLaws.{names_equal, name_exact}
 use Rattle.ew_model.proofs.GoodLaws.{equal_sets_agree}
 use Rattle.ew_outside.specs.Files.{Files}
-use Rattle.command_table.specs.MergeLaws.{MergesAgree, HoldsBytes, command_answer}
-use Rattle.command_table.specs.Table.{Text, content, merge, Answer, prints, open_file, over_events, show_reply}
+use Rattle.command_table.specs.Scripts.{Reading}
+use Rattle.command_table.specs.MergeLaws.{MergesAgree, MergesHoldSame, HoldsBytes, command_answer}
+use Rattle.command_table.specs.Table.{Text, content, merge, Answer, prints, opened, open_file, over_events, show_reply}
 use Rattle.command_table.proofs.MergedFiles.{Opens, opened_is, Done, is_done, IsStorable, storable, merged_storable, opens_once, opened_new, opens_new, other_stays}
 use Rattle.replica.proofs.Beginnings.{good_from_none_bad}
 
@@ -24,8 +25,13 @@ same_both xs ys one other first second = record {
   back = λ z m. ⊎_elim (λ k. first.back z (joined_right xs ys z k)) (λ k. k) (among_joined ys one z (second.there z m));
 }
 
--- both files show one text
+-- both files hold the same events, and show one text
 record IsShown (limits : LimitNumbers) (files : Files) (one other : Text) : Type 0 where
+  events : List Event
+  others : List Event
+  first_opens : open_file one limits files ≡ opened events
+  second_opens : open_file other limits files ≡ opened others
+  same : SameElements events others
   text : List ℕ
   first : over_events (show_reply content) (open_file one limits files) ≡ prints text
   second : over_events (show_reply content) (open_file other limits files) ≡ prints text
@@ -56,6 +62,11 @@ module _ (limits : LimitNumbers) (numbers : AreLimits limits) (files : Files) (o
       (subst (λ (l : List Event). SameElements last (l ++ xs)) events_is e.merged.whole) in
       let texts : text_of xs ≡ text_of last = (equal_sets_agree xs last (good_from_none_bad xs e.second.good) t.0 sets).whole in
       record {
+        events = xs;
+        others = last;
+        first_opens = opened_is one limits back.files xs kept;
+        second_opens = opened_is other limits back.files last new;
+        same = sets;
         text = encode_utf8_all (text_of xs);
         first = ap (over_events (show_reply content)) (opened_is one limits back.files xs kept);
         second = ap (over_events (show_reply content)) (opened_is other limits back.files last new) ∙ ap (λ (text : List ℕ). prints (encode_utf8_all text)) (sym texts);
@@ -77,20 +88,34 @@ shown_same limits numbers files one other same first second there back d e =
     let new : Opens limits back.files other last = opens_new limits there.files other one back e numbers e_events e_others in
     let shown : over_events (show_reply content) (open_file other limits back.files) ≡ prints (encode_utf8_all (text_of last)) = ap (over_events (show_reply content)) (opened_is other limits back.files last new) in
     record {
+      events = last;
+      others = last;
+      first_opens = ap (λ (name : Text). open_file name limits back.files) same ∙ opened_is other limits back.files last new;
+      second_opens = opened_is other limits back.files last new;
+      same = record { there = λ z m. m; back = λ z m. m };
       text = encode_utf8_all (text_of last);
       first = ap (λ (name : Text). over_events (show_reply content) (open_file name limits back.files)) same ∙ shown;
       second = shown;
     }
 
-pub merges_agree : MergesAgree
-merges_agree limits files input reading one other numbers first second zero done =
-    let there = command_answer (merge one other) limits files input reading in
-    let back = command_answer (merge other one) limits there.files input reading in
-    let d = is_done limits files one other there refl zero in
-    let e = is_done limits there.files other one back refl done in
-    let shown : IsShown limits back.files one other =
+-- two merges that are done, one behind the other
+both_done : (limits : LimitNumbers) (files : Files) (input : List ℕ) (reading : Reading) (one other : Text) → AreLimits limits → HoldsBytes files one → HoldsBytes files other
+    → (there back : Answer) → there ≡ command_answer (merge one other) limits files input reading → back ≡ command_answer (merge other one) limits there.files input reading → there.status ≡ 0 → back.status ≡ 0
+    → IsShown limits back.files one other
+both_done limits files input reading one other numbers first second there back is again zero done =
+    let d = is_done limits files one other there is zero in
+    let e = is_done limits there.files other one back again done in
     ⊎_elim
     (λ same. shown_same limits numbers files one other (name_exact one other same) first second there back d e)
     (λ apart. shown_apart limits numbers files one other apart first second there back d e)
-    (cases_Bool (name_eq one other)) in
+    (cases_Bool (name_eq one other))
+
+pub merges_agree : MergesAgree
+merges_agree limits files input reading one other numbers first second zero done =
+    let shown = both_done limits files input reading one other numbers first second _ _ refl refl zero done in
     (shown.text, shown.first, shown.second)
+
+pub merges_hold_same : MergesHoldSame
+merges_hold_same limits files input reading one other numbers first second zero done =
+    let shown = both_done limits files input reading one other numbers first second _ _ refl refl zero done in
+    (shown.events, shown.others, shown.first_opens, shown.second_opens, shown.same)

@@ -1,4 +1,5 @@
 pub mod BothWays
 pub mod FileSizes
+pub mod Joined
 pub mod MergedFiles
 pub mod Merges

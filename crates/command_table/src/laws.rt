@@ -1,5 +1,5 @@
 //! What holds of every list of runs, and of merges.
-ghost use Rattle.command_table.specs.MergeLaws.{MergesAgree, MergesTakeAll};
+ghost use Rattle.command_table.specs.MergeLaws.{MergesAgree, MergesHoldSame, MergesStore, MergesTakeAll};
 ghost use Rattle.command_table.specs.Sequences.{RunsFold};
 
 /// After a list of runs of which none met a fault or want of memory, the files are the fold of the
@@ -16,4 +16,14 @@ pub fn law_merge_whole()
 /// Where two files are merged both ways, both show the same text.
 pub fn law_merge_both_ways()
     ensures { MergesAgree }
+{}
+
+/// Where a merge is done, its file opens as its own events and behind them those of the other file that it didn't hold, in their order.
+pub fn law_merge_files()
+    ensures { MergesStore }
+{}
+
+/// Where two files are merged both ways, both hold the same events.
+pub fn law_merge_same_events()
+    ensures { MergesHoldSame }
 {}

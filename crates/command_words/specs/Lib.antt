@@ -1,2 +1,3 @@
 -- What the words of a command line were read as.
+pub mod Apps
 pub mod Words

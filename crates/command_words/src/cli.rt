@@ -2,7 +2,8 @@
 ghost use Rattle.std.specs.Prelude.{◌≡◌, false, IfOk};
 ghost use Rattle.clap.specs.Words.{app_of};
 ghost use Rattle.clap.specs.declared.builder.command.Command.TheViews.{out-Command};
-ghost use Rattle.command_table.specs.Cli.{edit_app, egw_app, file_app, merge_app};
+ghost use Rattle.command_table.specs.Cli.{bare_app, edit_app, egw_app, file_app, merge_app, then_app};
+ghost use Rattle.command_words.specs.Apps.{with_shows_app};
 
 use clap::{Arg, Command};
 use std::alloc::{AllocError, Global};
@@ -35,25 +36,59 @@ fn merge_command<'a>(alloc: Global) -> Result<Command<'a>, AllocError>
     Command::new(alloc, "merge").arg(file)?.arg(other)
 }
 
+/// The command without its subcommands.
+fn bare_command<'a>(alloc: Global) -> Command<'a>
+    ensures { app_of result ≡ bare_app }
+{
+    Command::new(alloc, "egw")
+        .no_binary_name(true)
+        .subcommand_required(true)
+}
+
+/// Adds a command of one file.
+fn with_file_command<'a>(
+    alloc: Global,
+    command: Command<'a>,
+    name: &'static str,
+) -> Result<Command<'a>, AllocError>
+    ensures { IfOk result (λ c. app_of c ≡ then_app (app_of command.entry) (file_app name.now)) }
+{
+    let file = file_command(alloc, name)?;
+    command.subcommand(file)
+}
+
+/// Adds the commands that show a file.
+fn with_shows<'a>(alloc: Global, command: Command<'a>) -> Result<Command<'a>, AllocError>
+    ensures { IfOk result (λ c. app_of c ≡ with_shows_app (app_of command.entry)) }
+{
+    let command = with_file_command(alloc, command, "cat")?;
+    let command = with_file_command(alloc, command, "heads")?;
+    let command = with_file_command(alloc, command, "log")?;
+    with_file_command(alloc, command, "check")
+}
+
+/// Adds the command that edits a file.
+fn with_edit<'a>(alloc: Global, command: Command<'a>) -> Result<Command<'a>, AllocError>
+    ensures { IfOk result (λ c. app_of c ≡ then_app (app_of command.entry) edit_app) }
+{
+    let edit = edit_command(alloc)?;
+    command.subcommand(edit)
+}
+
+/// Adds the command of two files.
+fn with_merge<'a>(alloc: Global, command: Command<'a>) -> Result<Command<'a>, AllocError>
+    ensures { IfOk result (λ c. app_of c ≡ then_app (app_of command.entry) merge_app) }
+{
+    let merge = merge_command(alloc)?;
+    command.subcommand(merge)
+}
+
 /// The whole command.
 pub fn egw_command<'a>(alloc: Global) -> Result<Command<'a>, AllocError>
     ensures { IfOk result (λ c. app_of c ≡ egw_app) }
 {
-    let new = file_command(alloc, "new")?;
-    let edit = edit_command(alloc)?;
-    let cat = file_command(alloc, "cat")?;
-    let heads = file_command(alloc, "heads")?;
-    let log = file_command(alloc, "log")?;
-    let check = file_command(alloc, "check")?;
-    let merge = merge_command(alloc)?;
-    Command::new(alloc, "egw")
-        .no_binary_name(true)
-        .subcommand_required(true)
-        .subcommand(new)?
-        .subcommand(edit)?
-        .subcommand(cat)?
-        .subcommand(heads)?
-        .subcommand(log)?
-        .subcommand(check)?
-        .subcommand(merge)
+    let command = with_file_command(alloc, bare_command(alloc), "new")?;
+    let command = with_edit(alloc, command)?;
+    let command = with_shows(alloc, command)?;
+    with_merge(alloc, command)
 }
