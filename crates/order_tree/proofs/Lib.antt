@@ -7,3 +7,4 @@ pub mod KidLaws
 pub mod LeafEdits
 pub mod PairLaws
 pub mod PartLists
+pub mod TreeEdits
