@@ -1,0 +1,10 @@
+pub mod Around
+pub mod KidPlaces
+pub mod EntryLaws
+pub mod InsertLaws
+pub mod InnerEdits
+pub mod KidLaws
+pub mod LeafEdits
+pub mod PairLaws
+pub mod PartLists
+pub mod TreeEdits

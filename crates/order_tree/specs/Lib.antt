@@ -1,0 +1,9 @@
+pub mod Blocks
+pub mod Counts
+pub mod Edits
+pub mod Falls
+pub mod Pairs
+pub mod Parts
+pub mod Rights
+pub mod Shape
+pub mod Whole

@@ -1,0 +1,200 @@
+//! A branch of the tree: a node, and what is kept of the runs below it.
+
+ghost use Rattle.std.specs.Prelude.{◌≡◌, ℕ, ◌+◌, ◌*◌, ◌^◌, ◌<◌, ◌≤◌, Some, length, Contains, vec_capacity};
+ghost use Rattle.order_tree.specs.Pairs.{labels, IsRising, total, up_to, next_label, first_label, counted_after, IsPlace, SumsFit};
+ghost use Rattle.order_tree.specs.Parts.{first_or_zero, last_known, sums_of, summary_of, all_pairs};
+ghost use Rattle.order_tree.specs.Counts.{count_of};
+ghost use Rattle.order_tree.specs.Shape.{AllBelow};
+
+use crate::count::Count;
+use crate::entries::{effect_up_to_in, known_after_in, last_free_in, place_in, run_in};
+use crate::halves::{inner_summary, leaf_summary};
+use crate::kids::{kid_at, kid_before, kid_known_after, kid_up_to, kid_with};
+use crate::part::Part;
+use crate::summary::{Summary, Sums};
+use ew_model::run::Run;
+use ew_model::steps::Steps;
+use std::marker::Model;
+use std::sync::ledger::Ledger;
+
+/// A branch: the node at its top, with what is kept of all runs below. The heap block of a node has room for sixteen parts,
+/// and what is kept of a branch stands in the block of the node above, so no node is opened only to be summed.
+#[cycle(tree)]
+#[derive(Drop)]
+pub struct Branch<R: Run> {
+    depth: u32,
+    summary: Summary,
+    node: Node<R>,
+}
+
+#[cycle(tree)]
+#[derive(Drop)]
+enum Node<R: Run> {
+    Leaf(Vec<(u64, R)>),
+    Inner(Vec<Branch<R>>),
+}
+
+impl<R: Run> Model for Branch<R> {
+    ghost use Rattle.order_tree.specs.Pairs.{Tree};
+
+    ghost Value = { Tree R };
+
+    ghost use Rattle.order_tree.specs.Shape.{pairs_in, IsBranch};
+
+    ghost view = { λ b. record { pairs = pairs_in b.node; depth = b.depth } };
+
+    ghost invariant = { λ b. IsBranch R.Run b.depth b.summary b.node };
+
+    ghost size = { λ t. t.depth };
+
+    ghost use Rattle.order_tree.specs.Falls.{depth_falls};
+
+    ghost size_decreases = { λ b h. depth_falls R.Run b.depth b.summary b.node h };
+}
+
+impl<R: Run> Part<R> for Branch<R> {
+    ghost pairs = { λ b. b.pairs };
+
+    fn first(&self) -> u64 {
+        let _ = &self.node;
+        self.summary.first
+    }
+
+    fn last_known(&self) -> u64 {
+        let _ = &self.node;
+        self.summary.last_known
+    }
+
+    fn sums(&self) -> Sums {
+        let _ = &self.node;
+        self.summary.sums
+    }
+}
+
+impl<R: Run> Branch<R> {
+    /// The number of levels of nodes, leaves included.
+    pub fn depth(&self) -> u32
+        ensures value { result ≡ self.now.depth }
+        ensures bound { 2 ^ result ≤ 2 * length self.now.pairs }
+    {
+        let _ = &self.node;
+        self.depth
+    }
+
+    /// The run at a label.
+    pub fn locate<L: Ledger>(&self, label: u64, visits: &mut Steps<L>) -> &R
+        requires rising { IsRising self.now.pairs }
+        requires held { (r : R) × Contains self.now.pairs (label, r) }
+        ensures run { Contains self.now.pairs (label, result.now) }
+        ensures cost { visits.new ≤ visits.old + self.now.depth }
+    {
+        visits.tick();
+        match &self.node {
+            Node::Leaf(entries) => run_in(entries.as_slice(), label),
+            Node::Inner(kids) => kid_with(kids.as_slice(), self.depth, label).locate(label, visits),
+        }
+    }
+
+    /// The label of the run that has the i-th of the characters counted, and the character's number in that run.
+    pub fn find<L: Ledger>(&self, count: Count, i: u32, visits: &mut Steps<L>) -> (u64, u32)
+        requires rising { IsRising self.now.pairs }
+        requires within { i < total (count_of R.Run count) self.now.pairs }
+        ensures place { IsPlace (count_of R.Run count) self.now.pairs i result.0 result.1 }
+        ensures cost { visits.new ≤ visits.old + self.now.depth }
+    {
+        visits.tick();
+        match &self.node {
+            Node::Leaf(entries) => place_in(entries.as_slice(), count, i),
+            Node::Inner(kids) => {
+                let (kid, rest) = kid_at(kids.as_slice(), self.depth, count, i);
+                kid.find(count, rest, visits)
+            }
+        }
+    }
+
+    /// How many characters of the text are in runs up to a label.
+    pub fn effect_up_to<L: Ledger>(&self, label: u64, visits: &mut Steps<L>) -> u32
+        requires rising { IsRising self.now.pairs }
+        requires small { total R.effect self.now.pairs < 2 ^ 32 }
+        ensures effect { result ≡ total R.effect (up_to self.now.pairs label) }
+        ensures cost { visits.new ≤ visits.old + self.now.depth }
+    {
+        visits.tick();
+        match &self.node {
+            Node::Leaf(entries) => effect_up_to_in(entries.as_slice(), label),
+            Node::Inner(kids) => {
+                let (kid, before) = kid_up_to(kids.as_slice(), self.depth, label);
+                before + kid.effect_up_to(label, visits)
+            }
+        }
+    }
+
+    /// The least greater label of a run with a known character, which there is.
+    pub fn next_known<L: Ledger>(&self, label: u64, visits: &mut Steps<L>) -> u64
+        requires rising { IsRising self.now.pairs }
+        requires some { label < last_known R.known self.now.pairs }
+        ensures next { first_label (counted_after R.known self.now.pairs label) ≡ Some result }
+        ensures cost { visits.new ≤ visits.old + self.now.depth }
+    {
+        visits.tick();
+        match &self.node {
+            Node::Leaf(entries) => known_after_in(entries.as_slice(), label),
+            Node::Inner(kids) => {
+                kid_known_after(kids.as_slice(), self.depth, label).next_known(label, visits)
+            }
+        }
+    }
+
+    /// The greatest label that is free before the next run, where `most` is that behind all runs here.
+    pub fn last_free<L: Ledger>(&self, label: u64, most: u64, visits: &mut Steps<L>) -> u64
+        requires rising { IsRising self.now.pairs }
+        ensures free { result + 1 ≡ next_label (most + 1) self.now.pairs label }
+        ensures cost { visits.new ≤ visits.old + self.now.depth }
+    {
+        visits.tick();
+        match &self.node {
+            Node::Leaf(entries) => last_free_in(entries.as_slice(), label, most),
+            Node::Inner(kids) => {
+                let (kid, most) = kid_before(kids.as_slice(), self.depth, label, most);
+                kid.last_free(label, most, visits)
+            }
+        }
+    }
+}
+
+impl<R: Run> Branch<R> {
+    /// A leaf.
+    pub fn leaf(entries: Vec<(u64, R)>) -> Branch<R>
+        requires some { 1 ≤ length entries.items }
+        requires few { length entries.items ≤ 16 }
+        requires room { 16 ≤ vec_capacity entries }
+        requires fit { SumsFit R.Run entries.items }
+        ensures pairs { result.pairs ≡ entries.items }
+        ensures depth { result.depth ≡ 1 }
+    {
+        let summary = leaf_summary(entries.as_slice());
+        Branch {
+            depth: 1,
+            summary,
+            node: Node::Leaf(entries),
+        }
+    }
+
+    /// A node above branches.
+    pub fn inner(depth: u32, kids: Vec<Branch<R>>) -> Branch<R>
+        requires below { AllBelow depth kids.items }
+        requires some { 2 ≤ length kids.items }
+        requires few { length kids.items ≤ 16 }
+        requires room { 16 ≤ vec_capacity kids }
+        requires fit { SumsFit R.Run (all_pairs (λ k. k.pairs) kids.items) }
+        ensures pairs { result.pairs ≡ all_pairs (λ k. k.pairs) kids.items }
+        ensures depth { result.depth ≡ depth }
+    {
+        let summary = inner_summary(depth, kids.as_slice());
+        Branch {
+            depth,
+            summary,
+            node: Node::Inner(kids),
+        }
+    }
+}
