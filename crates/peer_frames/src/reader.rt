@@ -58,7 +58,7 @@ impl FrameReader {
         self.buffer.is_empty()
     }
 
-    /// Puts a piece of bytes behind those that came before, also behind a fault.
+    /// Puts a piece of bytes behind those that came before. What is given behind a fault is kept too, all of it.
     pub fn feed(&mut self, piece: &[u8]) -> Result<(), NoMem>
         ensures ok { OnOk result (self.new ≡ record { limits = self.old.limits; bytes = self.old.bytes ++ piece.now; refused = self.old.refused }) }
         ensures err { OnErr result (self.new ≡ self.old) }
