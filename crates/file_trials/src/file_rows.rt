@@ -1,0 +1,181 @@
+//! Rows of event files: bytes are read, and what is read is written again.
+
+ghost use Rattle.std.specs.Prelude.{◌<◌};
+
+use event_file::{FileFault, decode, encode};
+use ew_model::NoMem;
+use ew_model::event::Event;
+use sha2::{Digest, Sha256};
+use std::alloc::Global;
+use std::fmt::Write;
+use trial_rows::fault::Fault;
+use trial_rows::report::Report;
+use trial_rows::show;
+use trial_rows::words::{first_word, history, number};
+
+/// The digits of a byte that stand first, and what stands behind them.
+fn first_byte(digits: &str) -> Option<(u8, &str)> {
+    let (first, rest) = digits.split_at_checked(2)?;
+    let byte = u8::from_str_radix(first, 16).ok()?;
+    Some((byte, rest))
+}
+
+/// The bytes that the hexadecimal digits mean.
+fn bytes(alloc: Global, digits: &str) -> Result<Vec<u8>, Fault> {
+    let mut bytes = Vec::new(alloc);
+    let mut left = digits;
+    for _ in 0..digits.len() {
+        if left.is_empty() {
+            break;
+        }
+        let (byte, rest) = first_byte(left).ok_or(Fault::Unreadable)?;
+        bytes.push(byte)?;
+        left = rest;
+    }
+    Ok(bytes)
+}
+
+/// What the rows of a group change.
+#[derive(Drop)]
+struct Base {
+    content: Vec<u8>,
+}
+
+/// The bytes without their digest stand in the first line, in hexadecimal digits.
+pub fn run<'a>(
+    alloc: Global,
+    digits: &str,
+    rows: &'a str,
+    report: &mut Report<'a>,
+) -> Result<(), Fault> {
+    let base = Base {
+        content: bytes(alloc, digits)?,
+    };
+    for row in rows.split('\n') {
+        let asked = report.ask(row)?;
+        let answer = answer(alloc, &base, asked)?;
+        report.compare(answer.as_str())?;
+    }
+    Ok(())
+}
+
+fn answer(alloc: Global, base: &Base, asked: &str) -> Result<String, Fault> {
+    let (verb, rest) = first_word(asked);
+    match verb {
+        "read" => read(alloc, base, rest),
+        "cut" => cut(alloc, base),
+        "written" => written(alloc, base, rest),
+        "digest" => digest(alloc, base),
+        _ => Err(Fault::Unreadable),
+    }
+}
+
+/// The content with changed bytes, each a place and two digits, as `8=02`. `<18` cuts it there.
+fn changed(alloc: Global, content: &[u8], words: &str) -> Result<Vec<u8>, Fault> {
+    let mut bytes = Vec::from_slice(alloc, content)?;
+    for word in words.split_whitespace() {
+        change(&mut bytes, word)?;
+    }
+    Ok(bytes)
+}
+
+fn change(bytes: &mut Vec<u8>, word: &str) -> Result<(), Fault> {
+    if let Some(len) = word.strip_prefix('<') {
+        bytes.truncate(number(len)? as usize);
+        return Ok(());
+    }
+    let (place, digits) = word.split_once('=').ok_or(Fault::Unreadable)?;
+    let place = number(place)? as usize;
+    let (byte, _) = first_byte(digits).ok_or(Fault::Unreadable)?;
+    if place >= bytes.len() {
+        return Err(Fault::Unreadable);
+    }
+    bytes[place] = byte;
+    Ok(())
+}
+
+/// The content with its digest behind it.
+fn closed(alloc: Global, content: &[u8]) -> Result<Vec<u8>, NoMem> {
+    let mut file = Vec::from_slice(alloc, content)?;
+    file.extend_from_slice(&Sha256::digest(content))?;
+    Ok(file)
+}
+
+/// Reads the changed content, closed by its digest, with room for so many events: changes behind ` then ` are made to the file
+/// with its digest. Answers what is wrong, or how many bytes are written again, where they are the same.
+fn read(alloc: Global, base: &Base, rest: &str) -> Result<String, Fault> {
+    let (most, words) = first_word(rest);
+    let (words, later) = words.split_once("then ").unwrap_or((words, ""));
+    let content = changed(alloc, &base.content, words)?;
+    let file = closed(alloc, &content)?;
+    let file = changed(alloc, &file, later)?;
+    read_file(alloc, &file, number(most)?)
+}
+
+fn read_file(alloc: Global, file: &[u8], most: u32) -> Result<String, Fault> {
+    match decode(alloc, file, most) {
+        Ok(events) => {
+            let again = encode(alloc, &events)?;
+            let same = again.as_slice() == file;
+            let len = file.len();
+            Ok(format!(in alloc; "{len} same {same}")?)
+        }
+        Err(FileFault::OutOfMemory) => Err(Fault::OutOfMemory),
+        Err(fault) => tell(alloc, &fault),
+    }
+}
+
+fn tell(alloc: Global, fault: &FileFault) -> Result<String, Fault> {
+    match fault {
+        FileFault::BadRecord { offset, kind } => Ok(format!(in alloc; "{offset} {kind:?}")?),
+        FileFault::BadDigest { .. } => Ok(show::text(alloc, "another digest")?),
+        _ => Ok(format!(in alloc; "{fault:?}")?),
+    }
+}
+
+/// Cuts the file behind each of its bytes. Answers how often it was short and told so with its length, how often it had another
+/// digest and told the one that stood last, and how often neither.
+fn cut(alloc: Global, base: &Base) -> Result<String, Fault> {
+    let file = closed(alloc, &base.content)?;
+    let mut counts: [u32; 3] = [0, 0, 0];
+    for len in 0..file.len() {
+        let place = cut_at(alloc, &file[..len]);
+        counts[place] = counts[place].saturating_add(1);
+    }
+    let [short, digest, neither] = counts;
+    Ok(format!(in alloc; "short {short} digest {digest} neither {neither}")?)
+}
+
+fn cut_at(alloc: Global, file: &[u8]) -> usize
+    ensures { result < 3 }
+{
+    match decode(alloc, file, 9) {
+        Err(FileFault::Short { len }) if len == file.len() as u64 => 0,
+        Err(FileFault::BadDigest { stored, .. }) if file.ends_with(&stored) => 1,
+        _ => 2,
+    }
+}
+
+/// Whether the events are written as the content with its digest.
+fn written(alloc: Global, base: &Base, rest: &str) -> Result<String, Fault> {
+    let file = closed(alloc, &base.content)?;
+    let events = history(alloc, rest)?;
+    let Ok(read) = decode(alloc, &file, 9) else {
+        return Err(Fault::Unreadable);
+    };
+    Ok(show::yes_or_no(alloc, are_same(&events, &read))?)
+}
+
+fn are_same(one: &[Event], other: &[Event]) -> bool {
+    one.len() == other.len() && one.iter().zip(other).all(|(a, b)| a.same(b))
+}
+
+/// The digest of the content, in hexadecimal digits.
+fn digest(alloc: Global, base: &Base) -> Result<String, Fault> {
+    let digest = Sha256::digest(base.content.as_slice());
+    let mut out = String::new(alloc);
+    for byte in &digest {
+        write!(out, "{byte:02x}")?;
+    }
+    Ok(out)
+}

@@ -1,0 +1,124 @@
+//! Rows of the words of the editor: scripts are read, and ids, versions and characters are printed. Names and limits too.
+
+use event_words::edit::Edit;
+use event_words::print::{print_char, print_id, print_version};
+use event_words::script::{ScriptFault, read_script};
+use ew_model::event::{Event, Op};
+use ew_model::limits::Limits;
+use ew_model::name::Name;
+use ew_model::parents::Parents;
+use std::alloc::Global;
+use std::fmt::Write;
+use trial_rows::fault::Fault;
+use trial_rows::report::Report;
+use trial_rows::show;
+use trial_rows::words::{first_word, id, ids, number, two_numbers};
+
+pub fn run<'a>(alloc: Global, rows: &'a str, report: &mut Report<'a>) -> Result<(), Fault> {
+    for row in rows.split('\n') {
+        let asked = report.ask(row)?;
+        let answer = answer(alloc, asked)?;
+        report.compare(answer.as_str())?;
+    }
+    Ok(())
+}
+
+fn answer(alloc: Global, asked: &str) -> Result<String, Fault> {
+    let (verb, rest) = first_word(asked);
+    match verb {
+        "script" => script(alloc, rest),
+        "id" => Ok(show::bytes(alloc, &print_id(alloc, &id(rest)?)?)?),
+        "version" => Ok(show::bytes(alloc, &print_version(alloc, &ids(alloc, rest)?)?)?),
+        "character" => Ok(show::bytes(alloc, &print_char(alloc, scalar(rest)?)?)?),
+        "name" => name(alloc, rest),
+        "limits" => limits(alloc, rest),
+        "copy" => copy(alloc),
+        _ => Err(Fault::Unreadable),
+    }
+}
+
+/// The character with this number.
+fn scalar(rest: &str) -> Result<char, Fault> {
+    char::from_u32(number(rest)?).ok_or(Fault::Unreadable)
+}
+
+/// The bytes of a text in which `%` and two digits stand for a byte.
+fn unescaped(alloc: Global, text: &str) -> Result<Vec<u8>, Fault> {
+    let mut bytes = Vec::new(alloc);
+    let mut parts = text.split('%');
+    if let Some(first) = parts.next() {
+        bytes.extend_from_slice(first.as_bytes())?;
+    }
+    for part in parts {
+        let (digits, rest) = part.split_at_checked(2).ok_or(Fault::Unreadable)?;
+        bytes.push(u8::from_str_radix(digits, 16)?)?;
+        bytes.extend_from_slice(rest.as_bytes())?;
+    }
+    Ok(bytes)
+}
+
+/// The edits of a script with the numbers of their lines, or the number of the first bad one.
+fn script(alloc: Global, rest: &str) -> Result<String, Fault> {
+    let bytes = unescaped(alloc, rest)?;
+    if bytes.len() > 1000 {
+        return Err(Fault::Unreadable);
+    }
+    match read_script(alloc, &bytes) {
+        Ok(edits) => edits_shown(alloc, &edits),
+        Err(ScriptFault::BadLine(line)) => Ok(format!(in alloc; "bad line {line}")?),
+        Err(ScriptFault::OutOfMemory) => Err(Fault::OutOfMemory),
+    }
+}
+
+fn edits_shown(alloc: Global, edits: &[(u32, Edit)]) -> Result<String, Fault> {
+    let mut out = String::new(alloc);
+    for (line, edit) in edits {
+        show::space(&mut out)?;
+        push_edit(&mut out, *line, edit)?;
+    }
+    Ok(out)
+}
+
+fn push_edit(out: &mut String, line: u32, edit: &Edit) -> Result<(), Fault> {
+    match edit {
+        Edit::Ins { at, text } => write!(out, "{line} ins {at} {:?}", text.as_str())?,
+        Edit::Del { at, n } => write!(out, "{line} del {at} {n}")?,
+    }
+    Ok(())
+}
+
+/// The name as it is printed, or why it is none.
+fn name(alloc: Global, rest: &str) -> Result<String, Fault> {
+    match Name::read(&unescaped(alloc, rest)?) {
+        Ok(name) => Ok(format!(in alloc; "{name}")?),
+        Err(fault) => Ok(format!(in alloc; "{fault:?}")?),
+    }
+}
+
+/// Whether these are limits: of events, of those that wait, of input, and of what is edited.
+fn limits(alloc: Global, rest: &str) -> Result<String, Fault> {
+    if rest == "program" {
+        return Ok(show::number(alloc, Limits::program().events())?);
+    }
+    let (events, rest) = first_word(rest);
+    let (waiting, rest) = first_word(rest);
+    let (input, body) = two_numbers(rest)?;
+    let limits = Limits::new(number(events)?, number(waiting)?, input, body);
+    Ok(show::yes_or_no(alloc, limits.is_some())?)
+}
+
+/// The id of an event's copy, if that is the same.
+fn copy(alloc: Global) -> Result<String, Fault> {
+    let mut parents = Parents::new(alloc)?;
+    parents.push(id("a_1:0")?)?;
+    let event = Event {
+        id: id("a_1:1")?,
+        parents,
+        op: Op::Ins { at: 1, ch: 'x' },
+    };
+    let copy = event.copy()?;
+    if !event.same(&copy) {
+        return Ok(show::text(alloc, "another event")?);
+    }
+    Ok(format!(in alloc; "{}", copy.id)?)
+}
