@@ -20,6 +20,8 @@ pub struct Pieces {
     pub refused: Vec<(Id, Refusal)>,
     /// How many events wait.
     pub waiting: u32,
+    /// The least cut that was told.
+    pub cut: u32,
     /// Whether receiving stopped for want of memory.
     pub stopped: bool,
     /// Whether each state on the way was read back, and each event that was judged was counted once.
@@ -34,6 +36,7 @@ impl Pieces {
             repeats: 0,
             refused: Vec::new(alloc),
             waiting,
+            cut: u32::MAX,
             stopped: false,
             sound: true,
         }
@@ -50,6 +53,7 @@ impl Pieces {
         self.accepted = self.accepted.saturating_add(u64::from(took.accepted));
         self.repeats = self.repeats.saturating_add(u64::from(took.repeats));
         self.waiting = took.waiting;
+        self.cut = self.cut.min(took.cut);
         for (id, refusal) in &took.refused {
             self.refused.push((*id, *refusal))?;
         }
@@ -57,7 +61,28 @@ impl Pieces {
     }
 }
 
-/// Receives events, and answers those that weren't judged, for want of memory.
+/// Receives events. Answers what was told, and those that weren't judged, for want of memory.
+fn take_in<L: Ledger>(
+    alloc: Global,
+    replica: &mut Replica,
+    events: Vec<Event>,
+    steps: &mut Steps<L>,
+) -> (Took, Vec<Event>)
+    requires { length events.items < 2 ^ 32 }
+{
+    match replica.receive(events, steps) {
+        Ok(took) => (took, Vec::new(alloc)),
+        Err(Stopped { took, rest }) => (took, rest),
+    }
+}
+
+/// How many events wait.
+pub fn waiting<L: Ledger>(alloc: Global, replica: &mut Replica, steps: &mut Steps<L>) -> u32 {
+    let (took, _rest) = take_in(alloc, replica, Vec::new(alloc), steps);
+    took.waiting
+}
+
+/// Receives a piece, and answers those of its events that weren't judged.
 fn receive_piece<L: Ledger>(
     alloc: Global,
     replica: &mut Replica,
@@ -69,10 +94,7 @@ fn receive_piece<L: Ledger>(
     if given > u32::MAX as usize {
         return Err(NoMem);
     }
-    let (took, rest) = match replica.receive(events, steps) {
-        Ok(took) => (took, Vec::new(alloc)),
-        Err(Stopped { took, rest }) => (took, rest),
-    };
+    let (took, rest) = take_in(alloc, replica, events, steps);
     pieces.add(&took, given.saturating_sub(rest.len()))?;
     pieces.sound = pieces.sound && is_read_back(alloc, replica, steps)?;
     Ok(rest)

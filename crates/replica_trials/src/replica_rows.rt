@@ -1,8 +1,8 @@
 //! Rows of a replica: it edits and receives, and it is asked what it has.
 
-ghost use Rattle.std.specs.Prelude.{◌<◌, ◌^◌, length, IfOk};
+ghost use Rattle.std.specs.Prelude.{◌≤◌, length};
 
-use crate::pieces::{Pieces, receive_all};
+use crate::pieces::{Pieces, receive_all, waiting};
 use crate::readback::is_read_back;
 use ew_model::event::{Event, Op};
 use ew_model::id::Id;
@@ -11,7 +11,7 @@ use ew_model::name::Name;
 use ew_model::parents::Parents;
 use ew_model::steps::Steps;
 use ew_model::verdict::Refusal;
-use replica::{EditFault, LoadFault, Replica, Took};
+use replica::{EditFault, LoadFault, Replica};
 use std::alloc::Global;
 use std::fmt::Write;
 use std::sync::ledger::Ledger;
@@ -36,14 +36,36 @@ pub fn run<'a, L: Ledger>(
     report: &mut Report<'a>,
     steps: &mut Steps<L>,
 ) -> Result<(), Fault> {
-    let mut replica = Replica::new(alloc, limits(words)?)?;
+    let limits = limits(words)?;
+    let mut replica = Replica::new(alloc, limits)?;
+    run_all(alloc, &mut replica, rows, report, steps)
+}
+
+fn run_all<'a, L: Ledger>(
+    alloc: Global,
+    replica: &mut Replica,
+    rows: &'a str,
+    report: &mut Report<'a>,
+    steps: &mut Steps<L>,
+) -> Result<(), Fault> {
     for row in rows.split('\n') {
-        let asked = report.ask(row)?;
-        let (answer, stopped) = answer(alloc, &mut replica, asked, steps)?;
-        report.compare(answer.as_str())?;
-        if stopped {
-            report.note_stop();
-        }
+        run_row(alloc, replica, row, report, steps)?;
+    }
+    Ok(())
+}
+
+fn run_row<'a, L: Ledger>(
+    alloc: Global,
+    replica: &mut Replica,
+    row: &'a str,
+    report: &mut Report<'a>,
+    steps: &mut Steps<L>,
+) -> Result<(), Fault> {
+    let asked = report.ask(row)?;
+    let (answer, stopped) = answer(alloc, replica, asked, steps)?;
+    report.compare(answer.as_str())?;
+    if stopped {
+        report.note_stop();
     }
     Ok(())
 }
@@ -57,8 +79,14 @@ fn answer<L: Ledger>(
 ) -> Result<(String, bool), Fault> {
     let (verb, rest) = first_word(asked);
     match verb {
-        "pieces" => pieces(alloc, replica, history(alloc, rest)?, steps),
-        "backwards" => pieces(alloc, replica, backwards(alloc, number(rest)?)?, steps),
+        "receive" | "pieces" => receive(alloc, replica, verb, history(alloc, rest)?, steps),
+        "backwards" => receive(
+            alloc,
+            replica,
+            verb,
+            backwards(alloc, number(rest)?)?,
+            steps,
+        ),
         _ => Ok((change(alloc, replica, verb, rest, steps)?, false)),
     }
 }
@@ -71,7 +99,6 @@ fn change<L: Ledger>(
     steps: &mut Steps<L>,
 ) -> Result<String, Fault> {
     match verb {
-        "receive" => receive(alloc, replica, rest, steps),
         "ins" => insert(alloc, replica, rest, steps),
         "del" => delete(alloc, replica, rest, steps),
         "load" => load(alloc, replica, rest, steps),
@@ -93,12 +120,40 @@ fn ask(alloc: Global, replica: &Replica, verb: &str, rest: &str) -> Result<Strin
     }
 }
 
-/// What was told, but for those that were refused.
-fn tell_numbers(out: &mut String, accepted: u64, waiting: u32, repeats: u64) -> Result<(), Fault> {
-    write!(
-        out,
-        "accepted {accepted} waiting {waiting} repeats {repeats}"
-    )?;
+/// Receives events, and goes on where memory was wanting.
+fn receive<L: Ledger>(
+    alloc: Global,
+    replica: &mut Replica,
+    verb: &str,
+    events: Vec<Event>,
+    steps: &mut Steps<L>,
+) -> Result<(String, bool), Fault> {
+    let mut pieces = Pieces::new(alloc, waiting(alloc, replica, steps));
+    receive_all(alloc, replica, events, &mut pieces, steps)?;
+    Ok((told(alloc, verb, &pieces)?, pieces.stopped))
+}
+
+/// What was told of all pieces.
+fn told(alloc: Global, verb: &str, pieces: &Pieces) -> Result<String, Fault> {
+    let mut out = tell_numbers(alloc, pieces)?;
+    tell_state(&mut out, verb, pieces)?;
+    tell_refused(&mut out, &pieces.refused)?;
+    Ok(out)
+}
+
+fn tell_numbers(alloc: Global, pieces: &Pieces) -> Result<String, Fault> {
+    let (accepted, waiting, repeats) = (pieces.accepted, pieces.waiting, pieces.repeats);
+    Ok(format!(in alloc; "accepted {accepted} waiting {waiting} repeats {repeats}")?)
+}
+
+/// The cut, where all was sound and `receive` was asked for, or whether it was.
+fn tell_state(out: &mut String, verb: &str, pieces: &Pieces) -> Result<(), Fault> {
+    let (cut, sound) = (pieces.cut, pieces.sound);
+    if sound && verb == "receive" {
+        write!(out, " cut {cut}")?;
+    } else {
+        write!(out, " sound {sound}")?;
+    }
     Ok(())
 }
 
@@ -109,74 +164,12 @@ fn tell_refused(out: &mut String, refused: &[(Id, Refusal)]) -> Result<(), Fault
     Ok(())
 }
 
-/// Receives events, and goes on where memory was wanting.
-fn pieces<L: Ledger>(
-    alloc: Global,
-    replica: &mut Replica,
-    events: Vec<Event>,
-    steps: &mut Steps<L>,
-) -> Result<(String, bool), Fault> {
-    let mut pieces = Pieces::new(alloc, waiting(alloc, replica, steps)?);
-    receive_all(alloc, replica, events, &mut pieces, steps)?;
-    let mut out = String::new(alloc);
-    tell_numbers(&mut out, pieces.accepted, pieces.waiting, pieces.repeats)?;
-    let sound = pieces.sound;
-    write!(out, " sound {sound}")?;
-    tell_refused(&mut out, &pieces.refused)?;
-    Ok((out, pieces.stopped))
-}
-
-/// How many events wait.
-fn waiting<L: Ledger>(
-    alloc: Global,
-    replica: &mut Replica,
-    steps: &mut Steps<L>,
-) -> Result<u32, Fault> {
-    match replica.receive(Vec::new(alloc), steps) {
-        Ok(took) => Ok(took.waiting),
-        Err(_) => Err(Fault::OutOfMemory),
-    }
-}
-
-/// Receives events in one call.
-fn receive<L: Ledger>(
-    alloc: Global,
-    replica: &mut Replica,
-    rest: &str,
-    steps: &mut Steps<L>,
-) -> Result<String, Fault> {
-    let events = history(alloc, rest)?;
-    match replica.receive(events, steps) {
-        Ok(took) => told(alloc, &took),
-        Err(_) => Err(Fault::OutOfMemory),
-    }
-}
-
-fn told(alloc: Global, took: &Took) -> Result<String, Fault> {
-    let mut out = String::new(alloc);
-    tell_numbers(
-        &mut out,
-        u64::from(took.accepted),
-        took.waiting,
-        u64::from(took.repeats),
-    )?;
-    let cut = took.cut;
-    write!(out, " cut {cut}")?;
-    tell_refused(&mut out, &took.refused)?;
-    Ok(out)
-}
-
 /// The events of a typed text of so many characters, the last one first, and without the first.
-fn backwards(alloc: Global, count: u32) -> Result<Vec<Event>, Fault>
-    ensures { IfOk result (λ v. length v.items < 2 ^ 32) }
-{
+fn backwards(alloc: Global, count: u32) -> Result<Vec<Event>, Fault> {
     let agent = Name::read(b"a")?;
     let mut events = Vec::new(alloc);
     for seq in (1..count).rev() {
         events.push(typed(alloc, agent, seq)?)?;
-    }
-    if events.len() >= 100_000 {
-        return Err(Fault::Unreadable);
     }
     Ok(events)
 }
@@ -249,11 +242,25 @@ fn load<L: Ledger>(
     if events.len() > replica.limits().events() as usize {
         return Err(Fault::Unreadable);
     }
-    match Replica::from_events(alloc, events, replica.limits(), steps) {
-        Ok(loaded) => {
-            *replica = loaded;
-            Ok(show::text(alloc, "loaded")?)
-        }
+    loaded(alloc, make_anew(alloc, replica, events, steps))
+}
+
+/// Makes the replica anew of events, within the limits that it has.
+fn make_anew<L: Ledger>(
+    alloc: Global,
+    replica: &mut Replica,
+    events: Vec<Event>,
+    steps: &mut Steps<L>,
+) -> Result<(), LoadFault>
+    requires { length events.items ≤ replica.old.limits.events }
+{
+    *replica = Replica::from_events(alloc, events, replica.limits(), steps)?;
+    Ok(())
+}
+
+fn loaded(alloc: Global, answer: Result<(), LoadFault>) -> Result<String, Fault> {
+    match answer {
+        Ok(()) => Ok(show::text(alloc, "loaded")?),
         Err(LoadFault::OutOfMemory) => Err(Fault::OutOfMemory),
         Err(LoadFault::BadEvent { position, verdict }) => {
             Ok(format!(in alloc; "{position} {verdict:?}")?)
