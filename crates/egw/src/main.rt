@@ -1,16 +1,8 @@
 //! `egw`: collaborative plain text in event files.
 #![tactic(auto)]
 
-mod ending;
-mod output;
-mod start;
-#[cfg(test)]
-mod test_files;
-#[cfg(test)]
-mod tests;
-mod top;
-
-use crate::ending::{Ending, tell};
+use command_runs::ending::{Ending, tell};
+use command_runs::start::run_uncounted;
 use ew_model::limits::Limits;
 use ew_outside::{DirShelf, StdSink, StdSource};
 use std::alloc::AllocError;
@@ -45,7 +37,7 @@ fn main(rt: HostRuntime) -> ExitCode {
     let mut shelf = DirShelf::new(alloc, &rt);
     let mut input = StdSource::new(rt.stdin());
     let mut out = StdSink::new(rt.stdout());
-    let status = start::run_uncounted::<Brand, _, _, _, _>(
+    let status = run_uncounted::<Brand, _, _, _, _>(
         alloc,
         Blank::new(1),
         &words,

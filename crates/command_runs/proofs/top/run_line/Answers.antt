@@ -1,0 +1,26 @@
+use Rattle.std.proofs.Common.{None}
+use Rattle.command_table.specs.Headline.{seen}
+use Rattle.command_runs.proofs.Runs.{is_run}
+use Rattle.command_runs.proofs.top.run_line.Goals as goal
+
+pub returns : goal.returns
+returns g c =
+    is_run _ _ c.make_plan-planned.result c.carry_out-ending.result _
+    (seen (g.H.Shelf.files c.make_plan-planned.new.shelf) (g.H.Shelf.faults c.make_plan-planned.new.shelf) (g.H.Shelf.misses c.make_plan-planned.new.shelf) None 0 None None 0 None 0)
+    _ _ (record {
+      told = c.make_plan-planned.ensures.told;
+      line = c.make_plan-planned.ensures.line;
+      same = c.make_plan-planned.ensures.same;
+      read = c.make_plan-planned.ensures.read;
+      quiet = c.make_plan-planned.ensures.quiet;
+      cause = c.make_plan-planned.ensures.cause;
+      misses = c.make_plan-planned.ensures.misses;
+      which = c.carry_out-ending.ensures.which;
+      files = c.carry_out-ending.ensures.files;
+      out = c.carry_out-ending.ensures.out;
+      shelf_count = c.carry_out-ending.ensures.shelf;
+      sink_count = c.carry_out-ending.ensures.sink;
+      no_miss = c.carry_out-ending.ensures.misses;
+      status = c.tell.ensures.status;
+      text = c.tell.ensures.text;
+    })

@@ -1,0 +1,42 @@
+//! A sink that takes a few bytes at a time.
+ghost use Rattle.std.specs.Prelude.{Some};
+
+use ew_model::NoMem;
+use ew_outside::{Failed, MemSink, Sink};
+use std::alloc::Global;
+
+/// For how many bytes there is room in an output.
+const ROOM: usize = 100_000;
+
+/// Takes at most `piece` bytes at a time, and at least one.
+#[derive(Drop)]
+pub struct Narrow {
+    pub sink: MemSink,
+    piece: usize,
+}
+
+impl Narrow {
+    pub fn new(alloc: Global, piece: usize, failing: Vec<u64>) -> Result<Narrow, NoMem> {
+        Ok(Narrow {
+            sink: MemSink::new(alloc, ROOM, failing)?,
+            piece,
+        })
+    }
+}
+
+impl Sink for Narrow {
+    ghost taken = { λ s. Some s.sink.bytes.taken };
+
+    ghost flushed = { λ s. Some s.sink.bytes.flushed };
+
+    ghost faults = { λ s. s.sink.calls.faults };
+
+    fn write(&mut self, piece: &[u8]) -> Result<usize, Failed> {
+        let count = piece.len().min(self.piece.max(1));
+        self.sink.write(&piece[..count])
+    }
+
+    fn flush(&mut self) -> Result<(), Failed> {
+        self.sink.flush()
+    }
+}

@@ -1,0 +1,98 @@
+//! A run of a command line, and what came of it.
+
+use crate::fault::Fault;
+use crate::narrow::Narrow;
+use crate::setting::Setting;
+use crate::words::{line_words, push_escaped};
+use crate::world::World;
+use command_runs::start::run_uncounted;
+use ew_model::NoMem;
+use ew_outside::MemSource;
+use std::alloc::Global;
+use std::fmt::Write;
+use std::marker::Brand;
+use std::sync::ledger::Blank;
+
+/// What came of a run.
+#[derive(Drop)]
+pub struct Ran {
+    status: u8,
+    source: MemSource,
+    out: Narrow,
+    err: Narrow,
+}
+
+/// Runs words over the files of the world.
+fn run_over(world: &mut World, words: &[String], setting: Setting) -> Result<Ran, NoMem> {
+    let Setting {
+        input,
+        source,
+        out,
+        err,
+        piece,
+        ..
+    } = setting;
+    let mut source = MemSource::new(input, source);
+    let mut out = Narrow::new(world.alloc, piece, out)?;
+    let mut err = Narrow::new(world.alloc, usize::MAX, err)?;
+    let status = run_uncounted::<Brand, _, _, _, _>(
+        world.alloc,
+        Blank::new(1),
+        words,
+        &world.limits,
+        &mut world.shelf,
+        &mut source,
+        &mut out,
+        &mut err,
+    );
+    Ok(Ran {
+        status,
+        source,
+        out,
+        err,
+    })
+}
+
+/// Runs a command line, as a row writes it, as the rows before it made ready.
+pub fn run_line(world: &mut World, line: &str) -> Result<Ran, Fault> {
+    let words = line_words(world.alloc, line)?;
+    let setting = world.take_setting();
+    Ok(run_over(world, &words, setting)?)
+}
+
+/// A word and a text behind it, where there is a text.
+fn tell(told: &mut String, word: &str, bytes: &[u8]) -> Result<(), NoMem> {
+    if bytes.is_empty() {
+        return Ok(());
+    }
+    told.push_str(word)?;
+    push_escaped(told, bytes)
+}
+
+impl Ran {
+    /// The status, what was printed and what was said.
+    pub fn answer(&self, alloc: Global) -> Result<String, NoMem> {
+        let mut told = String::new(alloc);
+        let status = self.status;
+        write!(told, "{status}")?;
+        tell(&mut told, " out ", self.out.sink.bytes.as_slice())?;
+        tell(&mut told, " err ", self.err.sink.bytes.as_slice())?;
+        Ok(told)
+    }
+
+    /// How often each object was called, and how many bytes of the input are left.
+    pub fn calls(&self, world: &World) -> Result<String, NoMem> {
+        let shelf = world.shelf.calls.made();
+        let source = self.source.calls.made();
+        let out = self.out.sink.calls.made();
+        let err = self.err.sink.calls.made();
+        let left = self.source.left.as_slice().len();
+        format!(in world.alloc; "shelf {shelf} source {source} out {out} err {err} left {left}")
+    }
+
+    /// How many bytes of the output are flushed.
+    pub fn flushed(&self, alloc: Global) -> Result<String, NoMem> {
+        let flushed = self.out.sink.bytes.flushed();
+        format!(in alloc; "{flushed}")
+    }
+}

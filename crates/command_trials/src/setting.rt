@@ -1,0 +1,47 @@
+//! What the rows before a run make ready for it.
+
+use crate::fault::Fault;
+use crate::words::{first_word, numbers};
+use std::alloc::Global;
+
+/// The input of a run, the numbers of the calls that fail, of the stores that land though they fail, and how many bytes the output
+/// takes at a time.
+#[derive(Drop)]
+pub struct Setting {
+    pub input: Vec<u8>,
+    pub shelf: Vec<u64>,
+    pub landing: Vec<u64>,
+    pub source: Vec<u64>,
+    pub out: Vec<u64>,
+    pub err: Vec<u64>,
+    pub piece: usize,
+}
+
+impl Setting {
+    /// No input, and no call fails.
+    pub fn new(alloc: Global) -> Setting {
+        Setting {
+            input: Vec::new(alloc),
+            shelf: Vec::new(alloc),
+            landing: Vec::new(alloc),
+            source: Vec::new(alloc),
+            out: Vec::new(alloc),
+            err: Vec::new(alloc),
+            piece: usize::MAX,
+        }
+    }
+
+    /// The numbers behind the name of an object are those of its calls that fail.
+    pub fn fail(&mut self, alloc: Global, text: &str) -> Result<(), Fault> {
+        let (object, calls) = first_word(text);
+        let calls = numbers(alloc, calls)?;
+        match object {
+            "shelf" => self.shelf = calls,
+            "source" => self.source = calls,
+            "out" => self.out = calls,
+            "err" => self.err = calls,
+            _ => return Err(Fault::Unreadable),
+        }
+        Ok(())
+    }
+}

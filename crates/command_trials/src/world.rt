@@ -1,0 +1,119 @@
+//! What the rows of a group run over: files, named bytes, and what the next run is to meet.
+
+use crate::fault::Fault;
+use crate::setting::Setting;
+use crate::words::{first_word, number, numbers, unescaped};
+use ew_model::limits::Limits;
+use ew_outside::{Calls, FileMap, MemShelf};
+use sha2::{Digest, Sha256};
+use std::alloc::Global;
+
+#[derive(Drop)]
+pub struct World {
+    pub alloc: Global,
+    pub limits: Limits,
+    pub shelf: MemShelf,
+    pub bytes: FileMap,
+    pub next: Setting,
+}
+
+impl World {
+    pub fn new(alloc: Global) -> World {
+        World {
+            alloc,
+            limits: Limits::program(),
+            shelf: MemShelf::new(alloc, Vec::new(alloc), Vec::new(alloc)),
+            bytes: FileMap::new(alloc),
+            next: Setting::new(alloc),
+        }
+    }
+
+    /// Begins a group: an empty shelf, under these limits. Named bytes stay.
+    pub fn begin(&mut self, limits: Limits) {
+        self.limits = limits;
+        self.shelf.files = FileMap::new(self.alloc);
+        self.next = Setting::new(self.alloc);
+    }
+
+    /// The setting of the next run, which is made ready on the shelf too; behind it nothing is set.
+    pub fn take_setting(&mut self) -> Setting {
+        let mut setting = std::mem::replace(&mut self.next, Setting::new(self.alloc));
+        self.shelf.calls = Calls::new(std::mem::replace(&mut setting.shelf, Vec::new(self.alloc)));
+        self.shelf.landing = std::mem::replace(&mut setting.landing, Vec::new(self.alloc));
+        setting
+    }
+
+    /// The bytes of this name.
+    fn named(&self, name: &str) -> Result<&[u8], Fault> {
+        self.bytes.get(name).ok_or(Fault::Unreadable)
+    }
+
+    /// Names bytes: `NAME TEXT`.
+    fn name_bytes(&mut self, text: &str) -> Result<(), Fault> {
+        let (name, text) = first_word(text);
+        let bytes = unescaped(self.alloc, text)?;
+        Ok(self.bytes.put(name, &bytes)?)
+    }
+
+    /// Names the first bytes of others: `NAME OF COUNT`.
+    fn name_front(&mut self, text: &str) -> Result<(), Fault> {
+        let (name, rest) = first_word(text);
+        let (of, count) = first_word(rest);
+        let front = self.named(of)?.get(..number(count)? as usize);
+        let front = front.ok_or(Fault::Unreadable)?.to_vec(self.alloc)?;
+        Ok(self.bytes.put(name, &front)?)
+    }
+
+    /// Names others with their digest behind them: `NAME OF`.
+    fn name_sealed(&mut self, text: &str) -> Result<(), Fault> {
+        let (name, of) = first_word(text);
+        let mut bytes = self.named(of)?.to_vec(self.alloc)?;
+        let digest = Sha256::digest(bytes.as_slice());
+        bytes.extend_from_slice(&digest)?;
+        Ok(self.bytes.put(name, &bytes)?)
+    }
+
+    /// Stores named bytes: `FILE NAME`.
+    fn store(&mut self, text: &str) -> Result<(), Fault> {
+        let (file, name) = first_word(text);
+        let bytes = self.named(name)?.to_vec(self.alloc)?;
+        Ok(self.shelf.files.put(file, &bytes)?)
+    }
+
+    /// Carries out a row that makes ready, and says whether it is one.
+    pub fn make_ready(&mut self, row: &str) -> Result<bool, Fault> {
+        let (verb, rest) = first_word(row);
+        match verb {
+            "bytes" => self.name_bytes(rest)?,
+            "front" => self.name_front(rest)?,
+            "sealed" => self.name_sealed(rest)?,
+            "file" => self.store(rest)?,
+            _ => return self.set(verb, rest),
+        }
+        Ok(true)
+    }
+
+    /// Carries out a row that is about the next run, and says whether it is one.
+    fn set(&mut self, verb: &str, rest: &str) -> Result<bool, Fault> {
+        match verb {
+            "in" => self.next.input = unescaped(self.alloc, rest)?,
+            "in_bytes" => self.next.input = self.named(rest)?.to_vec(self.alloc)?,
+            "fail" => self.next.fail(self.alloc, rest)?,
+            "land" => self.next.landing = numbers(self.alloc, rest)?,
+            "piece" => self.next.piece = number(rest)? as usize,
+            _ => return Ok(false),
+        }
+        Ok(true)
+    }
+
+    /// Whether a file has these bytes: `FILE NAME`.
+    pub fn same(&self, text: &str) -> Result<&'static str, Fault> {
+        let (file, name) = first_word(text);
+        let bytes = self.named(name)?;
+        Ok(match self.shelf.files.get(file) {
+            None => "no file",
+            Some(found) if found == bytes => "yes",
+            Some(_) => "no",
+        })
+    }
+}
