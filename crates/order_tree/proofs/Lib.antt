@@ -1,4 +1,5 @@
 pub mod Around
+pub mod BranchEdits
 pub mod KidPlaces
 pub mod EntryLaws
 pub mod InsertLaws

@@ -1,16 +1,15 @@
 -- What an edit of a whole tree leaves.
-use Rattle.std.proofs.Common.{◌≡◌, ℕ, zero, suc, ◌+◌, ◌<◌, ◌≤◌, ◌^◌, true, false, List, [], ◌∷◌, ◌++◌, length, map, take, drop, unwrap_or, All, Contains, nat_eq, if◌then◌else◌, arith, refl, sym, ap, ◌∙◌, subst, append_assoc, append-nil, length-append, nat_le, nat_lt}
-use Rattle.std.proofs.lemmas.Bool.{ne_eqb, eq-eqb}
+use Rattle.std.proofs.Common.{◌≡◌, ℕ, ◌+◌, ◌<◌, ◌≤◌, ◌^◌, List, [], ◌∷◌, ◌++◌, length, unwrap_or, All, arith, sym, ap, ◌∙◌, subst, append_assoc, append-nil, nat_le, nat_lt}
 use Rattle.std.proofs.lemmas.List.Elements.{All-nil, All-cons, All-head, All-tail, All-append, All-weaker, filter-append}
 use Rattle.ew_model.specs.declared.run.Run.{Ghosts}
 use Rattle.order_tree.specs.declared.summary.Sums.{Sums}
 use Rattle.order_tree.specs.declared.edit.Edit.{Edit}
 use Rattle.order_tree.specs.declared.edit.Edit.TheVariants.{Change, Insert, Split}
-use Rattle.order_tree.specs.Pairs.{RisesFrom, IsRising, lower, up_to, greater, first_label, next_label, total, SumsFit, changed, inserted, IsCut, ArePartsOf}
+use Rattle.order_tree.specs.Pairs.{RisesFrom, IsRising, up_to, greater, first_label, next_label, total, inserted}
 use Rattle.order_tree.specs.Parts.{first_or_zero}
-use Rattle.order_tree.specs.Edits.{Replaces, Puts, IsBetween, IsEdited, StaysFit}
-use Rattle.order_tree.proofs.PairLaws.{lower_all, lower_none, up_to_all, up_to_none, greater_all, greater_none, total-append, total-cons, total-one, rises_rest}
-use Rattle.order_tree.proofs.Around.{greater_around, held_below}
+use Rattle.order_tree.specs.Edits.{Replaces, IsEdited, StaysFit}
+use Rattle.order_tree.proofs.PairLaws.{up_to_all, up_to_none, greater_all, greater_none, total-one}
+use Rattle.order_tree.proofs.Around.{greater_around}
 use Rattle.order_tree.proofs.InnerEdits.{replaced_total}
 
 module _ {R : Type 0} where

@@ -1,8 +1,12 @@
 -- The second half of a branch that may have been cut in two. (No public contract cites this.)
-use Rattle.std.specs.Prelude.{◌≡◌, ℕ, ◌*◌, ◌^◌, ◌<◌, ◌≤◌, Option, Some, None, List, [], length, insert, vec_capacity}
+use Rattle.std.specs.Prelude.{◌≡◌, ℕ, ◌+◌, ◌*◌, ◌^◌, ◌<◌, ◌≤◌, Option, Some, None, List, [], ◌++◌, length, insert, vec_capacity, nat_lt, if◌then◌else◌}
 use Rattle.std.specs.declared.vec.Vec.{Vec}
 use Rattle.std.specs.declared.alloc.Global.{Global}
+use Rattle.ew_model.specs.declared.run.Run.{Ghosts}
+use Rattle.order_tree.specs.declared.summary.Sums.{Sums}
+use Rattle.order_tree.specs.declared.edit.Edit.{Edit}
 use Rattle.order_tree.specs.Pairs.{Tree}
+use Rattle.order_tree.specs.Edits.{IsEdited, IsChange}
 
 -- a block has so many parts or more, up to sixteen, and room for sixteen
 abbrev pub HasParts : {X : Type 0} → ℕ → Vec X Global → Type 0
@@ -33,3 +37,20 @@ module _ {R : Type 0} where
   abbrev pub with_right : List (Tree R) → ℕ → Option (Tree R) → List (Tree R)
   with_right ks at None = ks
   with_right ks at (Some b) = insert ks at b
+
+  -- an edit made this branch of that, with a second half where it was cut in two, and left so many spare blocks
+  pub record IsBranchEdit (G : Ghosts R) (edit : Edit R) (bound label above : ℕ) (old new : Tree R) (right : Option (Tree R)) (own : ℕ) (lost gained : Sums) (spares : ℕ) : Type 0 where
+    pub edited : IsEdited G edit bound label old.pairs (new.pairs ++ pairs_of_right right) own lost gained
+    pub depth : new.depth ≡ old.depth
+    pub enough : 2 ^ new.depth ≤ 2 * length new.pairs
+    pub like : IsLike old.depth right
+    pub left : IsLeft above right spares
+    pub whole : IsChange edit → right ≡ None
+
+-- how many full nodes stand right above the branches of a node that has so many
+abbrev pub above_kids : ℕ → ℕ → ℕ
+above_kids many above = if nat_lt many 16 then 0 else above + 1
+
+-- the leaf of these pairs
+abbrev pub leaf_of : {R : Type 0} → List (ℕ × R) → Tree R
+leaf_of ps = record { pairs = ps; depth = 1 }

@@ -1,19 +1,26 @@
 //! A branch of the tree: a node, and what is kept of the runs below it.
 
-ghost use Rattle.std.specs.Prelude.{◌≡◌, ℕ, ◌+◌, ◌*◌, ◌^◌, ◌<◌, ◌≤◌, Some, length, Contains, vec_capacity};
+ghost use Rattle.std.specs.Prelude.{◌≡◌, ℕ, ◌+◌, ◌*◌, ◌^◌, ◌<◌, ◌≤◌, Some, length, Contains, vec_capacity, IfOk, OnErr};
 ghost use Rattle.order_tree.specs.Pairs.{labels, IsRising, total, up_to, next_label, first_label, counted_after, IsPlace, SumsFit};
 ghost use Rattle.order_tree.specs.Parts.{first_or_zero, last_known, sums_of, summary_of, all_pairs};
 ghost use Rattle.order_tree.specs.Counts.{count_of};
 ghost use Rattle.order_tree.specs.Shape.{AllBelow};
+ghost use Rattle.order_tree.specs.Edits.{IsPlaced, HasLabel, StaysFit, IsChange};
+ghost use Rattle.order_tree.specs.Rights.{IsBranchEdit};
 
 use crate::count::Count;
+use crate::edit::Edit;
 use crate::entries::{effect_up_to_in, known_after_in, last_free_in, place_in, run_in};
-use crate::halves::{inner_summary, leaf_summary};
+use crate::finish::{edit_entries, finish};
+use crate::halves::{inner_summary, leaf_summary, way_down};
 use crate::kids::{kid_at, kid_before, kid_known_after, kid_up_to, kid_with};
+use crate::leaf::Way;
 use crate::part::Part;
+use crate::spares::Spares;
 use crate::summary::{Summary, Sums};
 use ew_model::run::Run;
 use ew_model::steps::Steps;
+use std::alloc::AllocError;
 use std::marker::Model;
 use std::sync::ledger::Ledger;
 
@@ -195,6 +202,60 @@ impl<R: Run> Branch<R> {
             depth,
             summary,
             node: Node::Inner(kids),
+        }
+    }
+}
+
+/// What an edit did: the label of its new run, the sums lost and gained, and the second half of the node where it was cut in two.
+#[derive(Drop)]
+pub struct Edited<R: Run> {
+    pub own: u64,
+    pub lost: Sums,
+    pub gained: Sums,
+    pub right: Option<Branch<R>>,
+}
+
+impl<R: Run + Drop> Branch<R> {
+    /// Does an edit. Blocks for the nodes that it cuts in two are taken before the first change.
+    pub fn edit<L: Ledger>(
+        &mut self,
+        edit: Edit<R>,
+        way: Way,
+        spares: &mut Spares<R>,
+        visits: &mut Steps<L>,
+    ) -> Result<Edited<R>, AllocError>
+        requires rising { IsRising self.old.pairs }
+        requires placed { IsPlaced R.Run edit way.label self.old.pairs }
+        requires label { HasLabel edit (way.most + 1) way.label self.old.pairs }
+        requires fits { StaysFit R.Run edit way.label self.old.pairs }
+        requires spares { spares.old ≡ 0 }
+        requires above { way.above + self.old.depth < 2 ^ 32 }
+        ensures edited { IfOk result (λ d. IsBranchEdit R.Run edit (way.most + 1) way.label way.above self.old self.new d.right d.own d.lost d.gained spares.new) }
+        ensures err { OnErr result ((self.new ≡ self.old) × (IsChange edit → ⊥)) }
+        ensures cost { visits.new ≤ visits.old + self.old.depth }
+    {
+        visits.tick();
+        match &mut self.node {
+            Node::Leaf(entries) => {
+                let (summary, done) = edit_entries(entries, self.summary.sums, edit, way, spares)?;
+                self.summary = summary;
+                Ok(done)
+            }
+            Node::Inner(kids) => {
+                let (k, down) = way_down(self.depth, kids.as_slice(), way);
+                let done = kids[k].edit(edit, down, spares, visits)?;
+                let (summary, done) = finish(
+                    self.depth,
+                    way.above,
+                    kids,
+                    k + 1,
+                    self.summary.sums,
+                    done,
+                    spares,
+                );
+                self.summary = summary;
+                Ok(done)
+            }
         }
     }
 }

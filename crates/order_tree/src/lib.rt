@@ -7,6 +7,7 @@ mod branch;
 mod count;
 mod edit;
 mod entries;
+mod finish;
 mod halves;
 mod kids;
 mod label;
