@@ -8,4 +8,7 @@ pub mod KidLaws
 pub mod LeafEdits
 pub mod PairLaws
 pub mod PartLists
+pub mod RelabelLaws
+pub mod SpreadLaws
 pub mod TreeEdits
+pub mod WholeEdits

@@ -4,6 +4,7 @@ pub mod Edits
 pub mod Falls
 pub mod Pairs
 pub mod Parts
+pub mod Relabels
 pub mod Rights
 pub mod Shape
 pub mod Whole

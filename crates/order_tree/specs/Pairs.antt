@@ -1,5 +1,5 @@
 -- What a counted tree holds: runs in order, each with a label.
-use Rattle.std.specs.Prelude.{◌≡◌, ℕ, ◌+◌, ◌<◌, ◌^◌, nat_eq, nat_lt, nat_le, true, Option, Some, None, ◌&&◌, unwrap_or, if◌then◌else◌, List, [], ◌∷◌, ◌++◌, map, filter, sum_by, take, drop, Contains}
+use Rattle.std.specs.Prelude.{◌≡◌, ℕ, ◌+◌, ◌*◌, ◌<◌, ◌≤◌, ◌^◌, nat_eq, nat_lt, nat_le, true, Option, Some, None, ◌&&◌, unwrap_or, if◌then◌else◌, List, [], ◌∷◌, ◌++◌, length, slice_index, map, filter, sum_by, take, drop, Contains}
 use Rattle.ew_model.specs.declared.run.Run.{Ghosts}
 
 -- a tree: its runs in order, each with its label, and the number of levels of its nodes, 0 without runs
@@ -97,7 +97,10 @@ module _ {R : Type 0} where
     pub parts : ArePartsOf G run at first second
     pub pairs : new ≡ lower old label ++ (label, first) ∷ (own, second) ∷ greater old label
 
-  -- the runs under new labels, each one step above the one before it, the first a step above `low`
-  abbrev pub relabelled : ℕ → ℕ → List (ℕ × R) → List (ℕ × R)
-  relabelled step low [] = []
-  relabelled step low (p ∷ ps) = (low + step, p.1) ∷ relabelled step (low + step) ps
+  -- the labels are spread evenly below 2 ^ 64: each is one step above the one before, the first a step above 0, and the step is the widest
+  -- that leaves room for one more behind the last
+  pub record AreSpread (ps : List (ℕ × R)) : Type 0 where
+    pub step : ℕ
+    pub each : (k : ℕ) → k < length ps → slice_index (labels ps) k ≡ (k + 1) * step
+    pub fits : (length ps + 1) * step < 2 ^ 64
+    pub widest : 2 ^ 64 ≤ (length ps + 1) * (step + 1)

@@ -1,11 +1,12 @@
 //! A branch of the tree: a node, and what is kept of the runs below it.
 
-ghost use Rattle.std.specs.Prelude.{◌≡◌, ℕ, ◌+◌, ◌*◌, ◌^◌, ◌<◌, ◌≤◌, Some, length, Contains, vec_capacity, IfOk, OnErr};
+ghost use Rattle.std.specs.Prelude.{◌≡◌, ℕ, ◌+◌, ◌*◌, ◌^◌, ◌<◌, ◌≤◌, Some, ◌++◌, length, Contains, vec_capacity, IfOk, OnErr};
 ghost use Rattle.order_tree.specs.Pairs.{labels, IsRising, total, up_to, next_label, first_label, counted_after, IsPlace, SumsFit};
 ghost use Rattle.order_tree.specs.Parts.{first_or_zero, last_known, sums_of, summary_of, all_pairs};
 ghost use Rattle.order_tree.specs.Counts.{count_of};
 ghost use Rattle.order_tree.specs.Shape.{AllBelow};
 ghost use Rattle.order_tree.specs.Edits.{IsPlaced, HasLabel, StaysFit, IsChange};
+ghost use Rattle.order_tree.specs.Relabels.{relabelled, renamed, reached};
 ghost use Rattle.order_tree.specs.Rights.{IsBranchEdit};
 
 use crate::count::Count;
@@ -16,6 +17,7 @@ use crate::halves::{inner_summary, leaf_summary, way_down};
 use crate::kids::{kid_at, kid_before, kid_known_after, kid_up_to, kid_with};
 use crate::leaf::Way;
 use crate::part::Part;
+use crate::relabel::{Reached, relabel_entries};
 use crate::spares::Spares;
 use crate::summary::{Summary, Sums};
 use ew_model::run::Run;
@@ -93,6 +95,7 @@ impl<R: Run> Branch<R> {
         requires rising { IsRising self.now.pairs }
         requires held { (r : R) × Contains self.now.pairs (label, r) }
         ensures run { Contains self.now.pairs (label, result.now) }
+        ensures onward { visits.old ≤ visits.new }
         ensures cost { visits.new ≤ visits.old + self.now.depth }
     {
         visits.tick();
@@ -107,6 +110,7 @@ impl<R: Run> Branch<R> {
         requires rising { IsRising self.now.pairs }
         requires within { i < total (count_of R.Run count) self.now.pairs }
         ensures place { IsPlace (count_of R.Run count) self.now.pairs i result.0 result.1 }
+        ensures onward { visits.old ≤ visits.new }
         ensures cost { visits.new ≤ visits.old + self.now.depth }
     {
         visits.tick();
@@ -124,6 +128,7 @@ impl<R: Run> Branch<R> {
         requires rising { IsRising self.now.pairs }
         requires small { total R.effect self.now.pairs < 2 ^ 32 }
         ensures effect { result ≡ total R.effect (up_to self.now.pairs label) }
+        ensures onward { visits.old ≤ visits.new }
         ensures cost { visits.new ≤ visits.old + self.now.depth }
     {
         visits.tick();
@@ -141,6 +146,7 @@ impl<R: Run> Branch<R> {
         requires rising { IsRising self.now.pairs }
         requires some { label < last_known R.known self.now.pairs }
         ensures next { first_label (counted_after R.known self.now.pairs label) ≡ Some result }
+        ensures onward { visits.old ≤ visits.new }
         ensures cost { visits.new ≤ visits.old + self.now.depth }
     {
         visits.tick();
@@ -156,6 +162,7 @@ impl<R: Run> Branch<R> {
     pub fn last_free<L: Ledger>(&self, label: u64, most: u64, visits: &mut Steps<L>) -> u64
         requires rising { IsRising self.now.pairs }
         ensures free { result + 1 ≡ next_label (most + 1) self.now.pairs label }
+        ensures onward { visits.old ≤ visits.new }
         ensures cost { visits.new ≤ visits.old + self.now.depth }
     {
         visits.tick();
@@ -232,6 +239,7 @@ impl<R: Run + Drop> Branch<R> {
         requires above { way.above + self.old.depth < 2 ^ 32 }
         ensures edited { IfOk result (λ d. IsBranchEdit R.Run edit (way.most + 1) way.label way.above self.old self.new d.right d.own d.lost d.gained spares.new) }
         ensures err { OnErr result ((self.new ≡ self.old) × (IsChange edit → ⊥)) }
+        ensures onward { visits.old ≤ visits.new }
         ensures cost { visits.new ≤ visits.old + self.old.depth }
     {
         visits.tick();
@@ -255,6 +263,58 @@ impl<R: Run + Drop> Branch<R> {
                 );
                 self.summary = summary;
                 Ok(done)
+            }
+        }
+    }
+}
+
+impl<R: Run> Branch<R> {
+    /// Gives the runs new labels, each a step above the one before, and notes the old and the new of each.
+    pub fn relabel<L: Ledger>(
+        &mut self,
+        before: u64,
+        step: u64,
+        given: &mut Vec<(u64, u64)>,
+        visits: &mut Steps<L>,
+    ) -> Reached
+        requires room { length given.old.items + length self.old.pairs ≤ vec_capacity given.old }
+        requires small { reached step before self.old.pairs < 2 ^ 64 }
+        ensures pairs { self.new.pairs ≡ relabelled step before self.old.pairs }
+        ensures depth { self.new.depth ≡ self.old.depth }
+        ensures given { given.new.items ≡ given.old.items ++ renamed step before self.old.pairs }
+        ensures capacity { vec_capacity given.old ≤ vec_capacity given.new }
+        ensures last { result.last ≡ reached step before self.old.pairs }
+        ensures known { result.last_known ≡ last_known R.known self.new.pairs }
+        ensures onward { visits.old ≤ visits.new }
+        ensures cost { visits.new + 1 ≤ visits.old + 2 * length self.old.pairs }
+    {
+        visits.tick();
+        let sums = self.summary.sums;
+        match &mut self.node {
+            Node::Leaf(entries) => {
+                let reached = relabel_entries(entries, before, step, given);
+                self.summary = Summary {
+                    first: before + step,
+                    last_known: reached.last_known,
+                    sums,
+                };
+                reached
+            }
+            Node::Inner(kids) => {
+                let mut reached = Reached {
+                    last: before,
+                    last_known: 0,
+                };
+                for kid in kids.iter_mut() {
+                    let next = kid.relabel(reached.last, step, given, visits);
+                    reached = reached.then(next);
+                }
+                self.summary = Summary {
+                    first: before + step,
+                    last_known: reached.last_known,
+                    sums,
+                };
+                reached
             }
         }
     }

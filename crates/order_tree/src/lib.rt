@@ -13,6 +13,8 @@ mod kids;
 mod label;
 mod leaf;
 mod part;
+mod relabel;
+mod root;
 mod spares;
 mod summary;
 mod tree;

@@ -4,7 +4,7 @@ ghost use Rattle.std.specs.Prelude.{◌≡◌, ◌+◌, ◌<◌, ◌≤◌, [], 
 ghost use Rattle.order_tree.specs.Blocks.{IsRoomy};
 
 use crate::branch::Branch;
-use crate::label::{MOST_RECENT, choose};
+use crate::label::{Recent, choose};
 use ew_model::run::Run;
 use std::alloc::{AllocError, Global};
 use std::marker::Model;
@@ -17,7 +17,7 @@ pub const MOST_PARTS: usize = 16;
 #[derive(Drop)]
 pub struct Spares<R: Run> {
     alloc: Global,
-    recent: [u64; MOST_RECENT],
+    recent: Recent,
     blocks: Vec<Vec<Branch<R>>>,
 }
 
@@ -34,7 +34,7 @@ impl<R: Run> Model for Spares<R> {
 }
 
 impl<R: Run + Drop> Spares<R> {
-    pub fn new(alloc: Global, recent: [u64; MOST_RECENT]) -> Spares<R>
+    pub fn new(alloc: Global, recent: Recent) -> Spares<R>
         ensures { result ≡ 0 }
     {
         Spares {

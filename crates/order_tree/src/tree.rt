@@ -1,11 +1,15 @@
 //! The counted tree.
 
-ghost use Rattle.std.specs.Prelude.{◌≡◌, ℕ, ◌+◌, ◌-◌, ◌*◌, ◌^◌, ◌<◌, ◌≤◌, ◌↔◌, ◌⊎◌, IsTrue, Option, List, [], ◌∷◌, ◌++◌, length, map, zip, Contains, IfOk, IsOkAnd, OnErr};
-ghost use Rattle.order_tree.specs.Pairs.{Tree, labels, runs, IsRising, lower, first_label, next_label, HasRoom, counted_after, total, SumsFit, IsPlace, changed, inserted, IsCut};
+ghost use Rattle.std.specs.Prelude.{◌≡◌, ℕ, ◌+◌, ◌-◌, ◌*◌, ◌^◌, ◌<◌, ◌≤◌, ◌↔◌, ◌⊎◌, IsTrue, Option, List, [], ◌∷◌, ◌++◌, length, map, zip, All, Contains, IfOk, IsOkAnd, OnErr};
+ghost use Rattle.order_tree.specs.Pairs.{Tree, labels, runs, IsRising, lower, first_label, next_label, HasRoom, counted_after, total, SumsFit, IsPlace, changed, inserted, IsCut, AreSpread};
 
 use crate::branch::Branch;
 use crate::count::Count;
+use crate::edit::Edit;
+use crate::label::Recent;
 use crate::part::Part;
+use crate::root::{edit_root, insert_run, relabel_root};
+use crate::spares::Spares;
 use ew_model::NoMem;
 use ew_model::run::Run;
 use ew_model::steps::Steps;
@@ -22,6 +26,7 @@ pub struct OrderTree<R: Run> {
     alloc: Global,
     root: Option<Branch<R>>,
     runs: u32,
+    recent: Recent,
 }
 
 impl<R: Run> Model for OrderTree<R> {
@@ -45,6 +50,7 @@ impl<R: Run> OrderTree<R> {
             alloc,
             root: None,
             runs: 0,
+            recent: Recent::NONE,
         })
     }
 
@@ -52,8 +58,9 @@ impl<R: Run> OrderTree<R> {
     pub fn runs(&self) -> u32
         ensures value { result ≡ length self.now.pairs }
 
-        // So it is of every tree: labels rise, and the sums fit.
+        // So it is of every tree: labels rise and are below 2 ^ 64, and the sums fit.
         ensures rising { IsRising self.now.pairs }
+        ensures below { All (λ p. p.0 < 2 ^ 64) self.now.pairs }
         ensures fit { SumsFit R.Run self.now.pairs }
     {
         self.runs
@@ -75,6 +82,7 @@ impl<R: Run> OrderTree<R> {
     pub fn locate<L: Ledger>(&self, label: u64, visits: &mut Steps<L>) -> &R
         requires { Contains (labels self.now.pairs) label }
         ensures run { Contains self.now.pairs (label, result.now) }
+        ensures onward { visits.old ≤ visits.new }
         ensures cost { visits.new ≤ visits.old + self.now.depth }
     {
         let Some(root) = &self.root else {
@@ -87,6 +95,7 @@ impl<R: Run> OrderTree<R> {
     pub fn find_prepared<L: Ledger>(&self, i: u32, visits: &mut Steps<L>) -> (u64, u32)
         requires { i < total R.prepared self.now.pairs }
         ensures place { IsPlace R.prepared self.now.pairs i result.0 result.1 }
+        ensures onward { visits.old ≤ visits.new }
         ensures cost { visits.new ≤ visits.old + self.now.depth }
     {
         let Some(root) = &self.root else {
@@ -99,6 +108,7 @@ impl<R: Run> OrderTree<R> {
     pub fn find_effect<L: Ledger>(&self, i: u32, visits: &mut Steps<L>) -> (u64, u32)
         requires { i < total R.effect self.now.pairs }
         ensures place { IsPlace R.effect self.now.pairs i result.0 result.1 }
+        ensures onward { visits.old ≤ visits.new }
         ensures cost { visits.new ≤ visits.old + self.now.depth }
     {
         let Some(root) = &self.root else {
@@ -110,6 +120,7 @@ impl<R: Run> OrderTree<R> {
     /// How many characters of the text are in runs with lower labels. The label need not be that of a run.
     pub fn effect_before<L: Ledger>(&self, label: u64, visits: &mut Steps<L>) -> u32
         ensures effect { result ≡ total R.effect (lower self.now.pairs label) }
+        ensures onward { visits.old ≤ visits.new }
         ensures cost { visits.new ≤ visits.old + self.now.depth }
     {
         match &self.root {
@@ -121,6 +132,7 @@ impl<R: Run> OrderTree<R> {
     /// The least greater label of a run with a character that is inserted in what is prepared; None where there is none.
     pub fn next_known<L: Ledger>(&self, label: u64, visits: &mut Steps<L>) -> Option<u64>
         ensures next { result ≡ first_label (counted_after R.known self.now.pairs label) }
+        ensures onward { visits.old ≤ visits.new }
         ensures cost { visits.new ≤ visits.old + self.now.depth }
     {
         match &self.root {
@@ -132,11 +144,98 @@ impl<R: Run> OrderTree<R> {
     /// Whether a label is free between this one and the next, or behind it where there is no next.
     pub fn has_room<L: Ledger>(&self, label: u64, visits: &mut Steps<L>) -> bool
         ensures room { IsTrue result ↔ HasRoom self.now.pairs label }
+        ensures onward { visits.old ≤ visits.new }
         ensures cost { visits.new ≤ visits.old + self.now.depth }
     {
         match &self.root {
             None => label < u64::MAX,
             Some(root) => label < root.last_free(label, u64::MAX, visits),
         }
+    }
+}
+
+impl<R: Run + Drop> OrderTree<R> {
+    /// Puts a run right behind a label, or before all runs at label 0, and answers the run's own label.
+    pub fn insert_after<L: Ledger>(
+        &mut self,
+        label: u64,
+        run: R,
+        visits: &mut Steps<L>,
+    ) -> Result<u64, NoMem>
+        requires room { HasRoom self.old.pairs label }
+        requires few { length self.old.pairs < 4294967295 }
+        requires known { total R.known self.old.pairs + R.known run < 2 ^ 32 }
+        requires prepared { total R.prepared self.old.pairs + R.prepared run < 2 ^ 32 }
+        requires effect { total R.effect self.old.pairs + R.effect run < 2 ^ 32 }
+        ensures pairs { IfOk result (λ own. self.new.pairs ≡ inserted self.old.pairs label own run) }
+        ensures between { IfOk result (λ own. (label < own) × (own < next_label (2 ^ 64) self.old.pairs label)) }
+        ensures err { OnErr result (self.new ≡ self.old) }
+        ensures onward { visits.old ≤ visits.new }
+        ensures cost { visits.new ≤ visits.old + self.old.depth }
+    {
+        let mut spares = Spares::new(self.alloc, self.recent);
+        let own = insert_run(&mut self.root, label, run, &mut spares, visits)?;
+        self.runs += 1;
+        self.recent.note(label, own);
+        Ok(own)
+    }
+
+    /// Cuts the run of a label in two at a place inside it, and answers the second part's own label.
+    pub fn split<L: Ledger>(
+        &mut self,
+        label: u64,
+        at: u32,
+        visits: &mut Steps<L>,
+    ) -> Result<u64, NoMem>
+        requires inside { (run : R) × Contains self.old.pairs (label, run) × (0 < at) × (at < length (R.chars run)) }
+        requires room { HasRoom self.old.pairs label }
+        requires few { length self.old.pairs < 4294967295 }
+        ensures pairs { IfOk result (λ own. IsCut R.Run self.old.pairs self.new.pairs label at own) }
+        ensures between { IfOk result (λ own. (label < own) × (own < next_label (2 ^ 64) self.old.pairs label)) }
+        ensures err { OnErr result (self.new ≡ self.old) }
+        ensures onward { visits.old ≤ visits.new }
+        ensures cost { visits.new ≤ visits.old + self.old.depth }
+    {
+        let mut spares = Spares::new(self.alloc, self.recent);
+        let own = edit_root(&mut self.root, label, Edit::Split(at), &mut spares, visits)?;
+        self.runs += 1;
+        self.recent.note(label, own);
+        Ok(own)
+    }
+
+    /// Puts another run in the place of a label's. It takes no memory.
+    pub fn change<L: Ledger>(&mut self, label: u64, run: R, visits: &mut Steps<L>)
+        requires held { Contains (labels self.old.pairs) label }
+        requires fit { SumsFit R.Run (changed self.old.pairs label run) }
+        ensures pairs { self.new.pairs ≡ changed self.old.pairs label run }
+        ensures depth { self.new.depth ≡ self.old.depth }
+        ensures onward { visits.old ≤ visits.new }
+        ensures cost { visits.new ≤ visits.old + self.old.depth }
+    {
+        let mut spares = Spares::new(self.alloc, self.recent);
+        let edit = Edit::Change(run);
+        let Ok(_) = edit_root(&mut self.root, label, edit, &mut spares, visits) else {
+            unreachable!()
+        };
+    }
+}
+
+impl<R: Run> OrderTree<R> {
+    /// Gives all runs new labels, spread evenly, and answers the old and the new label of each, in order.
+    pub fn relabel<L: Ledger>(&mut self, visits: &mut Steps<L>) -> Result<Vec<(u64, u64)>, NoMem>
+        ensures runs { runs self.new.pairs ≡ runs self.old.pairs }
+        ensures spread { IfOk result (λ _. AreSpread self.new.pairs) }
+        ensures room { IfOk result (λ _. (label : ℕ) → (label ≡ 0) ⊎ Contains (labels self.new.pairs) label → HasRoom self.new.pairs label) }
+        ensures given { IfOk result (λ given. given.items ≡ zip (labels self.old.pairs) (labels self.new.pairs)) }
+        ensures depth { self.new.depth ≡ self.old.depth }
+        ensures err { OnErr result (self.new ≡ self.old) }
+        ensures onward { visits.old ≤ visits.new }
+        ensures cost { visits.new ≤ visits.old + 2 * length self.old.pairs }
+    {
+        let mut given = Vec::with_capacity(self.alloc, self.runs as usize)?;
+        let step = u64::MAX / (u64::from(self.runs) + 1);
+        relabel_root(&mut self.root, step, &mut given, visits);
+        self.recent = Recent::NONE;
+        Ok(given)
     }
 }
