@@ -1,0 +1,4 @@
+mod VersionTexts
+mod VersionHistories
+mod HeldVersions
+mod SeenRows
