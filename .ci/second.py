@@ -10,9 +10,9 @@ import sys
 sys.dont_write_bytecode = True
 sys.path.insert(0, str(pathlib.Path(__file__).parent))
 
-from beside import FOLDER, ROOT, Beside, Draws, list_all, reader  # noqa: E402
+from beside import FOLDER, ROOT, Beside, Draws, list_all  # noqa: E402
+from histories import MOST_EVENTS, MOST_FILE, MOST_INPUT, USAGE, Event, History, Id, Op, file_of  # noqa: E402
 
-Id, Op, Event = reader.Id, reader.Op, reader.Event
 SEED = 2718281828
 
 
@@ -107,7 +107,7 @@ def people(beside, draws):
 
 def draw_graph(draws, size):
     """Events with any reduced parents, each behind its agent's last."""
-    history, last = reader.History(), {}
+    history, last = History(), {}
     while len(history.events) < size:
         agent = draws.one_of([b"a", b"b", b"c", b"d", b"ab"])
         parents = {last[agent]} if agent in last else set()
@@ -134,14 +134,14 @@ def graphs(beside, draws):
     """Two parts of one graph, merged both ways."""
     events = draw_graph(draws, 3 + draws.below(22))
     # A part is a set of events with all their ancestors, in the same order.
-    history = reader.History()
+    history = History()
     for event in events:
         history.append(event)
     parts = []
     for _ in range(2):
         known = history.version({draws.one_of(events).id for _ in range(3)})
         parts.append([event for position, event in enumerate(events) if known >> position & 1])
-    beside.files(graph=reader.file_of(events), one=reader.file_of(parts[0]), other=reader.file_of(parts[1]))
+    beside.files(graph=file_of(events), one=file_of(parts[0]), other=file_of(parts[1]))
     for name in ("graph", "one", "other"):
         list_all(beside, name)
     beside.copy("one", "kept")
@@ -186,7 +186,7 @@ def bad_events(draws, events):
 def damaged(beside, draws):
     """One file in which something is wrong, or perhaps nothing; and a good one to merge it with."""
     events = draw_graph(draws, 2 + draws.below(10))
-    good = reader.file_of(events)
+    good = file_of(events)
     content = bytearray(good[:-32])
     choice = draws.below(10)
     if choice == 0:
@@ -204,7 +204,7 @@ def damaged(beside, draws):
         data = with_digest(content)
     else:
         changed = bad_events(draws, events)
-        data = good if changed is None else reader.file_of(changed)
+        data = good if changed is None else file_of(changed)
     beside.files(good=good, bad=bytes(data))
     list_all(beside, "bad")
     beside.run("edit", "bad", "--agent", "a", input=b"ins 0 x")
@@ -289,7 +289,7 @@ def page_rows(beside):
         beside.wrong("docs/FORMATS.md has no rows")
     for lines, text, cuts in rows:
         events = [event_of(line) for line in re.findall(r"`([^`]*)`", lines)]
-        beside.file("row", reader.file_of(events))
+        beside.file("row", file_of(events))
         answers = list_all(beside, "row")
         if answers[0] != (0, text.encode()) or f"cuts {len(cuts.split(', '))}\n" not in answers[3][1].decode():
             beside.wrong(f"the row with the text {text} of docs/FORMATS.md is another")
@@ -377,13 +377,13 @@ def limits(beside):
     beside.run("new", "F")
     for agents in (16, 17):
         events = [Event(Id(b"p%d" % n, 0), (), Op(0, 97 + n)) for n in range(agents)]
-        beside.file("heads", reader.file_of(events))
+        beside.file("heads", file_of(events))
         for script in (b"ins 0 x", b"ins 0 ", b"del 0 1", b"del 0 0", b"ins 99 x", b"ins 99 "):
             beside.run("edit", "heads", "--agent", "a", input=script)
-    beside.run("edit", "F", "--agent", "a", input=b"\n" * reader.MOST_INPUT)
-    beside.run("edit", "F", "--agent", "a", input=b"\n" * (reader.MOST_INPUT + 1))
-    beside.run("edit", "F", "--agent", "a", input=b"ins 0 " + b"x" * (reader.MOST_EVENTS + 1))
-    for size in (reader.MOST_FILE, reader.MOST_FILE + 1):
+    beside.run("edit", "F", "--agent", "a", input=b"\n" * MOST_INPUT)
+    beside.run("edit", "F", "--agent", "a", input=b"\n" * (MOST_INPUT + 1))
+    beside.run("edit", "F", "--agent", "a", input=b"ins 0 " + b"x" * (MOST_EVENTS + 1))
+    for size in (MOST_FILE, MOST_FILE + 1):
         for folder, _ in beside.sides:
             with open(folder / "large", "wb") as file:
                 file.truncate(size)
@@ -422,7 +422,7 @@ def refusals(beside):
 
 
 # Each text that a run may give, without its names and numbers, has to come at least once.
-WANTED = [(0, "")] + [(2, reader.USAGE.decode().strip())]
+WANTED = [(0, "")] + [(2, USAGE.decode().strip())]
 WANTED += [(3, "egw: no file NAME"), (3, "egw: file NAME is there"), (4, "egw: F: short, N bytes"), (4, "egw: F: not an event file"), (4, "egw: F: version N"), (4, "egw: F: digest N, found N")]
 WANTED += [(4, f"egw: F: byte N: {fault}") for fault in ("cut", "bad name", "name twice", "agent number", "id twice", "parent count", "parent position", "parent order", "kind", "scalar", "trailing bytes", "unused agent")]
 WANTED += [(4, f"egw: F: event N: {fault}") for fault in ("not reduced", "skipped", "out of range, length N")]

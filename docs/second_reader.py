@@ -1,526 +1,512 @@
 #!/usr/bin/env python3
 """A second implementation of `egw`, written from docs/FORMATS.md alone: new, edit, cat, heads, log, check and merge.
 
-It does each thing as the page says it, and takes no care to be fast. Python 3, nothing else.
+Its author had never seen the program. The sections follow those of the page. Python 3, nothing else.
 """
 
+import bisect
+import collections
+import contextlib
+import errno
 import hashlib
 import itertools
 import os
 import re
+import struct
 import sys
-from bisect import insort
-from collections import namedtuple
 
-MOST_EVENTS = 1_000_000
-MOST_INPUT = 16_777_216
-MOST_FILE = 48 + 115 * MOST_EVENTS
-MOST_PARENTS = 16
-
-USAGE = b"""usage: egw new FILE
-       egw edit FILE --agent NAME
-       egw cat FILE [--at VERSION]
-       egw heads FILE
-       egw log FILE
-       egw replay FILE
-       egw check FILE
-       egw merge FILE OTHER
-       egw ask FILE
-       egw serve FILE
-       egw net
-       egw make --seed N --count N
-"""
-
-Id = namedtuple("Id", "agent seq")  # a name's bytes and a number: compared in this order, as the page wants it
-Op = namedtuple("Op", "at ch")  # ch is a code point for an insertion, None for a deletion
-Event = namedtuple("Event", "id parents op")
+MAX_EVENTS, MAX_FILE, MAX_INPUT, MAX_PARENTS = 1000000, 115000048, 16777216, 16
+ESCAPE = re.compile(r'\\(.?)', re.DOTALL)
+PLAIN = {'n': '\n', '\\': '\\'}
+INSERT, DELETE, LEFT, RIGHT = 0, 1, 0, 1
+NAME = re.compile('[a-zA-Z0-9_][a-zA-Z0-9_-]{0,31}')
+LINE = re.compile(r'ins (NUMBER) (.*)|del (NUMBER) (NUMBER)'.replace('NUMBER', '0|[1-9][0-9]{0,9}'),
+                  re.DOTALL)
+USAGE = 'usage: egw ' + '\n       egw '.join((
+    'new FILE', 'edit FILE --agent NAME', 'cat FILE [--at VERSION]', 'heads FILE', 'log FILE',
+    'replay FILE', 'check FILE', 'merge FILE OTHER', 'ask FILE', 'serve FILE', 'net',
+    'make --seed N --count N'))
 
 
-class Refused(Exception):
-    """The status, and what is written to the error output, but for `egw: ` and the newline."""
-
-    def __init__(self, status, text):
-        super().__init__(status, text)
-        self.status = status
-        self.text = text
+# An id is a pair (name, number), so ids compare as the page orders them.
+# The parents of an event are ids; char is '' for a deletion.
+Event = collections.namedtuple('Event', 'id parents kind index char')
 
 
-# Histories and texts. A set of events is a number, in which bit p stands for the event at position p.
+class Refusal(Exception):
+    """The first thing that stands in the way: a status and a text."""
+
+
+def spell(ident):
+    """An id as it is written."""
+    return '%s:%d' % ident
+
+
+# Events, histories, texts
 
 
 class Node:
-    """A node of the tree: its id, its character, the event that inserted it, and those that delete it."""
+    """A node of the tree, which is also a link of the walk."""
+    __slots__ = ('id', 'char', 'children', 'before', 'after', 'deleters')
 
-    def __init__(self, id=None, ch=None, event=0):
-        self.id, self.ch, self.event = id, ch, event
-        self.left, self.right, self.deleters = [], [], 0
+    def __init__(self, ident, char):
+        self.id, self.char = ident, char
+        self.children = ([], [])
+        self.before = self.after = None
+        self.deleters = []
 
-    def __lt__(self, other):
-        return self.id < other.id
+    def edge(self, side):
+        """The first or the last node of all that is below this one, itself counted."""
+        node = self
+        while node.children[side]:
+            node = node.children[side][-side]
+        return node
+
+    def hang(self, parent, side):
+        """Become a child on this side of the parent, and a link of the walk."""
+        siblings = parent.children[side]
+        at = bisect.bisect([child.id for child in siblings], self.id)
+        if side == LEFT:
+            self.after = siblings[at].edge(LEFT) if at < len(siblings) else parent
+            self.before = self.after.before
+        else:
+            self.before = siblings[at - 1].edge(RIGHT) if at > 0 else parent
+            self.after = self.before.after
+        siblings.insert(at, self)
+        self.before.after = self
+        if self.after:
+            self.after.before = self
+
+
+def knows(known, ident):
+    """Whether the event is among the known ones; None knows all."""
+    return known is None or known.get(ident[0], 0) > ident[1]
 
 
 class History:
-    """The events of a good history, the ancestors of each, and the tree."""
+    """A good history with its tree.
 
-    def __init__(self):
-        self.events, self.position, self.ancestors, self.root = [], {}, [], Node()
+    In a good history an agent's events are a chain, so a set of ancestors
+    is told by a count for each agent: clocks[p] has those of the event at
+    position p, with that event itself. reach[p] is the first position that
+    isn't one of its ancestors. shown has the nodes of the text, or None.
+    """
 
-    def version(self, ids):
-        """The events of these ids and all their ancestors."""
-        known = 0
-        for id in ids:
-            known |= self.ancestors[self.position[id]] | 1 << self.position[id]
+    def __init__(self, file):
+        self.file = file
+        self.events, self.where, self.by_agent, self.heads = [], {}, {}, set()
+        self.clocks, self.reach = [], []
+        self.root, self.shown = Node(None, ''), []
+
+    def visible(self, known=None):
+        """The nodes that are visible to one who knows these events; None knows all."""
+        if known is None and self.shown is not None:
+            return self.shown
+        seen, node = [], self.root.after
+        while node:
+            if knows(known, node.id) and not any(knows(known, by) for by in node.deleters):
+                seen.append(node)
+            node = node.after
+        return seen
+
+    def not_good(self, words):
+        """The refusal for the event that comes next."""
+        return Refusal(4, '%s: event %d: %s' % (self.file, len(self.events), words))
+
+    def add(self, event):
+        """Judge one event and place it behind the others."""
+        name, number = event.id
+        position = len(self.events)
+        known = self.known_to(event)
+        if known.get(name, 0) < number:
+            raise self.not_good('skipped')
+        self.place(event, None if set(event.parents) == self.heads else known)
+        missing = [places[known.get(agent, 0)] for agent, places in self.by_agent.items()
+                   if known.get(agent, 0) < len(places)]
+        self.reach.append(min(missing, default=position))
+        known[name] = number + 1
+        self.clocks.append(known)
+        self.by_agent.setdefault(name, []).append(position)
+        self.where[event.id] = position
+        self.heads.difference_update(event.parents)
+        self.heads.add(event.id)
+        self.events.append(event)
+
+    def known_to(self, event):
+        """How many events of each agent are ancestors of a reduced event."""
+        clocks = [self.clocks[self.where[parent]] for parent in event.parents]
+        for parent in event.parents:
+            if sum(knows(clock, parent) for clock in clocks) > 1:
+                raise self.not_good('not reduced')
+        known = dict(clocks[0]) if clocks else {}
+        for clock in clocks[1:]:
+            for name, count in clock.items():
+                known[name] = max(count, known.get(name, 0))
         return known
 
-    def walk(self):
-        """For each node its left children, the node, its right children."""
-        to_do = [(self.root, False)]
-        while to_do:
-            node, is_its_turn = to_do.pop()
-            if is_its_turn:
-                yield node
-            else:
-                to_do += [(child, False) for child in reversed(node.right)] + [(node, True)]
-                to_do += [(child, False) for child in reversed(node.left)]
-
-    def append(self, event):
-        """Appends an event, or says in words why it isn't good."""
-        parents = [self.position[parent] for parent in event.parents]
-        if any(self.ancestors[p] >> q & 1 for p in parents for q in parents):
-            return "not reduced"
-        known = self.version(event.parents)
-        before = self.position.get(Id(event.id.agent, event.id.seq - 1), len(self.events))
-        if event.id.seq and not known >> before & 1:
-            return "skipped"
-        walk = [node for node in self.walk() if node is self.root or node.event & known]
-        visible = [node for node in walk if node.event & known and not node.deleters & known]
-        at, ch = event.op
-        if at > len(visible) or ch is None and at == len(visible):
-            return f"out of range, length {len(visible)}"
-        bit = 1 << len(self.events)
-        if ch is None:
-            visible[at].deleters |= bit
+    def place(self, event, known):
+        """Do what the event does on the tree."""
+        seen = self.visible(known)
+        if event.index > len(seen) - event.kind:
+            raise self.not_good('out of range, length %d' % len(seen))
+        if event.kind == DELETE:
+            seen.pop(event.index).deleters.append(event.id)
         else:
-            left = visible[at - 1] if at else self.root
-            has_right_child = any(child.event & known for child in left.right)
-            insort(walk[walk.index(left) + 1].left if has_right_child else left.right, Node(event.id, ch, bit))
-        self.position[event.id] = len(self.events)
-        self.ancestors.append(known)
-        self.events.append(event)
-        return None
+            parent, side = seen[event.index - 1] if event.index else self.root, RIGHT
+            if any(knows(known, child.id) for child in parent.children[RIGHT]):
+                parent, side = parent.after, LEFT
+                while not knows(known, parent.id):
+                    parent = parent.after
+            node = Node(event.id, event.char)
+            node.hang(parent, side)
+            seen.insert(event.index, node)
+        self.shown = seen if known is None else None
 
-    def text(self):
-        return "".join(chr(node.ch) for node in self.walk() if node is not self.root and not node.deleters)
-
-    def heads(self):
-        parents = {parent for event in self.events for parent in event.parents}
-        return sorted(event.id for event in self.events if event.id not in parents)
-
-    def count_of(self, agent):
-        return sum(event.id.agent == agent for event in self.events)
-
-    def is_critical(self, cut):
-        below = (1 << cut) - 1
-        return all(known & below == below for known in self.ancestors[cut:])
+    def cuts(self):
+        """The critical cuts, from the greatest to the least."""
+        count = len(self.events)
+        reached = itertools.accumulate([count] + self.reach[::-1], min)
+        return [cut for cut, least in zip(range(count, -1, -1), reached) if least >= cut]
 
 
-# Files
+# The event file
 
 
-def is_name(name):
-    return re.fullmatch(rb"[a-zA-Z0-9_][a-zA-Z0-9_-]{0,31}", name) is not None
+class Fields:
+    """The fields of a file between its version and its digest."""
 
+    def __init__(self, data, file):
+        self.data, self.file = data, file
+        self.start, self.at, self.end = 8, 8, len(data) - 32
 
-def is_scalar(ch):
-    return ch <= 0x10FFFF and not 0xD800 <= ch <= 0xDFFF
-
-
-class Reader:
-    """Takes fields off the front of a file's bytes, and refuses the first bad one by the offset of its first byte."""
-
-    def __init__(self, name, content):
-        self.name, self.content, self.at = name, content, 8
-
-    def bad(self, offset, words):
-        return Refused(4, self.name + b": byte %d: %s" % (offset, words.encode()))
-
-    def take(self, count, offset=None):
-        if self.at + count > len(self.content):
-            raise self.bad(self.at if offset is None else offset, "cut")
-        self.at += count
-        return self.content[self.at - count : self.at]
+    def refuse_if(self, holds, words, offset=None):
+        """Where it holds, refuse with the words of a fault, at the field taken last."""
+        if holds:
+            raise Refusal(4, '%s: byte %d: %s' % (self.file, offset or self.start, words))
 
     def number(self, size=4):
-        return int.from_bytes(self.take(size), "little")
+        """Take a number of one byte or four."""
+        self.start = self.at
+        self.refuse_if(self.at + size > self.end, 'cut')
+        self.at += size
+        return int.from_bytes(self.data[self.start:self.at], 'little')
 
-    def checked(self, is_right, words, size=4):
-        """A number that passes a test."""
-        offset = self.at
-        value = self.number(size)
-        if not is_right(value):
-            raise self.bad(offset, words)
-        return value
-
-    def agent(self, agents):
-        offset = self.at
-        length = self.checked(lambda n: 1 <= n <= 32, "bad name", 1)
-        name = self.take(length, offset)
-        if not is_name(name):
-            raise self.bad(offset, "bad name")
-        if name in agents:
-            raise self.bad(offset, "name twice")
+    def name(self, names):
+        """Take a name that isn't among the names."""
+        size = self.number(1)
+        self.refuse_if(not 1 <= size <= 32, 'bad name')
+        self.refuse_if(self.at + size > self.end, 'cut')
+        name = self.data[self.at:self.at + size].decode('latin-1')
+        self.refuse_if(not NAME.fullmatch(name), 'bad name')
+        self.refuse_if(name in names, 'name twice')
+        self.at += size
         return name
 
-    def parents(self, ids):
+    def parents(self, events):
+        """Take the parents of a record."""
         parents = []
-        for _ in range(self.checked(lambda n: n <= MOST_PARENTS, "parent count", 1)):
-            offset = self.at
-            parent = ids[self.checked(lambda p: p < len(ids), "parent position")]
-            if parents and parent <= parents[-1]:
-                raise self.bad(offset, "parent order")
-            parents.append(parent)
+        count = self.number(1)
+        self.refuse_if(count > MAX_PARENTS, 'parent count')
+        for _ in range(count):
+            position = self.number()
+            self.refuse_if(position >= len(events), 'parent position')
+            ident = events[position].id
+            self.refuse_if(parents and ident <= parents[-1], 'parent order')
+            parents.append(ident)
         return tuple(parents)
 
     def operation(self):
-        kind = self.checked(lambda k: k <= 1, "kind", 1)
-        at = self.number()
-        return Op(at, None if kind else self.checked(is_scalar, "scalar"))
+        """Take the kind, the index and the character."""
+        kind = self.number(1)
+        self.refuse_if(kind > DELETE, 'kind')
+        index = self.number()
+        if kind == DELETE:
+            return kind, index, ''
+        scalar = self.number()
+        self.refuse_if(scalar > 0x10FFFF or 0xD800 <= scalar <= 0xDFFF, 'scalar')
+        return kind, index, chr(scalar)
 
     def events(self):
-        agents, used, ids, seen, events = [], set(), [], set(), []
-        for _ in range(self.number()):
-            agents.append(self.agent(agents))
-        count = self.number()
-        if count > MOST_EVENTS:
-            raise Refused(7, self.name + b": more than %d events" % MOST_EVENTS)
-        for _ in range(count):
-            number = self.checked(lambda n: n <= len(used) and n < len(agents), "agent number")
-            used.add(number)
-            seq = self.checked(lambda s: (agents[number], s) not in seen, "id twice")
-            event = Event(Id(agents[number], seq), self.parents(ids), self.operation())
-            seen.add(event.id)
-            ids.append(event.id)
-            events.append(event)
-        if self.at < len(self.content):
-            raise self.bad(self.at, "trailing bytes")
-        if len(used) < len(agents):
-            raise self.bad(self.at, "unused agent")
+        """Take all fields; gives the events."""
+        names, positions = [], {}
+        for position in range(self.number()):
+            names.append(self.name(positions))
+            positions[names[-1]] = position
+        number = self.number()
+        if number > MAX_EVENTS:
+            raise Refusal(7, '%s: more than %d events' % (self.file, MAX_EVENTS))
+        events, ids, used = [], set(), 0
+        for _ in range(number):
+            agent = self.number()
+            self.refuse_if(agent > used or agent >= len(names), 'agent number')
+            used = max(used, agent + 1)
+            ident = (names[agent], self.number())
+            self.refuse_if(ident in ids, 'id twice')
+            ids.add(ident)
+            events.append(Event(ident, self.parents(events), *self.operation()))
+        self.refuse_if(self.at < self.end, 'trailing bytes', self.at)
+        self.refuse_if(used < len(names), 'unused agent', self.end)
         return events
 
 
-def read_events(name, data):
-    """The events of a file's bytes."""
-    content, stored = data[:-32], data[-32:]
+def parse_file(data, file):
+    """The events of a file, or the first thing that is wrong with it."""
     if len(data) < 48:
-        raise Refused(4, name + b": short, %d bytes" % len(data))
-    if data[:7] != b"EGWFILE":
-        raise Refused(4, name + b": not an event file")
+        raise Refusal(4, '%s: short, %d bytes' % (file, len(data)))
+    if data[:7] != b'EGWFILE':
+        raise Refusal(4, '%s: not an event file' % file)
     if data[7] != 1:
-        raise Refused(4, name + b": version %d" % data[7])
-    found = hashlib.sha256(content).digest()
+        raise Refusal(4, '%s: version %d' % (file, data[7]))
+    stored, found = data[-32:].hex(), hashlib.sha256(data[:-32]).hexdigest()
     if stored != found:
-        raise Refused(4, name + f": digest {stored.hex()}, found {found.hex()}".encode())
-    return Reader(name, content).events()
+        raise Refusal(4, '%s: digest %s, found %s' % (file, stored, found))
+    return Fields(data, file).events()
 
 
-def file_of(events):
-    """The one file of events."""
-    agents = list(dict.fromkeys(event.id.agent for event in events))
-    number = {agent: n for n, agent in enumerate(agents)}
-    position = {event.id: p for p, event in enumerate(events)}
-    data = bytearray(b"EGWFILE\x01")
-
-    def put(value, size=4):
-        data.extend(value.to_bytes(size, "little"))
-
-    put(len(agents))
-    for agent in agents:
-        put(len(agent), 1)
-        data.extend(agent)
-    put(len(events))
+def file_bytes(events):
+    """The one file of a list of events."""
+    agents, where, records = {}, {}, []
     for event in events:
-        put(number[event.id.agent])
-        put(event.id.seq)
-        put(len(event.parents), 1)
-        for parent in event.parents:
-            put(position[parent])
-        put(0 if event.op.ch is not None else 1, 1)
-        put(event.op.at)
-        if event.op.ch is not None:
-            put(event.op.ch)
-    return bytes(data) + hashlib.sha256(data).digest()
+        name, number = event.id
+        agent = agents.setdefault(name, len(agents))
+        records.append(struct.pack('<IIB', agent, number, len(event.parents)))
+        records.extend(struct.pack('<I', where[parent]) for parent in event.parents)
+        records.append(struct.pack('<BI', event.kind, event.index))
+        if event.kind == INSERT:
+            records.append(struct.pack('<I', ord(event.char)))
+        where[event.id] = len(where)
+    names = [bytes([len(name)]) + name.encode() for name in agents]
+    body = b''.join([b'EGWFILE\1', struct.pack('<I', len(agents)), *names,
+                     struct.pack('<I', len(events)), *records])
+    return body + hashlib.sha256(body).digest()
 
 
-def load(name, most):
-    """The first bytes of a file, one more than `most` at the most, or None where it isn't there."""
+# Edit scripts
+
+
+def parse_line(line):
+    """A line as (kind, index, count, text), or None where it is bad."""
     try:
-        with open(name, "rb", buffering=0) as file:
-            return read_up_to(lambda size: file.read(size), most + 1)
-    except FileNotFoundError:
+        words = LINE.fullmatch(line.decode('utf-8'))
+        text = words and ESCAPE.sub(lambda found: PLAIN[found[1]], words[2] or '')
+    except (UnicodeDecodeError, KeyError):
         return None
-    except OSError:
-        raise Refused(6, b"shelf failed")
+    if not words or any(int(number or 0) >= 1 << 32 for number in words.group(1, 3, 4)):
+        return None
+    if words[1] is None:
+        return DELETE, int(words[3]), int(words[4]), ''
+    return INSERT, int(words[1]), len(text), text
 
 
-def read_up_to(read, most):
-    pieces, left = [], most
-    while left and (piece := read(min(left, 1 << 16))):
-        pieces.append(piece)
-        left -= len(piece)
-    return b"".join(pieces)
-
-
-def store(name, data):
-    try:
-        neighbour, file = free_neighbour(name)
-        try:
-            with file:
-                file.write(data)
-                file.flush()
-                os.fsync(file.fileno())
-            os.rename(neighbour, name)
-        except OSError:
-            os.remove(neighbour)
-            raise
-    except OSError:
-        raise Refused(6, b"shelf failed")
-
-
-def free_neighbour(name):
-    for number in itertools.count():
-        neighbour = b"%s.%d.new" % (name, number)
-        try:
-            return neighbour, open(neighbour, "xb")
-        except FileExistsError:
-            pass
-
-
-def opened(name):
-    """The history of a file."""
-    data = load(name, MOST_FILE)
-    if data is None:
-        raise Refused(3, b"no file " + name)
-    if len(data) > MOST_FILE:
-        raise Refused(7, name + b": more than %d bytes" % MOST_FILE)
-    history = History()
-    for position, event in enumerate(read_events(name, data)):
-        if fault := history.append(event):
-            raise Refused(4, name + f": event {position}: {fault}".encode())
-    return history
-
-
-# Scripts
-
-NUMBER = r"(0|[1-9][0-9]{0,9})"
-INSERTION = re.compile(rf"ins {NUMBER} ((?:[^\\]|\\n|\\\\)*)", re.ASCII | re.DOTALL)
-DELETION = re.compile(rf"del {NUMBER} {NUMBER}", re.ASCII)
-
-
-def read_script(script):
-    """The edits: the number of each one's line, its index, and a text or a number of characters."""
-    edits = []
-    lines = script.split(b"\n")
-    if not lines[-1]:
-        lines.pop()
-    for number, line in enumerate(lines, 1):
-        if line:
-            edits.append((number, *read_line(number, line)))
+def parse_script(data):
+    """The edits of a script, each with the number of its line."""
+    edits = [(n, parse_line(line)) for n, line in enumerate(data.split(b'\n'), 1) if line]
+    for number, edit in edits:
+        if edit is None:
+            raise Refusal(5, 'line %d: unreadable' % number)
     return edits
 
 
-def read_line(number, line):
+def do_edit(history, agent, number, edit):
+    """Do the edit of one line on the history."""
+    kind, index, count, text = edit
+    length = len(history.visible())
+    if (index if kind == INSERT else index + count) > length:
+        raise Refusal(5, 'line %d: out of range, length %d' % (number, length))
+    if count and len(history.heads) > MAX_PARENTS:
+        raise Refusal(7, '%d heads, more than %d' % (len(history.heads), MAX_PARENTS))
+    if count and len(history.events) + count > MAX_EVENTS:
+        raise Refusal(7, 'more than %d events' % MAX_EVENTS)
+    for step in range(count):
+        ident = (agent, len(history.by_agent.get(agent, ())))
+        at = index if kind == DELETE else index + step
+        parents = tuple(sorted(history.heads))
+        history.add(Event(ident, parents, kind, at, text[step:step + 1]))
+
+
+# Files, input and output
+
+
+@contextlib.contextmanager
+def using(what, passed=()):
+    """Refuse what the system refuses inside of it, but for the errors passed on."""
     try:
-        text = line.decode()
-    except UnicodeDecodeError:
-        text = ""
-    if match := INSERTION.fullmatch(text):
-        edit = int(match[1]), re.sub(r"\\(.)", lambda m: "\n" if m[1] == "n" else "\\", match[2])
-    elif match := DELETION.fullmatch(text):
-        edit = int(match[1]), int(match[2])
-    else:
-        edit = None
-    if edit is None or edit[0] >= 1 << 32 or isinstance(edit[1], int) and edit[1] >= 1 << 32:
-        raise Refused(5, b"line %d: unreadable" % number)
-    return edit
+        yield
+    except passed:
+        raise
+    except OSError as error:
+        if error.errno == errno.ENOMEM:
+            raise MemoryError
+        raise Refusal(6, '%s failed' % what)
 
 
-def do_edit(history, agent, line, at, what):
-    length = len(history.text())
-    if (at if isinstance(what, str) else at + what) > length:
-        raise Refused(5, b"line %d: out of range, length %d" % (line, length))
-    if isinstance(what, str):
-        operations = [Op(at + n, ord(ch)) for n, ch in enumerate(what)]
-    else:
-        operations = [Op(at, None)] * what
-    if not operations:
-        return
-    parents = tuple(history.heads())
-    if len(parents) > MOST_PARENTS:
-        raise Refused(7, b"%d heads, more than %d" % (len(parents), MOST_PARENTS))
-    if len(history.events) + len(operations) > MOST_EVENTS:
-        raise Refused(7, b"more than %d events" % MOST_EVENTS)
-    for seq, operation in enumerate(operations, history.count_of(agent)):
-        event = Event(Id(agent, seq), parents, operation)
-        history.append(event)
-        parents = (event.id,)
+def read_all(handle, limit, what):
+    """Read to the end; one byte more than the limit is read and no further."""
+    parts, left = [], limit + 1
+    while left:
+        parts.append(os.read(handle, min(left, 1 << 20)))
+        left -= len(parts[-1])
+        if not parts[-1]:
+            return b''.join(parts)
+    raise Refusal(7, '%s: more than %d bytes' % (what, limit))
 
 
-# Commands: each answers what it prints
+def write_all(handle, data):
+    """Write all bytes."""
+    data = memoryview(data)
+    while data:
+        data = data[os.write(handle, data):]
 
 
-def escaped(ch):
-    return {"\n": r"\n", "\\": r"\\"}.get(ch, ch)
+def load(file):
+    """The good history of a file."""
+    try:
+        with using('shelf', FileNotFoundError), open(file.encode(), 'rb', buffering=0) as opened:
+            data = read_all(opened.fileno(), MAX_FILE, file)
+    except FileNotFoundError:
+        raise Refusal(3, 'no file %s' % file)
+    history = History(file)
+    for event in parse_file(data, file):
+        history.add(event)
+    return history
 
 
-def id_text(id):
-    return f"{id.agent.decode()}:{id.seq}"
+def store(file, events):
+    """Put the file of these events in the place of the old one."""
+    path, data, number = file.encode(), file_bytes(events), 0
+    while os.path.lexists(path + b'.%d.new' % number):
+        number += 1
+    beside = path + b'.%d.new' % number
+    with using('shelf'), open(beside, 'xb', buffering=0) as new:
+        try:
+            write_all(new.fileno(), data)
+            os.fsync(new.fileno())
+            os.rename(beside, path)
+        except OSError:
+            with contextlib.suppress(OSError):
+                os.unlink(beside)
+            raise
 
 
-def event_line(event):
-    parents = ",".join(map(id_text, event.parents)) or "root"
-    if event.op.ch is None:
-        return f"{id_text(event.id)} {parents} del {event.op.at}\n"
-    return f"{id_text(event.id)} {parents} ins {event.op.at} {escaped(chr(event.op.ch))}\n"
+# Commands: each takes the files and the agents, and gives what is printed
 
 
-def new(name):
-    if load(name, 0) is not None:
-        raise Refused(3, b"file " + name + b" is there")
-    store(name, file_of([]))
-    return ""
+def run_new(files, _agents):
+    """Make the file of no events."""
+    with using('shelf'), contextlib.suppress(FileNotFoundError), open(files[0].encode(), 'rb', buffering=0) as there:
+        os.read(there.fileno(), 1)
+        raise Refusal(3, 'file %s is there' % files[0])
+    store(files[0], [])
+    return ''
 
 
-def edit(name, agent):
-    history = opened(name)
+def run_edit(files, agents):
+    """Do the edits of a script."""
+    history = load(files[0])
     before = len(history.events)
-    try:
-        script = read_up_to(lambda size: os.read(0, size), MOST_INPUT + 1)
-    except OSError:
-        raise Refused(6, b"source failed")
-    if len(script) > MOST_INPUT:
-        raise Refused(7, b"input: more than %d bytes" % MOST_INPUT)
-    for one in read_script(script):
-        do_edit(history, agent, *one)
+    with using('source'):
+        script = read_all(0, MAX_INPUT, 'input')
+    for number, edit in parse_script(script):
+        do_edit(history, agents[0], number, edit)
     if len(history.events) > before:
-        store(name, file_of(history.events))
-    return f"made {len(history.events) - before}\n"
+        store(files[0], history.events)
+    return 'made %d\n' % (len(history.events) - before)
 
 
-def cat(name):
-    return opened(name).text()
+def run_cat(files, _agents):
+    """Print the text."""
+    return ''.join(node.char for node in load(files[0]).visible())
 
 
-def heads(name):
-    return "".join(id_text(id) + "\n" for id in opened(name).heads())
+def run_heads(files, _agents):
+    """Print the heads."""
+    return ''.join(spell(head) + '\n' for head in sorted(load(files[0]).heads))
 
 
-def log(name):
-    return "".join(map(event_line, opened(name).events))
+def run_log(files, _agents):
+    """Print the events."""
+    lines = []
+    for event in load(files[0]).events:
+        words = [spell(event.id), ','.join(map(spell, event.parents)) or 'root']
+        words += ['del' if event.kind == DELETE else 'ins', str(event.index)]
+        if event.kind == INSERT:
+            words.append({'\n': '\\n', '\\': '\\\\'}.get(event.char, event.char))
+        lines.append(' '.join(words) + '\n')
+    return ''.join(lines)
 
 
-def check(name):
-    history = opened(name)
-    count = len(history.events)
-    agents = len({event.id.agent for event in history.events})
-    cuts = sum(history.is_critical(cut) for cut in range(count + 1))
-    length = len(history.text())
-    return f"events {count}\nagents {agents}\nheads {len(history.heads())}\ncuts {cuts}\nlength {length}\n"
+def run_check(files, _agents):
+    """Print the numbers of a history."""
+    history = load(files[0])
+    counted = {'events': history.events, 'agents': history.by_agent, 'heads': history.heads,
+               'cuts': history.cuts(), 'length': history.visible()}
+    return ''.join('%s %d\n' % (word, len(things)) for word, things in counted.items())
 
 
-def merge(name, other):
-    history = opened(name)
-    others = opened(other).events
-    before = len(history.events)
-    held = {event.id: event for event in history.events}
-    for event in others:
-        if held.get(event.id, event) != event:
-            raise Refused(5, b"clash " + id_text(event.id).encode())
-    coming = [event for event in others if event.id not in held]
-    if before + len(coming) > MOST_EVENTS:
-        raise Refused(7, b"more than %d events" % MOST_EVENTS)
-    for event in coming:
-        history.append(event)
-    if coming:
-        store(name, file_of(history.events))
-    cut = max(cut for cut in range(before + 1) if history.is_critical(cut))
-    return f"accepted {len(coming)} waiting 0 repeats {len(others) - len(coming)} refused 0 cut {cut}\n"
+def run_merge(files, _agents):
+    """Add the events of the other file that the first one lacks."""
+    history, other = load(files[0]), load(files[1])
+    before, accepted = len(history.events), []
+    for event in other.events:
+        if event.id not in history.where:
+            accepted.append(event)
+        elif history.events[history.where[event.id]] != event:
+            raise Refusal(5, 'clash %s' % spell(event.id))
+    if before + len(accepted) > MAX_EVENTS:
+        raise Refusal(7, 'more than %d events' % MAX_EVENTS)
+    for event in accepted:
+        history.add(event)
+    if accepted:
+        store(files[0], history.events)
+    cut = next(cut for cut in history.cuts() if cut <= before)
+    return 'accepted %d waiting 0 repeats %d refused 0 cut %d\n' % (
+        len(accepted), len(other.events) - len(accepted), cut)
+
+# The command, the number of its files, and how often it has --agent.
+COMMANDS = {'new': (run_new, 1, 0), 'edit': (run_edit, 1, 1), 'cat': (run_cat, 1, 0),
+            'heads': (run_heads, 1, 0), 'log': (run_log, 1, 0),
+            'check': (run_check, 1, 0), 'merge': (run_merge, 2, 0)}
 
 
-# The program
-
-COMMANDS = {b"new": new, b"edit": edit, b"cat": cat, b"heads": heads, b"log": log, b"check": check, b"merge": merge}
-
-
-def read_words(words):
-    """The command of the words and its values, or None where they aren't taken."""
-    if not words or words[0] not in COMMANDS:
-        return None
-    command, files, agents = COMMANDS[words[0]], [], []
-    rest = words[1:]
-    while rest:
-        word = rest.pop(0)
-        if word == b"--":
-            files += rest
-            break
-        if command is edit and word == b"--agent":
-            if not rest or rest[0].startswith(b"-") and len(rest[0]) > 1:
-                return None
-            agents.append(rest.pop(0))
-        elif command is edit and word.startswith(b"--agent="):
-            agents.append(word[len(b"--agent=") :])
-        elif word.startswith(b"-") and len(word) > 1:
-            return None
+def take(words):
+    """The command, the files and the agents of words that are taken."""
+    files, agents, rest = [], [], iter(words[1:])
+    for word in rest:
+        if word == '--':
+            files.extend(rest)
+        elif word == '--agent':
+            agents.append(next(rest, '-'))
+        elif word.startswith('--agent='):
+            agents.append(word[len('--agent='):])
+        elif word.startswith('-') and word != '-':
+            raise Refusal(2, USAGE)
         else:
             files.append(word)
-    if len(files) != (2 if command is merge else 1) or len(agents) != (1 if command is edit else 0):
-        return None
-    return (command, files + agents) if all(map(is_name, agents)) else None
-
-
-def is_utf8(word):
-    try:
-        word.decode()
-    except UnicodeDecodeError:
-        return False
-    return True
-
-
-def write_all(descriptor, data):
-    while data:
-        data = data[os.write(descriptor, data) :]
-
-
-def print_out(text):
-    try:
-        write_all(1, text.encode())
-    except OSError:
-        raise Refused(6, b"sink failed")
-
-
-def tell(text):
-    try:
-        write_all(2, text)
-    except OSError:
-        pass  # an error output that fails changes no status
+    command, *counts = COMMANDS.get(words[0], (None,))
+    # A value that begins with `-` is no name, so it needs no rule of its own.
+    if [len(files), len(agents)] != counts or not all(map(NAME.fullmatch, agents)):
+        raise Refusal(2, USAGE)
+    return command, files, agents
 
 
 def main():
-    words = [os.fsencode(word) for word in sys.argv[1:]]
-    taken = read_words(words) if all(map(is_utf8, words)) else None
-    if taken is None:
-        tell(USAGE)
-        return 2
-    command, values = taken
+    """Run one command; gives the status."""
     try:
-        print_out(command(*values))
-    except Refused as refused:
-        tell(b"egw: " + refused.text + b"\n")
-        return refused.status
+        words = [os.fsencode(word).decode('utf-8') for word in sys.argv[1:]]
+        command, files, agents = take(words or [''])
+        text = command(files, agents)
+        with using('sink'):
+            write_all(1, text.encode('utf-8'))
+        return 0
+    except UnicodeDecodeError:
+        status, text = 2, USAGE
+    except Refusal as refusal:
+        status, text = refusal.args
     except MemoryError:
-        tell(b"egw: out of memory\n")
-        return 8
-    return 0
+        status, text = 8, 'out of memory'
+    with contextlib.suppress(OSError):
+        write_all(2, (text + '\n' if status == 2 else 'egw: %s\n' % text).encode('utf-8'))
+    return status
 
-
-if __name__ == "__main__":
+if __name__ == '__main__':
     sys.exit(main())
