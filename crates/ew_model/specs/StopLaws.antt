@@ -4,8 +4,8 @@ use Rattle.ew_model.specs.declared.event.Event.{Event}
 use Rattle.ew_model.specs.Limits.{LimitNumbers}
 use Rattle.ew_model.specs.Arrival.{Answer, Outcome, judgements, desk_of, arrive}
 
--- What is held, and what was answered, is a front of what the whole comes to; and each received event was judged, or is still to
--- come, in order.
+-- What is held, and what was answered, is a front of what the whole comes to, and what is still to come is the end of what was
+-- received.
 pub record IsFrontOf (all : Outcome) (events : List Event) (o : Outcome) : Type 0 where
   pub held : (later : List Event) × (all.desk.held ≡ o.desk.held ++ later)
   pub answers : (later : List Answer) × (all.answers ≡ o.answers ++ later)
