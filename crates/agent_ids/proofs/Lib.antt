@@ -1,4 +1,5 @@
 pub mod Agents
 pub mod OwnPositions
 pub mod Numbers
+pub mod PositionLists
 pub mod RunLists

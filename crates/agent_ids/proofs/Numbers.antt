@@ -1,5 +1,6 @@
 -- An id's number tells its place among its agent's positions.
-use Rattle.std.proofs.Common.{◌≡◌, ℕ, zero, suc, ◌+◌, Bool, true, false, cond, ◌⊎◌, inl, inr, List, [], ◌∷◌, ◌++◌, take, slice_get, position, Option, Some, None, option_map, refl, sym, ap, ◌∙◌, arith, append_assoc}
+use Rattle.std.proofs.Common.{◌≡◌, ℕ, zero, suc, ◌+◌, Bool, true, false, cond, ◌⊎◌, inl, inr, List, [], ◌∷◌, ◌++◌, length, take, slice_get, position, Option, Some, None, option_map, refl, sym, ap, ◌∙◌, arith, append_assoc}
+use Rattle.std.proofs.Math.Seq.{take-append_seam}
 use Rattle.std.proofs.lemmas.Bool.{true≢false, false_from_ne_true}
 use Rattle.ew_model.specs.declared.id.Id.{Id}
 use Rattle.ew_model.specs.Ids.{name_eq, id_eq}
@@ -79,7 +80,7 @@ position_at ids y h =
     as_it_is None = refl
     as_it_is (Some p) = let same : 0 + p ≡ p = omega arith in ap Some same
 
--- One more id with the next number of its agent, and one less.
+-- One more id with the next number of its agent, and some fewer.
 get_front : (ids : List Id) (x y : Id) (place : ℕ) → slice_get (ids ++ x ∷ []) place ≡ Some y → ((slice_get ids place ≡ Some y) × (take place (ids ++ x ∷ []) ≡ take place ids)) ⊎ ((y ≡ x) × (take place (ids ++ x ∷ []) ≡ ids))
 get_front [] x y zero e = let one : y ≡ x = cc in inr (one, refl)
 get_front [] x y (suc place) e = let no : ⊥ = cc in absurd no
@@ -94,10 +95,18 @@ numbered_push ids x h e place y f =
       | inr g ↦ ap (λ z. z.seq) g.0 ∙ e ∙ ap (λ z. count_of ids z.agent) (sym g.0) ∙ ap (λ xs. count_of xs y.agent) (sym g.1)
     ]
 
-get_more : (ids : List Id) (x y : Id) (place : ℕ) → slice_get ids place ≡ Some y → (slice_get (ids ++ x ∷ []) place ≡ Some y) × (take place (ids ++ x ∷ []) ≡ take place ids)
-get_more [] x y place e = let no : ⊥ = cc in absurd no
-get_more (z ∷ ids) x y zero e = (e, refl)
-get_more (z ∷ ids) x y (suc place) e = let more = get_more ids x y place e in (more.0, ap (λ xs. z ∷ xs) more.1)
+get_more : (ids more : List Id) (y : Id) (place : ℕ) → slice_get ids place ≡ Some y → (slice_get (ids ++ more) place ≡ Some y) × (take place (ids ++ more) ≡ take place ids)
+get_more [] more y place e = let no : ⊥ = cc in absurd no
+get_more (z ∷ ids) more y zero e = (e, refl)
+get_more (z ∷ ids) more y (suc place) e = let rest = get_more ids more y place e in (rest.0, ap (λ xs. z ∷ xs) rest.1)
 
-pub numbered_front : (ids : List Id) (x : Id) → AreNumbered (ids ++ x ∷ []) → AreNumbered ids
-numbered_front ids x h place y e = let more = get_more ids x y place e in h place y more.0 ∙ ap (λ xs. count_of xs y.agent) more.1
+pub numbered_front : (ids more : List Id) → AreNumbered (ids ++ more) → AreNumbered ids
+numbered_front ids more h place y e = let rest = get_more ids more y place e in h place y rest.0 ∙ ap (λ xs. count_of xs y.agent) rest.1
+
+-- the number of the first id behind others
+pub numbered_next : (ids : List Id) (x : Id) (more : List Id) → AreNumbered (ids ++ x ∷ more) → x.seq ≡ count_of ids x.agent
+numbered_next ids x more h = h (length ids) x (here ids) ∙ ap (λ xs. count_of xs x.agent) (take-append_seam ids (x ∷ more))
+  where
+    here : (before : List Id) → slice_get (before ++ x ∷ more) (length before) ≡ Some x
+    here [] = refl
+    here (y ∷ before) = here before

@@ -1,18 +1,25 @@
--- The positions of each agent's ids, with one more id and with the last one away.
-use Rattle.std.proofs.Common.{◌≡◌, ℕ, zero, suc, ◌+◌, ◌<◌, ◌≤◌, Bool, true, false, cond, ◌||◌, List, [], ◌∷◌, ◌++◌, map, length, nat_eq, slice_get, get_or, position, Option, Some, None, option_map, is_some, IsSome, IfSome, nat_lt, refl, sym, ap, ◌∙◌, subst, arith, length-append}
-use Rattle.std.specs.List.{list_any, position_or_len}
+-- The positions of each agent's ids, with one more id and with the last run away.
+use Rattle.std.proofs.Common.{◌≡◌, ℕ, zero, suc, ◌+◌, ◌<◌, ◌≤◌, ◌^◌, Bool, true, false, cond, ◌||◌, List, [], ◌∷◌, ◌++◌, map, take, length, nat_eq, slice_get, get_or, position, Option, Some, None, option_map, is_some, IsSome, IfSome, nat_lt, refl, sym, ap, ◌∙◌, subst, arith, append-nil, append_assoc, length-append}
+use Rattle.std.specs.List.{All, list_any, position_or_len, range_with_len}
 use Rattle.std.specs.Option.{option_to_list}
-use Rattle.std.proofs.Math.ListN.{set}
-use Rattle.std.proofs.lemmas.Bool.{true_from_ne_false, ltb-true}
-use Rattle.std.proofs.lemmas.List.{map-set, map-append, length-map, same_from_push}
 use Rattle.std.specs.Cmp.Lexicographic.{pointwise}
+use Rattle.std.proofs.Math.ListN.{set}
+use Rattle.std.proofs.Math.Seq.{take-append_seam}
+use Rattle.std.proofs.lemmas.Bool.{true_from_ne_false, ltb-true}
+use Rattle.std.proofs.lemmas.List.{map-append, length-map, same_from_push}
+use Rattle.std.proofs.lemmas.List.Elements.{All-map, All-from_get_or}
+use Rattle.std.proofs.lemmas.List.FromFn.{length-range_with_len}
+use Rattle.std.proofs.lemmas.List.Sums.{count_by-le-length}
+use Rattle.std.proofs.lemmas.Option.{same_Some, slice_get-get_or}
 use Rattle.ew_model.specs.declared.id.Id.{Id}
 use Rattle.ew_model.specs.Ids.{name_eq}
+use Rattle.ew_model.proofs.ListParts.{is_some-position}
 use Rattle.ew_model.proofs.TextLaws.{position-cons}
-use Rattle.agent_ids.specs.Agents.{agents_of, count_of}
+use Rattle.agent_ids.specs.Agents.{with_name, agents_of, count_of}
+use Rattle.agent_ids.specs.IdRuns.{id_with, ids_from}
 use Rattle.agent_ids.specs.Table.{positions_from, positions_of, AreAgents}
 use Rattle.agent_ids.proofs.Agents.{names_tested, names_alike, one_name, agents_push, agents_few, count_cons, is_agent, AreDistinct, agents_distinct}
-use Rattle.ew_model.proofs.ListParts.{is_some-position}
+use Rattle.agent_ids.proofs.RunLists.{range_more, block_more}
 
 -- as many as the agent has ids
 positions-length-from : (n : ℕ) (ids : List Id) (agent : List ℕ) → length (positions_from n ids agent) ≡ count_of ids agent
@@ -160,97 +167,139 @@ more_of_new ids x names lists t h =
       placed = (λ i. (t.placed ∙ alike_elsewhere (positions_of ids) (positions_of (ids ++ x ∷ [])) names x.agent absent (positions-push_other ids x)) i ++ sym first i ∷ []) ∙ sym (map-append (positions_of (ids ++ x ∷ [])) names (x.agent ∷ []));
     }
 
--- the last id's agent is there
-pub has_place : (ids : List Id) (x : Id) (names lists : List (List ℕ)) → AreAgents (ids ++ x ∷ []) names lists → position (pointwise nat_eq x.agent) names ≡ None → ⊥
-has_place ids x names lists t e =
-    let none : positions_of (ids ++ x ∷ []) x.agent ≡ [] = no_positions (ids ++ x ∷ []) names lists x.agent t e in
-    let long = ap (length {A = ℕ}) (sym (positions-push_own ids x) ∙ none) in
-    omega (arith, long, length-append (positions_of ids x.agent) (length ids ∷ []))
+-- no agent has more positions than there are ids
+pub own_few : (ids : List Id) (names lists : List (List ℕ)) → AreAgents ids names lists → length ids + 1 < 2 ^ 32 → All (λ own. length own + 1 < 2 ^ 32) lists
+own_few ids names lists t few =
+    subst (λ ls. All (λ own. length own + 1 < 2 ^ 32) ls) (sym t.placed) (
+    All-map (λ own. length own + 1 < 2 ^ 32) (positions_of ids) names (
+    All-from_get_or (λ a. length (positions_of ids a) + 1 < 2 ^ 32) names [] (λ i l.
+    let long = positions-length ids (get_or names i []) in
+    let small = count_by-le-length (λ (x : Id). name_eq x.agent (get_or names i [])) ids in
+    omega (arith, long, small, few)
+    )
+    )
+    )
+
+-- what an agent's place holds are its positions
+pub own_at : (ids : List Id) (names lists : List (List ℕ)) (a : List ℕ) (n : ℕ) (own : List ℕ) → AreAgents ids names lists → position (pointwise nat_eq a) names ≡ Some n → own ≡ get_or lists n own → n < length lists → own ≡ positions_of ids a
+own_at ids names lists a n own t h is within =
+    let there : slice_get lists n ≡ Some (positions_of ids a) =
+    ap (λ ps. slice_get ps n) t.placed ∙ slice_get-map (positions_of ids) names n a (found_name names a n (sym (searched names a) ∙ h)) in
+    let here : slice_get lists n ≡ Some own = slice_get-get_or lists n own within ∙ ap Some (sym is) in
+    same_Some own (positions_of ids a) (sym here ∙ there)
+
+-- the place is there
+pub place_within : (ids : List Id) (names lists : List (List ℕ)) (n : ℕ) → AreAgents ids names lists → n < length names → n < length lists
+place_within ids names lists n t h = let alike = kept_alike ids names lists t in omega (arith, h, alike)
+
+-- ONE MORE ID of an agent that is there: its positions have one more, and the others stay.
+pub more_of_agent : (ids : List Id) (x : Id) (names lists : List (List ℕ)) (n : ℕ) (old new : List ℕ) → AreAgents ids names lists → position (pointwise nat_eq x.agent) names ≡ Some n → old ≡ get_or lists n old
+    → n < length lists → new ≡ old ++ length ids ∷ [] → AreAgents (ids ++ x ∷ []) names (set lists n new)
+more_of_agent ids x names lists n old new t h is within put =
+    let place : position (name_eq x.agent) names ≡ Some n = sym (searched names x.agent) ∙ h in
+    let grown : new ≡ positions_of (ids ++ x ∷ []) x.agent = put ∙ ap (λ ps. ps ++ length ids ∷ []) (own_at ids names lists x.agent n old t h is within) ∙ sym (positions-push_own ids x) in
+    let there : list_any (name_eq x.agent) (agents_of ids) ≡ true = ap (list_any (name_eq x.agent)) (sym t.named) ∙ sym (is_some-position (name_eq x.agent) names) ∙ ap is_some place in
+    record {
+      named = t.named ∙ sym (agents_push ids x ∙ ap (λ b. cond b (agents_of ids) (agents_of ids ++ x.agent ∷ [])) there);
+      placed = (λ i. set (t.placed i) n (grown i))
+          ∙ one_changed (positions_of ids) (positions_of (ids ++ x ∷ [])) names x.agent n (subst AreDistinct (sym t.named) (agents_distinct ids)) place (positions-push_other ids x);
+    }
+
+-- SO MANY IDS MORE of one agent
+join_block : (ids : List Id) (x : Id) (n : ℕ) → ids ++ ids_from x (suc n) ≡ (ids ++ ids_from x n) ++ id_with x.agent (x.seq + n) ∷ []
+join_block ids x n = ap (λ xs. ids ++ xs) (block_more x.agent x.seq n) ∙ sym (append_assoc ids (ids_from x n) (id_with x.agent (x.seq + n) ∷ []))
+
+length_block : (ids : List Id) (x : Id) (n : ℕ) → length (ids ++ ids_from x n) ≡ length ids + n
+length_block ids x n =
+    let one = length-append ids (ids_from x n) in
+    let two = length-map (range_with_len x.seq n) (id_with x.agent) in
+    let three = length-range_with_len x.seq n in
+    omega (arith, one, two, three)
+
+block_own : (ids : List Id) (x : Id) (n : ℕ) → positions_of (ids ++ ids_from x n) x.agent ≡ positions_of ids x.agent ++ range_with_len (length ids) n
+block_own ids x zero = ap (λ xs. positions_of xs x.agent) (append-nil ids) ∙ sym (append-nil (positions_of ids x.agent))
+block_own ids x (suc n) =
+    ap (λ xs. positions_of xs x.agent) (join_block ids x n) ∙ positions-push_own (ids ++ ids_from x n) (id_with x.agent (x.seq + n))
+    ∙ (λ i. block_own ids x n i ++ length_block ids x n i ∷ []) ∙ append_assoc (positions_of ids x.agent) (range_with_len (length ids) n) ((length ids + n) ∷ [])
+    ∙ ap (λ ps. positions_of ids x.agent ++ ps) (sym (range_more (length ids) n))
+
+block_other : (ids : List Id) (x : Id) (n : ℕ) (a : List ℕ) → name_eq x.agent a ≡ false → positions_of (ids ++ ids_from x n) a ≡ positions_of ids a
+block_other ids x zero a h = ap (λ xs. positions_of xs a) (append-nil ids)
+block_other ids x (suc n) a h = ap (λ xs. positions_of xs a) (join_block ids x n) ∙ positions-push_other (ids ++ ids_from x n) (id_with x.agent (x.seq + n)) a h ∙ block_other ids x n a h
+
+agents_block_old : (ids : List Id) (x : Id) (n : ℕ) → list_any (name_eq x.agent) (agents_of ids) ≡ true → agents_of (ids ++ ids_from x n) ≡ agents_of ids
+agents_block_old ids x zero h = ap agents_of (append-nil ids)
+agents_block_old ids x (suc n) h =
+    let ih = agents_block_old ids x n h in
+    ap agents_of (join_block ids x n) ∙ agents_push (ids ++ ids_from x n) (id_with x.agent (x.seq + n)) ∙ ap (λ ns. with_name ns x.agent) ih ∙ ap (λ b. cond b (agents_of ids) (agents_of ids ++ x.agent ∷ [])) h
+
+agents_block_new : (ids : List Id) (x : Id) (n : ℕ) → list_any (name_eq x.agent) (agents_of ids) ≡ false → agents_of (ids ++ ids_from x (suc n)) ≡ agents_of ids ++ x.agent ∷ []
+agents_block_new ids x n h =
+    let one : agents_of (ids ++ x ∷ []) ≡ agents_of ids ++ x.agent ∷ [] = agents_push ids x ∙ ap (λ b. cond b (agents_of ids) (agents_of ids ++ x.agent ∷ [])) h in
+    let there : list_any (name_eq x.agent) (agents_of (ids ++ x ∷ [])) ≡ true = is_agent (ids ++ x ∷ []) x.agent ∙ last_any (λ (y : Id). name_eq y.agent x.agent) ids x (names_alike.refl x.agent) in
+    ap agents_of (sym (append_assoc ids (x ∷ []) (ids_from (id_with x.agent (x.seq + 1)) n))) ∙ agents_block_old (ids ++ x ∷ []) (id_with x.agent (x.seq + 1)) n there ∙ one
+  where
+    last_any : {X : Type 0} (p : X → Bool) (xs : List X) (y : X) → p y ≡ true → list_any p (xs ++ y ∷ []) ≡ true
+    last_any p [] y e = ap (λ b. b || false) e
+    last_any p (z ∷ xs) y e = ap (λ b. p z || b) (last_any p xs y e) ∙ or_true (p z)
+      where
+        or_true : (b : Bool) → (b || true) ≡ true
+        or_true true = refl
+        or_true false = refl
+
+-- these agents are there
+pub has_place : (ids : List Id) (x : Id) (more : ℕ) (names lists : List (List ℕ)) → AreAgents (ids ++ ids_from x (suc more)) names lists → position (pointwise nat_eq x.agent) names ≡ None → ⊥
+has_place ids x more names lists t e =
+    let none : positions_of (ids ++ ids_from x (suc more)) x.agent ≡ [] = no_positions (ids ++ ids_from x (suc more)) names lists x.agent t e in
+    let long = ap (length {A = ℕ}) (sym (block_own ids x (suc more)) ∙ none) in
+    omega (arith, long, length-append (positions_of ids x.agent) (range_with_len (length ids) (suc more)))
+
+-- THE IDS AWAY of an agent that has some before them: its positions are the first of those that it had, and the others stay.
+pub agent_left : (ids : List Id) (x : Id) (more : ℕ) (names lists : List (List ℕ)) (n : ℕ) (old new : List ℕ) → AreAgents (ids ++ ids_from x (suc more)) names lists → position (pointwise nat_eq x.agent) names ≡ Some n
+    → old ≡ get_or lists n old → n < length lists → x.seq ≡ count_of ids x.agent → 0 < x.seq → new ≡ take x.seq old → AreAgents ids names (set lists n new)
+agent_left ids x more names lists n old new t h is within number some cut =
+    let all = ids ++ ids_from x (suc more) in
+    let place : position (name_eq x.agent) names ≡ Some n = sym (searched names x.agent) ∙ h in
+    let own : old ≡ positions_of ids x.agent ++ range_with_len (length ids) (suc more) = own_at all names lists x.agent n old t h is within ∙ block_own ids x (suc more) in
+    let long : x.seq ≡ length (positions_of ids x.agent) = number ∙ sym (positions-length ids x.agent) in
+    let less : new ≡ positions_of ids x.agent = cut ∙ (λ i. take (long i) (own i)) ∙ take-append_seam (positions_of ids x.agent) (range_with_len (length ids) (suc more)) in
+    let there : list_any (name_eq x.agent) (agents_of ids) ≡ true =
+    true_from_ne_false (list_any (name_eq x.agent) (agents_of ids)) (λ e. let none : length (positions_of ids x.agent) ≡ 0 = ap (length {A = ℕ}) (none_of ids x.agent e) in absurd (omega (arith, none, long, some))) in
+    record {
+      named = t.named ∙ agents_block_old ids x (suc more) there;
+      placed = (λ i. set (t.placed i) n (less i))
+          ∙ one_changed (positions_of all) (positions_of ids) names x.agent n (subst AreDistinct (sym t.named) (agents_distinct all)) place (λ b e. sym (block_other ids x (suc more) b e));
+    }
+
+-- of an agent that has none before them: it was the last one
+gone_name : (ids : List Id) (x : Id) → x.seq ≡ count_of ids x.agent → x.seq ≡ 0 → list_any (name_eq x.agent) (agents_of ids) ≡ false
+gone_name ids x number first = agent_of ids x.agent (nothing (positions_of ids x.agent) (positions-length ids x.agent ∙ sym number ∙ first))
+  where
+    nothing : (ps : List ℕ) → length ps ≡ 0 → ps ≡ []
+    nothing [] e = refl
+    nothing (p ∷ ps) e = absurd (omega (arith, e))
+
+pub some_names : (ids : List Id) (x : Id) (more : ℕ) (names lists : List (List ℕ)) → AreAgents (ids ++ ids_from x (suc more)) names lists → x.seq ≡ count_of ids x.agent → x.seq ≡ 0 → 0 < length names
+some_names ids x more names lists t number first =
+    let long = ap (length {A = List ℕ}) (t.named ∙ agents_block_new ids x more (gone_name ids x number first)) in
+    omega (arith, long, length-append (agents_of ids) (x.agent ∷ []))
 
 listed : {X : Type 0} (o : Option X) → IsSome o → (x : X) × (option_to_list o ≡ x ∷ [])
 listed None h = let no : ⊥ = cc in absurd no
 listed (Some x) h = (x, refl)
 
-module _ {V : Type 0} (items : V → List ℕ) where
-  -- what an agent's place holds are its positions
-  pub own_at : (ids : List Id) (names : List (List ℕ)) (vs : List V) (a : List ℕ) (n : ℕ) (v : V) → AreAgents ids names (map items vs) → position (pointwise nat_eq a) names ≡ Some n → v ≡ get_or vs n v
-      → n < length vs → items v ≡ positions_of ids a
-  own_at ids names vs a n v t h is within =
-      let there : slice_get (map items vs) n ≡ Some (positions_of ids a) =
-      ap (λ ps. slice_get ps n) t.placed ∙ slice_get-map (positions_of ids) names n a (found_name names a n (sym (searched names a) ∙ h)) in
-      at (slice_get-map items vs n v (within_get vs n v within ∙ ap Some (sym is))) there
-    where
-      within_get : (xs : List V) (i : ℕ) (d : V) → i < length xs → slice_get xs i ≡ Some (get_or xs i d)
-      within_get [] i d l = absurd (omega (arith, l))
-      within_get (x ∷ xs) zero d l = refl
-      within_get (x ∷ xs) (suc i) d l = within_get xs i d (omega (arith, l))
-
-      at : slice_get (map items vs) n ≡ Some (items v) → slice_get (map items vs) n ≡ Some (positions_of ids a) → items v ≡ positions_of ids a
-      at p q = cc
-
-  -- the place is there
-  pub place_within : (ids : List Id) (names : List (List ℕ)) (vs : List V) (n : ℕ) → AreAgents ids names (map items vs) → n < length names → n < length vs
-  place_within ids names vs n t h = let long = ap (length {A = List ℕ}) t.placed in omega (arith, h, long, length-map vs items, length-map names (positions_of ids))
-
-  -- ONE MORE ID of an agent that is there: its positions have one more, and the others stay.
-  pub more_of_agent : (ids : List Id) (x : Id) (names : List (List ℕ)) (vs : List V) (n : ℕ) (old new : V) → AreAgents ids names (map items vs) → position (pointwise nat_eq x.agent) names ≡ Some n
-      → old ≡ get_or vs n old → n < length vs → items new ≡ items old ++ length ids ∷ [] → AreAgents (ids ++ x ∷ []) names (map items (set vs n new))
-  more_of_agent ids x names vs n old new t h is within put =
-      let place : position (name_eq x.agent) names ≡ Some n = sym (searched names x.agent) ∙ h in
-      let grown : items new ≡ positions_of (ids ++ x ∷ []) x.agent =
-      put ∙ ap (λ ps. ps ++ length ids ∷ []) (own_at ids names vs x.agent n old t h is within) ∙ sym (positions-push_own ids x) in
-      let there : list_any (name_eq x.agent) (agents_of ids) ≡ true = ap (list_any (name_eq x.agent)) (sym t.named) ∙ sym (is_some-position (name_eq x.agent) names) ∙ ap is_some place in
-      record {
-        named = t.named ∙ sym (agents_push ids x ∙ ap (λ b. cond b (agents_of ids) (agents_of ids ++ x.agent ∷ [])) there);
-        placed = map-set items vs n new ∙ (λ i. set (t.placed i) n (grown i))
-            ∙ one_changed (positions_of ids) (positions_of (ids ++ x ∷ [])) names x.agent n (subst AreDistinct (sym t.named) (agents_distinct ids)) place (positions-push_other ids x);
-      }
-
-  -- THE LAST ID AWAY: its agent's positions without the last are those that it has then, and the others stay.
-  less_places : (ids : List Id) (x : Id) (names : List (List ℕ)) (vs : List V) (n : ℕ) (old new : V) (last : Option ℕ) → AreAgents (ids ++ x ∷ []) names (map items vs) → position (pointwise nat_eq x.agent) names ≡ Some n
-      → old ≡ get_or vs n old → n < length vs → items old ≡ items new ++ option_to_list last → (0 < length (items old) → IsSome last)
-      → (items new ≡ positions_of ids x.agent) × (map items (set vs n new) ≡ map (positions_of ids) names)
-  less_places ids x names vs n old new last t h is within put some =
-      let place : position (name_eq x.agent) names ≡ Some n = sym (searched names x.agent) ∙ h in
-      let own : items old ≡ positions_of ids x.agent ++ length ids ∷ [] = own_at (ids ++ x ∷ []) names vs x.agent n old t h is within ∙ positions-push_own ids x in
-      let long = ap (length {A = ℕ}) own in
-      let there = listed last (some (omega (arith, long, length-append (positions_of ids x.agent) (length ids ∷ [])))) in
-      let less : items new ≡ positions_of ids x.agent =
-      (same_from_push (items new) (positions_of ids x.agent) there.0 (length ids) (ap (λ ps. items new ++ ps) (sym there.1) ∙ sym put ∙ own)).0 in (
-        less,
-        map-set items vs n new ∙ (λ i. set (t.placed i) n (less i))
-            ∙ one_changed (positions_of (ids ++ x ∷ [])) (positions_of ids) names x.agent n (subst AreDistinct (sym t.named) (agents_distinct (ids ++ x ∷ []))) place (λ b e. sym (positions-push_other ids x b e)),
-      )
-
-  -- where it has some left, it stays
-  pub agent_left : (ids : List Id) (x : Id) (names : List (List ℕ)) (vs : List V) (n : ℕ) (old new : V) (last : Option ℕ) → AreAgents (ids ++ x ∷ []) names (map items vs) → position (pointwise nat_eq x.agent) names ≡ Some n
-      → old ≡ get_or vs n old → n < length vs → items old ≡ items new ++ option_to_list last → (0 < length (items old) → IsSome last) → 0 < length (items new) → AreAgents ids names (map items (set vs n new))
-  agent_left ids x names vs n old new last t h is within put some left =
-      let less = less_places ids x names vs n old new last t h is within put some in
-      record {
-        named = t.named ∙ agents_push ids x
-            ∙ ap (λ b. cond b (agents_of ids) (agents_of ids ++ x.agent ∷ []))
-            (true_from_ne_false (list_any (name_eq x.agent) (agents_of ids)) (λ e. let none : length (items new) ≡ 0 = ap (length {A = ℕ}) (less.0 ∙ none_of ids x.agent e) in absurd (omega (arith, none, left))));
-        placed = less.1;
-      }
-
-  -- where it has none left, it was the last agent
-  pub agent_gone : (ids : List Id) (x : Id) (names names' : List (List ℕ)) (vs vs' : List V) (n : ℕ) (old new : V) (last : Option ℕ) (name : Option (List ℕ)) (v : Option V) → AreAgents (ids ++ x ∷ []) names (map items vs)
-      → position (pointwise nat_eq x.agent) names ≡ Some n → old ≡ get_or vs n old → n < length vs → items old ≡ items new ++ option_to_list last → (0 < length (items old) → IsSome last) → length (items new) ≡ 0
-      → names ≡ names' ++ option_to_list name → IsSome name → set vs n new ≡ vs' ++ option_to_list v → IsSome v → AreAgents ids names' (map items vs')
-  agent_gone ids x names names' vs vs' n old new last name v t h is within put some none fewer some_name less some_v =
-      let lists = less_places ids x names vs n old new last t h is within put some in
-      let empty : positions_of ids x.agent ≡ [] = sym lists.0 ∙ nothing (items new) none in
-      let k = listed name some_name in
-      let w = listed v some_v in
-      let front : names' ++ k.0 ∷ [] ≡ names = ap (λ ns. names' ++ ns) (sym k.1) ∙ sym fewer in
-      let short : set vs n new ≡ vs' ++ w.0 ∷ [] = less ∙ ap (λ us. vs' ++ us) w.1 in
-      record {
-        named = (same_from_push names' (agents_of ids) k.0 x.agent (front ∙ t.named ∙ agents_push ids x ∙ ap (λ b. cond b (agents_of ids) (agents_of ids ++ x.agent ∷ [])) (agent_of ids x.agent empty))).0;
-        placed = (same_from_push (map items vs') (map (positions_of ids) names') (items w.0) (positions_of ids k.0)
-            (sym (map-append items vs' (w.0 ∷ [])) ∙ ap (map items) (sym short) ∙ lists.1 ∙ ap (map (positions_of ids)) (sym front) ∙ map-append (positions_of ids) names' (k.0 ∷ []))).0;
-      }
-    where
-      nothing : (ps : List ℕ) → length ps ≡ 0 → ps ≡ []
-      nothing [] e = refl
-      nothing (p ∷ ps) e = absurd (omega (arith, e))
+pub agent_gone : (ids : List Id) (x : Id) (more : ℕ) (names names' lists lists' : List (List ℕ)) (name own : Option (List ℕ)) → AreAgents (ids ++ ids_from x (suc more)) names lists → x.seq ≡ count_of ids x.agent → x.seq ≡ 0
+    → names ≡ names' ++ option_to_list name → IsSome name → lists ≡ lists' ++ option_to_list own → IsSome own → AreAgents ids names' lists'
+agent_gone ids x more names names' lists lists' name own t number first fewer some_name less some_own =
+    let all = ids ++ ids_from x (suc more) in
+    let new = gone_name ids x number first in
+    let k = listed name some_name in
+    let w = listed own some_own in
+    let front : names' ++ k.0 ∷ [] ≡ names = ap (λ ns. names' ++ ns) (sym k.1) ∙ sym fewer in
+    let short : lists' ++ w.0 ∷ [] ≡ lists = ap (λ ls. lists' ++ ls) (sym w.1) ∙ sym less in
+    let named : names' ≡ agents_of ids = (same_from_push names' (agents_of ids) k.0 x.agent (front ∙ t.named ∙ agents_block_new ids x more new)).0 in
+    record {
+      named = named;
+      placed = (same_from_push lists' (map (positions_of all) names') w.0 (positions_of all k.0) (short ∙ t.placed ∙ ap (map (positions_of all)) (sym front) ∙ map-append (positions_of all) names' (k.0 ∷ []))).0
+          ∙ alike_elsewhere (positions_of all) (positions_of ids) names' x.agent (ap (list_any (name_eq x.agent)) named ∙ new) (λ b e. sym (block_other ids x (suc more) b e));
+    }

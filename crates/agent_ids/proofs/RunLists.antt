@@ -1,7 +1,7 @@
--- Ids in runs: where one stands, one more, one fewer, and how many runs there are.
-use Rattle.std.proofs.Common.{◌≡◌, ℕ, zero, suc, ◌+◌, ◌-◌, ◌<◌, ◌≤◌, ◌^◌, Bool, true, false, cond, List, [], ◌∷◌, ◌++◌, length, map, set, slice_get, slice_index_or, Some, refl, sym, ap, ◌∙◌, subst, arith, append-nil, append_assoc, length-append, eq-eqb, take, nat_eq}
+-- Ids in runs: where one stands, one more, the last run cut, and how many runs there are.
+use Rattle.std.proofs.Common.{◌≡◌, ℕ, zero, suc, ◌+◌, ◌-◌, ◌<◌, ◌≤◌, ◌^◌, Bool, true, false, cond, List, [], ◌∷◌, ◌++◌, length, map, set, slice_get, slice_index_or, Some, refl, sym, ap, ◌∙◌, subst, arith, append-nil, append_assoc, length-append, take, nat_lt, lt-ltb, le-ltb, max}
 use Rattle.std.specs.List.{range_with_len}
-use Rattle.std.proofs.lemmas.Bool.{eqb-true, eqb-false, ne_eqb, true≢false}
+use Rattle.std.proofs.lemmas.Bool.{ltb-true, ltb-false, true≢false}
 use Rattle.std.proofs.lemmas.List.{length-map, map-append}
 use Rattle.std.proofs.lemmas.List.FromFn.{length-range_with_len}
 use Rattle.std.proofs.lemmas.Option.{same_Some, slice_get-get_or}
@@ -9,17 +9,17 @@ use Rattle.ew_model.specs.declared.id.Id.{Id}
 use Rattle.ew_model.specs.Ids.{id_eq}
 use Rattle.ew_model.proofs.IdLaws.{is_same_id}
 use Rattle.agent_ids.specs.declared.runs.IdRun.{IdRun}
-use Rattle.agent_ids.specs.IdRuns.{id_runs, id_with, is_next, ids_in, last_of, IsApart, AreRuns, goes_on, with_more, with_fewer}
+use Rattle.agent_ids.specs.IdRuns.{id_runs, id_with, is_next, ids_in, last_of, IsApart, AreRuns, goes_on, with_more, shortened}
 
 -- so many ids of an agent, from a number on
 abbrev pub block : List ℕ → ℕ → ℕ → List Id
 block agent seq n = map (id_with agent) (range_with_len seq n)
 
-range_more : (a n : ℕ) → range_with_len a (suc n) ≡ range_with_len a n ++ (a + n) ∷ []
+pub range_more : (a n : ℕ) → range_with_len a (suc n) ≡ range_with_len a n ++ (a + n) ∷ []
 range_more a zero = let e : a ≡ a + 0 = omega arith in ap (λ (k : ℕ). k ∷ []) e
 range_more a (suc n) = let e : a + 1 + n ≡ a + suc n = omega arith in ap (λ xs. a ∷ xs) (range_more (a + 1) n ∙ ap (λ k. range_with_len (a + 1) n ++ k ∷ []) e)
 
-block_more : (agent : List ℕ) (seq n : ℕ) → block agent seq (suc n) ≡ block agent seq n ++ id_with agent (seq + n) ∷ []
+pub block_more : (agent : List ℕ) (seq n : ℕ) → block agent seq (suc n) ≡ block agent seq n ++ id_with agent (seq + n) ∷ []
 block_more agent seq n = ap (map (id_with agent)) (range_more seq n) ∙ map-append (id_with agent) (range_with_len seq n) ((seq + n) ∷ [])
 
 read_block : (agent : List ℕ) (seq n : ℕ) (rest : List Id) (p : ℕ) → p < n → slice_get (block agent seq n ++ rest) p ≡ Some (id_with agent (seq + p))
@@ -151,51 +151,100 @@ started_in (y ∷ z ∷ runs) start end x r e l =
       (r.0, r.1, r.2, ih.1),
     )
 
--- ONE FEWER
-pub fewer_in : (runs : List IdRun) (start end place : ℕ) (x : IdRun) → AreRuns start runs end → length runs ≡ suc place → slice_get runs place ≡ Some x
-    → (ids_in runs ≡ ids_in (with_fewer runs) ++ last_of x ∷ []) × AreRuns start (with_fewer runs) (end - 1) × (0 < end)
-fewer_in [] start end place x r long e = absurd (omega (arith, long))
-fewer_in (y ∷ []) start end (suc place) x r long e = absurd (omega (arith, long))
-fewer_in (y ∷ []) start end zero x r long e = at (nat_eq y.more 0) refl
-  where
-    last : last_of y ≡ last_of x
-    last = ap last_of (same_Some y x e)
+-- THE LAST RUN cut at a place
+block_split : (agent : List ℕ) (seq n m : ℕ) → block agent seq (n + m) ≡ block agent seq n ++ block agent (seq + n) m
+block_split agent seq zero m =
+    let none : 0 + m ≡ m = omega arith in
+    let same : seq ≡ seq + 0 = omega arith in
+    λ i. block agent (same i) (none i)
+block_split agent seq (suc n) m =
+    let next : suc n + m ≡ suc (n + m) = omega arith in
+    let same : seq + 1 + n ≡ seq + suc n = omega arith in
+    ap (block agent seq) next ∙ ap (λ xs. id_with agent seq ∷ xs) (block_split agent (seq + 1) n m ∙ ap (λ k. block agent (seq + 1) n ++ block agent k m) same)
 
-    shorter : IdRun
-    shorter = record { start = y.start; agent = y.agent; seq = y.seq; more = y.more - 1 }
+pub last_ends : (runs : List IdRun) (start end at : ℕ) (x : IdRun) → AreRuns start runs end → length runs ≡ suc at → slice_get runs at ≡ Some x → x.start + suc x.more ≡ end
+last_ends [] start end at x r long e = absurd (omega (arith, long))
+last_ends (y ∷ []) start end zero x r long e =
+    let first = r.0 in let stop = r.3 in
+    let all : y.start + suc y.more ≡ end = omega (arith, first, stop) in
+    subst (λ (z : IdRun). z.start + suc z.more ≡ end) (same_Some y x e) all
+last_ends (y ∷ []) start end (suc at) x r long e = absurd (omega (arith, long))
+last_ends (y ∷ z ∷ runs) start end zero x r long e = absurd (omega (arith, long))
+last_ends (y ∷ z ∷ runs) start end (suc at) x r long e = last_ends (z ∷ runs) (start + suc y.more) end at x r.3 (omega (arith, long)) e
 
-    at : (b : Bool) → nat_eq y.more 0 ≡ b → (ids_in (y ∷ []) ≡ ids_in (cond b [] (shorter ∷ [])) ++ last_of x ∷ []) × AreRuns start (cond b [] (shorter ∷ [])) (end - 1) × (0 < end)
-    at true q =
-        let none = eqb-true y.more 0 q in let stop = r.3 in
-        let same : y.seq + 0 ≡ y.seq = omega arith in (
-          ap (λ n. block y.agent y.seq (suc n) ++ []) none ∙ (λ i. id_with y.agent (sym same i) ∷ []) ∙ ap (λ n. id_with y.agent (y.seq + n) ∷ []) (sym none) ∙ ap (λ (z : Id). z ∷ []) last,
-          omega (arith, none, stop),
-          omega (arith, stop),
-        )
-    at false q =
-        let some = eqb-false y.more 0 q in let stop = r.3 in let fits = r.1 in
-        let back : y.more ≡ suc (y.more - 1) = omega (arith, some) in
-        let top : y.seq + suc (y.more - 1) ≡ y.seq + y.more = omega (arith, some) in (
-          append-nil (block y.agent y.seq (suc y.more)) ∙ ap (λ n. block y.agent y.seq (suc n)) back ∙ block_more y.agent y.seq (suc (y.more - 1))
-              ∙ (λ i. sym (append-nil (block y.agent y.seq (suc (y.more - 1)))) i ++ (ap (id_with y.agent) top ∙ last) i ∷ []),
-          (r.0, (omega (arith, fits)), tt, (omega (arith, stop, back))),
-          omega (arith, stop),
-        )
-fewer_in (y ∷ z ∷ runs) start end zero x r long e = absurd (omega (arith, long))
-fewer_in (y ∷ z ∷ runs) start end (suc place) x r long e =
-    let ih = fewer_in (z ∷ runs) (start + suc y.more) end place x r.3 (omega (arith, long)) e in (
-      ap (λ xs. block y.agent y.seq (suc y.more) ++ xs) ih.0 ∙ sym (append_assoc (block y.agent y.seq (suc y.more)) (ids_in (with_fewer (z ∷ runs))) (last_of x ∷ [])),
+abbrev IsCutAt : List IdRun → List IdRun → ℕ → ℕ → IdRun → Type 0
+IsCutAt runs less start place x = (ids_in runs ≡ ids_in less ++ block x.agent (x.seq + (place - x.start)) (suc (x.start + x.more - place))) × AreRuns start less place
+
+cut_alone : (y : IdRun) (start end place : ℕ) (b : Bool) → nat_lt y.start place ≡ b → AreRuns start (y ∷ []) end → y.start ≤ place → place ≤ y.start + y.more
+    → IsCutAt (y ∷ []) (cond b (record { start = y.start; agent = y.agent; seq = y.seq; more = place - 1 - y.start } ∷ []) []) start place y
+cut_alone y start end place true q r l h =
+    let low = ltb-true y.start place q in
+    let first = r.0 in let fits = r.1 in
+    let m = place - 1 - y.start in
+    let parts : suc y.more ≡ suc m + suc (y.start + y.more - place) = omega (arith, low, h) in
+    let top : y.seq + suc m ≡ y.seq + (place - y.start) = omega (arith, low) in (
+      append-nil (block y.agent y.seq (suc y.more)) ∙ ap (block y.agent y.seq) parts ∙ block_split y.agent y.seq (suc m) (suc (y.start + y.more - place))
+          ∙ (λ i. sym (append-nil (block y.agent y.seq (suc m))) i ++ block y.agent (top i) (suc (y.start + y.more - place))),
+      (first, omega (arith, fits, h, low), tt, omega (arith, first, low)),
+    )
+cut_alone y start end place false q r l h =
+    let high = ltb-false y.start place q in
+    let first = r.0 in
+    let same : y.seq ≡ y.seq + (place - y.start) = omega (arith, high) in
+    let all : suc y.more ≡ suc (y.start + y.more - place) = omega (arith, high, l) in (
+      append-nil (block y.agent y.seq (suc y.more)) ∙ (λ i. block y.agent (same i) (all i)),
+      omega (arith, first, high, l),
+    )
+
+pub shorter_in : (runs : List IdRun) (start end place at : ℕ) (x : IdRun) → AreRuns start runs end → length runs ≡ suc at → slice_get runs at ≡ Some x → x.start ≤ place → place ≤ x.start + x.more
+    → IsCutAt runs (shortened runs place) start place x
+shorter_in [] start end place at x r long e l h = absurd (omega (arith, long))
+shorter_in (y ∷ []) start end place (suc at) x r long e l h = absurd (omega (arith, long))
+shorter_in (y ∷ []) start end place zero x r long e l h =
+    let same = same_Some y x e in
+    let low : y.start ≤ place = subst (λ (z : IdRun). z.start ≤ place) (sym same) l in
+    let high : place ≤ y.start + y.more = subst (λ (z : IdRun). place ≤ z.start + z.more) (sym same) h in
+    subst (λ (z : IdRun). IsCutAt (y ∷ []) (shortened (y ∷ []) place) start place z) same (cut_alone y start end place (nat_lt y.start place) refl r low high)
+shorter_in (y ∷ z ∷ runs) start end place zero x r long e l h = absurd (omega (arith, long))
+shorter_in (y ∷ z ∷ runs) start end place (suc at) x r long e l h =
+    let ih = shorter_in (z ∷ runs) (start + suc y.more) end place at x r.3 (omega (arith, long)) e l h in (
+      ap (λ xs. block y.agent y.seq (suc y.more) ++ xs) ih.0
+          ∙ sym (append_assoc (block y.agent y.seq (suc y.more)) (ids_in (shortened (z ∷ runs) place)) (block x.agent (x.seq + (place - x.start)) (suc (x.start + x.more - place)))),
       (r.0, r.1, apart runs, ih.1),
-      ih.2,
     )
   where
-    apart : (later : List IdRun) → IsApart (last_of y) (with_fewer (z ∷ later))
-    apart [] = one (nat_eq z.more 0)
+    apart : (later : List IdRun) → IsApart (last_of y) (shortened (z ∷ later) place)
+    apart [] = one (nat_lt z.start place)
       where
-        one : (b : Bool) → IsApart (last_of y) (cond b [] (record { start = z.start; agent = z.agent; seq = z.seq; more = z.more - 1 } ∷ []))
-        one true = tt
-        one false = r.2
+        one : (b : Bool) → IsApart (last_of y) (cond b (record { start = z.start; agent = z.agent; seq = z.seq; more = place - 1 - z.start } ∷ []) [])
+        one true = r.2
+        one false = tt
     apart (t ∷ later) = r.2
+
+pub record IsLastCut (all : List IdRun) (n cut : ℕ) (x : IdRun) : Type 0 where
+  pub parts : ids_in all ≡ ids_in (shortened all cut) ++ block x.agent (x.seq + (cut - x.start)) (suc (x.start + x.more - cut))
+  pub runs : AreRuns 0 (shortened all cut) cut
+  pub fits : x.seq + (cut - x.start) < 2 ^ 32
+  pub front : n ≤ length (ids_in (shortened all cut))
+
+pub cut_last : (runs : List IdRun) (count n cut : ℕ) (x : IdRun) → AreRuns 0 runs count → 0 < length runs → Some x ≡ slice_get runs (length runs - 1) → n < length (ids_in runs) → cut ≡ max n x.start → IsLastCut runs n cut x
+cut_last runs count n cut x r some e l is =
+    let at = length runs - 1 in
+    let there : slice_get runs at ≡ Some x = sym e in
+    let long : length runs ≡ suc at = omega (arith, some) in
+    let all = length_in runs 0 count r in
+    let stop = last_ends runs 0 count at x r long there in
+    let within = run_within runs 0 count at x r there in
+    let low : x.start ≤ cut = omega (arith, is) in
+    let high : cut ≤ x.start + x.more = omega (arith, is, all, stop, l) in
+    let made = shorter_in runs 0 count cut at x r long there low high in
+    let left = length_in (shortened runs cut) 0 cut made.1 in
+    record {
+      parts = made.0;
+      runs = made.1;
+      fits = omega (arith, within, high, low);
+      front = omega (arith, is, left);
+    }
 
 pub last_more : (runs : List IdRun) (place : ℕ) (x : IdRun) → length runs ≡ suc place → x ≡ slice_index_or runs place x → set runs place (record { start = x.start; agent = x.agent; seq = x.seq; more = x.more + 1 }) ≡ with_more runs
 last_more [] place x long e = absurd (omega (arith, long))
@@ -216,18 +265,18 @@ some_before [] end place below r l f = let stop = r in absurd (omega (arith, sto
 some_before (y ∷ runs) end place zero r l f = let high = f y (omega arith) (omega arith) in let first = r.0 in absurd (omega (arith, high, first))
 some_before (y ∷ runs) end place (suc below) r l f = omega arith
 
-pub last_fewer : (runs : List IdRun) (place : ℕ) (x : IdRun) → length runs ≡ suc place → x ≡ slice_index_or runs place x → (x.more ≡ 0 → ⊥) → set runs place (record { start = x.start; agent = x.agent; seq = x.seq; more = x.more - 1 }) ≡ with_fewer runs
-last_fewer [] place x long e some = absurd (omega (arith, long))
-last_fewer (y ∷ []) zero x long e some =
-    ap (λ (z : IdRun). record { start = z.start; agent = z.agent; seq = z.seq; more = z.more - 1 } ∷ []) e
-    ∙ sym (ap (λ b. cond b [] (record { start = y.start; agent = y.agent; seq = y.seq; more = y.more - 1 } ∷ [])) (ne_eqb y.more 0 (λ q. some (ap (λ (z : IdRun). z.more) e ∙ q))))
-last_fewer (y ∷ []) (suc place) x long e some = absurd (omega (arith, long))
-last_fewer (y ∷ z ∷ runs) zero x long e some = absurd (omega (arith, long))
-last_fewer (y ∷ z ∷ runs) (suc place) x long e some = ap (λ rs. y ∷ rs) (last_fewer (z ∷ runs) place x (omega (arith, long)) e some)
+pub last_shorter : (runs : List IdRun) (place at : ℕ) (x : IdRun) → length runs ≡ suc at → x ≡ slice_index_or runs at x → x.start < place → set runs at (record { start = x.start; agent = x.agent; seq = x.seq; more = place - 1 - x.start }) ≡ shortened runs place
+last_shorter [] place at x long e l = absurd (omega (arith, long))
+last_shorter (y ∷ []) place zero x long e l =
+    ap (λ (z : IdRun). record { start = z.start; agent = z.agent; seq = z.seq; more = place - 1 - z.start } ∷ []) e
+    ∙ sym (ap (λ b. cond b (record { start = y.start; agent = y.agent; seq = y.seq; more = place - 1 - y.start } ∷ []) []) (lt-ltb y.start place (subst (λ (z : IdRun). z.start < place) e l)))
+last_shorter (y ∷ []) place (suc at) x long e l = absurd (omega (arith, long))
+last_shorter (y ∷ z ∷ runs) place zero x long e l = absurd (omega (arith, long))
+last_shorter (y ∷ z ∷ runs) place (suc at) x long e l = ap (λ rs. y ∷ rs) (last_shorter (z ∷ runs) place at x (omega (arith, long)) e l)
 
-pub last_gone : (runs : List IdRun) (place : ℕ) (x : IdRun) → length runs ≡ suc place → x ≡ slice_index_or runs place x → x.more ≡ 0 → take place runs ≡ with_fewer runs
-last_gone [] place x long e none = absurd (omega (arith, long))
-last_gone (y ∷ []) zero x long e none = sym (ap (λ b. cond b [] (record { start = y.start; agent = y.agent; seq = y.seq; more = y.more - 1 } ∷ [])) (eq-eqb y.more 0 (ap (λ (z : IdRun). z.more) (sym e) ∙ none)))
-last_gone (y ∷ []) (suc place) x long e none = absurd (omega (arith, long))
-last_gone (y ∷ z ∷ runs) zero x long e none = absurd (omega (arith, long))
-last_gone (y ∷ z ∷ runs) (suc place) x long e none = ap (λ rs. y ∷ rs) (last_gone (z ∷ runs) place x (omega (arith, long)) e none)
+pub last_gone : (runs : List IdRun) (place at : ℕ) (x : IdRun) → length runs ≡ suc at → x ≡ slice_index_or runs at x → place ≤ x.start → take at runs ≡ shortened runs place
+last_gone [] place at x long e l = absurd (omega (arith, long))
+last_gone (y ∷ []) place zero x long e l = sym (ap (λ b. cond b (record { start = y.start; agent = y.agent; seq = y.seq; more = place - 1 - y.start } ∷ []) []) (le-ltb y.start place (subst (λ (z : IdRun). place ≤ z.start) e l)))
+last_gone (y ∷ []) place (suc at) x long e l = absurd (omega (arith, long))
+last_gone (y ∷ z ∷ runs) place zero x long e l = absurd (omega (arith, long))
+last_gone (y ∷ z ∷ runs) place (suc at) x long e l = ap (λ rs. y ∷ rs) (last_gone (z ∷ runs) place at x (omega (arith, long)) e l)

@@ -1,5 +1,5 @@
 -- Ids in runs: neighbours of one agent.
-use Rattle.std.specs.Prelude.{◌≡◌, ℕ, suc, ◌+◌, ◌<◌, ◌^◌, Bool, false, ◌-◌, ◌==◌, List, [], ◌∷◌, ◌++◌, map, if◌then◌else◌}
+use Rattle.std.specs.Prelude.{◌≡◌, ℕ, suc, ◌+◌, ◌<◌, ◌^◌, Bool, false, ◌-◌, nat_lt, List, [], ◌∷◌, ◌++◌, map, if◌then◌else◌}
 use Rattle.std.specs.List.{range_with_len}
 use Rattle.ew_model.specs.declared.id.Id.{Id}
 use Rattle.ew_model.specs.Ids.{id_eq}
@@ -18,6 +18,10 @@ abbrev pub id_runs : List Id → ℕ
 id_runs [] = 0
 id_runs (x ∷ []) = 1
 id_runs (x ∷ y ∷ ids) = if is_next x y then id_runs (y ∷ ids) else suc (id_runs (y ∷ ids))
+
+-- so many ids of one agent, from this one on
+abbrev pub ids_from : Id → ℕ → List Id
+ids_from x n = map (id_with x.agent) (range_with_len x.seq n)
 
 -- the ids of the runs
 abbrev pub ids_in : List IdRun → List Id
@@ -51,8 +55,8 @@ with_more [] = []
 with_more (r ∷ []) = record { start = r.start; agent = r.agent; seq = r.seq; more = r.more + 1 } ∷ []
 with_more (r ∷ s ∷ runs) = r ∷ with_more (s ∷ runs)
 
--- the last of the runs has one id fewer
-abbrev pub with_fewer : List IdRun → List IdRun
-with_fewer [] = []
-with_fewer (r ∷ []) = if r.more == 0 then [] else record { start = r.start; agent = r.agent; seq = r.seq; more = r.more - 1 } ∷ []
-with_fewer (r ∷ s ∷ runs) = r ∷ with_fewer (s ∷ runs)
+-- the last of the runs has the ids before a place alone
+abbrev pub shortened : List IdRun → ℕ → List IdRun
+shortened [] place = []
+shortened (r ∷ []) place = if nat_lt r.start place then record { start = r.start; agent = r.agent; seq = r.seq; more = place - 1 - r.start } ∷ [] else []
+shortened (r ∷ s ∷ runs) place = r ∷ shortened (s ∷ runs) place

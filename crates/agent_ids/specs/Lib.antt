@@ -1,3 +1,4 @@
 pub mod Agents
 pub mod IdRuns
+pub mod PositionRuns
 pub mod Table

@@ -1,10 +1,10 @@
 //! Ids in runs.
 
-ghost use Rattle.std.specs.Prelude.{◌≡◌, ℕ, suc, ◌+◌, ◌-◌, ◌<◌, ◌≤◌, ◌^◌, Bool, true, List, [], ◌∷◌, ◌++◌, take, length, Some, slice_get, IfSome, IfNone, OnOk, OnErr};
+ghost use Rattle.std.specs.Prelude.{◌≡◌, ℕ, suc, ◌+◌, ◌-◌, ◌<◌, ◌≤◌, ◌^◌, Bool, true, List, [], ◌∷◌, ◌++◌, take, length, Some, slice_get, IsSomeAnd, IfSome, IfNone, OnOk, OnErr};
 ghost use Rattle.std.specs.List.{AllWithin};
 ghost use Rattle.ew_model.specs.declared.id.Id.{Id};
 ghost use Rattle.agent_ids.specs.declared.runs.IdRun.{IdRun};
-ghost use Rattle.agent_ids.specs.IdRuns.{id_runs, ids_in, is_next, last_of, AreRuns, goes_on, with_more, with_fewer};
+ghost use Rattle.agent_ids.specs.IdRuns.{id_runs, ids_in, is_next, last_of, AreRuns, goes_on, with_more, shortened, ids_from};
 
 use ew_model::NoMem;
 use ew_model::id::Id;
@@ -93,16 +93,20 @@ impl IdRuns {
         Ok(())
     }
 
-    /// Takes the last id out.
-    pub fn pop(&mut self) -> Option<Id>
-        ensures none { IfNone result (self.old ≡ []) }
-        ensures some { IfSome result (λ x. self.old ≡ self.new ++ x ∷ []) }
-        ensures rest { self.new ≡ take (length self.old - 1) self.old }
+    /// Takes out the ids of the last run that stand at a place or behind it, and gives the first of them.
+    pub fn cut_run(&mut self, n: u32) -> Option<Id>
+        requires { n < length self.old }
+        ensures some { IsSomeAnd result (λ x. (more : ℕ) × (self.old ≡ self.new ++ ids_from x (suc more))) }
+        ensures front { n ≤ length self.new }
     {
-        let last = last_id(&self.runs)?;
-        shorten_last(&mut self.runs);
-        self.count -= 1;
-        Some(last)
+        let run = *self.runs.last()?;
+        let cut = n.max(run.start);
+        shorten_last(&mut self.runs, cut);
+        self.count = cut;
+        Some(Id {
+            agent: run.agent,
+            seq: run.seq + (cut - run.start),
+        })
     }
 }
 
@@ -186,16 +190,17 @@ fn lengthen_last(runs: &mut Vec<IdRun>)
     }
 }
 
-/// Takes one id from the last run.
-fn shorten_last(runs: &mut Vec<IdRun>)
-    ensures { runs.new.items ≡ with_fewer runs.old.items }
+/// Leaves of the last run the ids before a place.
+fn shorten_last(runs: &mut Vec<IdRun>, place: u32)
+    ensures { runs.new.items ≡ shortened runs.old.items place }
 {
     let count = runs.len();
     if count > 0 {
-        if runs[count - 1].more == 0 {
-            runs.pop();
+        let start = runs[count - 1].start;
+        if start < place {
+            runs[count - 1].more = place - 1 - start;
         } else {
-            runs[count - 1].more -= 1;
+            runs.pop();
         }
     }
 }

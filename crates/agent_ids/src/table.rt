@@ -1,15 +1,17 @@
 //! The table of ids.
 
-ghost use Rattle.std.specs.Prelude.{◌≡◌, ◌↔◌, ℕ, ◌+◌, ◌-◌, ◌<◌, ◌^◌, List, [], ◌∷◌, ◌++◌, map, length, take, Some, OnOk, OnErr, IsOkAnd, IfSome, false, nat_eq, slice_get, position};
+ghost use Rattle.std.specs.Prelude.{◌≡◌, ℕ, suc, ◌+◌, ◌<◌, ◌≤◌, ◌^◌, List, [], ◌∷◌, ◌++◌, length, take, Some, OnOk, OnErr, IsOkAnd, IfSome, MatchOption, false, nat_eq, slice_get, position};
+ghost use Rattle.std.specs.List.{All};
 ghost use Rattle.std.specs.Cmp.Lexicographic.{pointwise};
 ghost use Rattle.std.specs.Vec.{vec_len};
 ghost use Rattle.indexmap.specs.IndexSet.{contains};
 ghost use Rattle.ew_model.specs.declared.id.Id.{Id};
 ghost use Rattle.ew_model.specs.Ids.{name_eq, id_eq};
 ghost use Rattle.agent_ids.specs.Agents.{agents_of, count_of, AreNumbered};
-ghost use Rattle.agent_ids.specs.IdRuns.{id_runs};
+ghost use Rattle.agent_ids.specs.IdRuns.{id_runs, ids_from};
 ghost use Rattle.agent_ids.specs.Table.{AreAgents, positions_of};
 
+use crate::positions::PositionRuns;
 use crate::runs::IdRuns;
 use ew_model::NoMem;
 use ew_model::id::Id;
@@ -18,18 +20,18 @@ use indexmap::IndexSet;
 use std::alloc::Global;
 use std::marker::Model;
 
-/// The ids of events by position, with the positions of each agent's ids. Agents have numbers in order of first use.
-/// Contracts see the list of the ids.
+/// The ids of events by position, with the positions of each agent's ids, both in runs. Agents have numbers in order of
+/// first use. Contracts see the list of the ids.
 #[derive(Drop)]
 pub struct AgentTable {
     ids: IdRuns,
     names: IndexSet<Name>,
-    /// For each agent the positions of its ids: its id number n stands at place n.
-    positions: Vec<Vec<u32>>,
+    /// For each agent the positions of its ids.
+    positions: Vec<PositionRuns>,
 }
 
 impl Model for AgentTable {
-    ghost use Rattle.std.specs.Prelude.{List, map};
+    ghost use Rattle.std.specs.Prelude.{List};
     ghost use Rattle.ew_model.specs.declared.id.Id.{Id};
     ghost use Rattle.agent_ids.specs.Table.{IsTable};
 
@@ -37,7 +39,7 @@ impl Model for AgentTable {
 
     ghost view = { λ t. t.ids };
 
-    ghost invariant = { λ t. IsTable t.ids t.names.keys (map (λ v. v.items) t.positions.items) };
+    ghost invariant = { λ t. IsTable t.ids t.names.keys t.positions.items };
 }
 
 impl AgentTable {
@@ -85,7 +87,10 @@ impl AgentTable {
         ensures value { result ≡ count_of self.now name.now }
         ensures numbered { AreNumbered self.now }
     {
-        self.positions_of(name).len() as u32
+        match self.positions_of(name) {
+            Some(own) => own.len(),
+            None => 0,
+        }
     }
 
     /// The position of an id, if it is there.
@@ -93,7 +98,7 @@ impl AgentTable {
         ensures value { result ≡ position (id_eq id.now) self.now }
         ensures within { IfSome result (λ lv. lv < length self.now) }
     {
-        number_at(self.positions_of(&id.agent), id.seq)
+        self.positions_of(&id.agent)?.get(id.seq)
     }
 
     /// The id at a position.
@@ -104,7 +109,8 @@ impl AgentTable {
         self.ids.get(lv)
     }
 
-    /// How many runs of ids there are: an id goes on with the run before it where it is the next one of the same agent.
+    /// How many runs of neighbours of one agent there are. In a table the numbers in a run follow on each other, so an id goes on
+    /// with the run before it exactly where it is the next one of the same agent.
     pub fn runs(&self) -> u32
         ensures { result ≡ id_runs self.now }
     {
@@ -122,7 +128,7 @@ impl AgentTable {
         let agent = id.agent;
         self.ids.push(id)?;
         if let Err(fault) = add_position(&mut self.names, &mut self.positions, agent, lv) {
-            self.ids.pop();
+            self.ids.cut_run(lv);
             return Err(fault);
         }
         Ok(())
@@ -133,50 +139,42 @@ impl AgentTable {
         ensures { self.new ≡ take n self.old }
     {
         while self.ids.len() > n {
-            self.remove_last();
+            self.cut_run(n);
         }
     }
 
-    /// The positions of the agent's ids, rising.
-    fn positions_of(&self, name: &Name) -> &[u32]
-        ensures value { result.now ≡ positions_of self.now name.now }
+    /// The positions of the agent's ids, rising, if it has an id.
+    fn positions_of(&self, name: &Name) -> Option<&PositionRuns>
+        ensures value { MatchOption result (positions_of self.now name.now ≡ []) (λ own. own.now ≡ positions_of self.now name.now) }
         ensures numbered { AreNumbered self.now }
-        ensures few { length self.now < 2 ^ 32 }
     {
-        match self.names.get_index_of(name) {
-            Some(number) => self.positions[number].as_slice(),
-            None => &[],
-        }
+        let number = self.names.get_index_of(name)?;
+        Some(&self.positions[number])
     }
 
-    /// Takes the last id out.
-    fn remove_last(&mut self)
-        requires { 0 < length self.old }
-        ensures { self.new ≡ take (length self.old - 1) self.old }
+    /// Takes out the ids of the last run that stand at a place or behind it.
+    fn cut_run(&mut self, n: u32)
+        requires { n < length self.old }
+        ensures front { (cut : ℕ) × (n ≤ cut) × (cut < length self.old) × (self.new ≡ take cut self.old) }
     {
-        if let Some(id) = self.ids.pop() {
-            remove_position(&mut self.names, &mut self.positions, &id.agent);
+        if let Some(first) = self.ids.cut_run(n) {
+            remove_positions(&mut self.names, &mut self.positions, &first);
         }
     }
-}
-
-fn number_at(list: &[u32], place: u32) -> Option<u32>
-    ensures { result ≡ slice_get list.now place }
-{
-    list.get(place as usize).copied()
 }
 
 /// Gives an agent one more position, behind the ones that it has.
 fn add_position(
     names: &mut IndexSet<Name>,
-    positions: &mut Vec<Vec<u32>>,
+    positions: &mut Vec<PositionRuns>,
     name: Name,
     lv: u32,
 ) -> Result<(), NoMem>
     requires alike { vec_len positions.old ≡ length names.old.keys }
-    ensures ok { OnOk result ((ids : List Id) (id : Id) → AreAgents ids names.old.keys (map (λ v. v.items) positions.old.items) → length ids ≡ lv → id.agent ≡ name → AreAgents (ids ++ id ∷ []) names.new.keys (map (λ v. v.items) positions.new.items)) }
+    requires room { All (λ own. length own + 1 < 2 ^ 32) positions.old.items }
+    ensures ok { OnOk result ((ids : List Id) (id : Id) → AreAgents ids names.old.keys positions.old.items → length ids ≡ lv → id.agent ≡ name → AreAgents (ids ++ id ∷ []) names.new.keys positions.new.items) }
     ensures same_names { OnErr result (names.new.keys ≡ names.old.keys) }
-    ensures same_positions { OnErr result (map (λ v. v.items) positions.new.items ≡ map (λ v. v.items) positions.old.items) }
+    ensures same_positions { OnErr result (positions.new.items ≡ positions.old.items) }
 {
     match names.get_index_of(&name) {
         Some(number) => positions[number].push(lv)?,
@@ -188,36 +186,32 @@ fn add_position(
 /// Gives a new agent its first position.
 fn start_agent(
     names: &mut IndexSet<Name>,
-    positions: &mut Vec<Vec<u32>>,
+    positions: &mut Vec<PositionRuns>,
     name: Name,
     lv: u32,
 ) -> Result<(), NoMem>
     requires new { contains (pointwise nat_eq) names.old name ≡ false }
     ensures names { OnOk result (names.new.keys ≡ names.old.keys ++ name ∷ []) }
-    ensures positions { OnOk result (map (λ v. v.items) positions.new.items ≡ map (λ v. v.items) positions.old.items ++ (lv ∷ []) ∷ []) }
+    ensures positions { OnOk result (positions.new.items ≡ positions.old.items ++ (lv ∷ []) ∷ []) }
     ensures same_names { OnErr result (names.new.keys ≡ names.old.keys) }
-    ensures same_positions { OnErr result (map (λ v. v.items) positions.new.items ≡ map (λ v. v.items) positions.old.items) }
+    ensures same_positions { OnErr result (positions.new.items ≡ positions.old.items) }
 {
-    let alloc = *positions.allocator();
-    let mut own = Vec::with_capacity(alloc, 1)?;
-    own.push_reserved(lv);
+    let own = PositionRuns::of_one(*positions.allocator(), lv)?;
     positions.reserve(1)?;
     names.insert(name)?;
     positions.push_reserved(own);
     Ok(())
 }
 
-/// Takes the last position of an agent away, and an agent without a position too.
-fn remove_position(names: &mut IndexSet<Name>, positions: &mut Vec<Vec<u32>>, name: &Name)
+/// Takes away an agent's positions from this first one on, and an agent without a position too.
+fn remove_positions(names: &mut IndexSet<Name>, positions: &mut Vec<PositionRuns>, first: &Id)
     requires alike { vec_len positions.old ≡ length names.old.keys }
-    ensures { (ids : List Id) (id : Id) → AreAgents (ids ++ id ∷ []) names.old.keys (map (λ v. v.items) positions.old.items) → id.agent ≡ name.now → AreAgents ids names.new.keys (map (λ v. v.items) positions.new.items) }
+    ensures { (ids : List Id) (more : ℕ) → AreAgents (ids ++ ids_from first.now (suc more)) names.old.keys positions.old.items → first.now.seq ≡ count_of ids first.now.agent → AreAgents ids names.new.keys positions.new.items }
 {
-    if let Some(number) = names.get_index_of(name) {
-        let own = &mut positions[number];
-        own.pop();
-        if own.is_empty() {
-            names.pop();
-            positions.pop();
-        }
+    if first.seq == 0 {
+        names.pop();
+        positions.pop();
+    } else if let Some(number) = names.get_index_of(&first.agent) {
+        positions[number].truncate(first.seq);
     }
 }

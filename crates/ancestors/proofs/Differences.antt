@@ -1,6 +1,8 @@
 -- Two walks side by side, down to a floor.
-use Rattle.std.proofs.Common.{◌≡◌, ℕ, ◌+◌, ◌<◌, ◌≤◌, Bool, true, false, not, cond, ◌&&◌, ◌||◌, if◌then◌else◌, inl, ⊎_elim, nat_lt, nat_le, nat_eq, List, [], ◌∷◌, ◌++◌, length, reverse, All, refl, sym, ap, ◌∙◌, subst, arith, append-nil, ne_eqb}
-use Rattle.std.proofs.lemmas.Bool.{false≢true, ltb-true, ltb-false, leb-true, leb-false, or_cases}
+use Rattle.std.proofs.Common.{◌≡◌, ℕ, zero, suc, ◌+◌, ◌-◌, ◌<◌, ◌≤◌, Bool, true, false, not, cond, ◌&&◌, ◌||◌, if◌then◌else◌, inl, ⊎_elim, nat_lt, nat_le, nat_eq, Option, None, Some, List, [], ◌∷◌, ◌++◌, length, reverse, All, refl, sym, ap, ◌∙◌, subst, arith, append-nil, append_assoc, ne_eqb}
+use Rattle.std.specs.Prelude.{IfSome, IfNone}
+use Rattle.std.specs.List.{range_with_len}
+use Rattle.std.proofs.lemmas.Bool.{false≢true, false_from_ne_true, ltb-true, ltb-false, leb-true, leb-false, or_cases, or_parts}
 use Rattle.std.proofs.lemmas.List.{reverse-reverse, reverse-append}
 use Rattle.std.proofs.lemmas.List.Elements.{All-cons, recursion_from_All}
 use Rattle.ew_model.specs.Sets.{Among}
@@ -14,6 +16,8 @@ use Rattle.ew_model.proofs.PositionWalk.{taken, taken_agree, after_taking}
 use Rattle.ew_model.proofs.PositionSides.{only, any_reversed, walk_alone, IsTop, TurnsBoth, turn_both, turn_keeps, turn_lessens}
 use Rattle.ancestors.specs.Floors.{HasAllBelow}
 use Rattle.ancestors.specs.Sides.{AgreeFrom, IsHighest}
+use Rattle.frontier.specs.Chains.{IsChain}
+use Rattle.ancestors.proofs.Chains.{range_one, range_up, down_at, down_clear, down_next}
 use Rattle.ancestors.proofs.Walks.{start_within}
 
 -- What was found on each side and what the two walks still take there alone are what is there alone; all that is pending
@@ -41,7 +45,7 @@ parting_starts history a b left right low_a low_b same_a same_b =
     }
 
 -- one turn of both walks, where the highest position is taken off each that has it
-pub record Pair (history : List (List ℕ)) (n : ℕ) (left right new_left new_right : ℕ → Bool) : Type 0 where
+record Pair (history : List (List ℕ)) (n : ℕ) (left right new_left new_right : ℕ → Bool) : Type 0 where
   pub top : IsHighest left right n
   pub next_left : (q : ℕ) → new_left q ≡ after_taking left (parents_at history n) n q
   pub next_right : (q : ℕ) → new_right q ≡ after_taking right (parents_at history n) n q
@@ -65,7 +69,7 @@ put_lower : (n q : ℕ) (found : List ℕ) (b : Bool) → q < n → All (λ p. n
 put_lower n q found true l h = All-cons (λ p. q < p) n found l (λ k d m. let high = h k d m in omega (arith, high, l))
 put_lower n q found false l h = λ k d m. let high = h k d m in omega (arith, high, l)
 
-pub parting_turns : (history : List (List ℕ)) → IsHistoryOfParents history → (a b : List ℕ) (left right new_left new_right : ℕ → Bool) (xs ys : List ℕ) (n : ℕ) → Parting history a b left right xs ys → Pair history n left right new_left new_right
+parting_turns : (history : List (List ℕ)) → IsHistoryOfParents history → (a b : List ℕ) (left right new_left new_right : ℕ → Bool) (xs ys : List ℕ) (n : ℕ) → Parting history a b left right xs ys → Pair history n left right new_left new_right
     → Parting history a b new_left new_right (if left n && not (right n) then n ∷ xs else xs) (if right n && not (left n) then n ∷ ys else ys)
 parting_turns history good a b left right new_left new_right xs ys n h p =
     let t = turns_both history good a b left right new_left new_right xs ys n h p in
@@ -83,12 +87,108 @@ parting_turns history good a b left right new_left new_right xs ys n h p =
       right_lower = λ q e. put_lower n q ys (right n && not (left n)) (low q e) (h.right_lower n p.top.either);
     }
 
-pub parting_lessens : (history : List (List ℕ)) → IsHistoryOfParents history → (a b : List ℕ) (left right new_left new_right : ℕ → Bool) (xs ys : List ℕ) (n : ℕ) → Parting history a b left right xs ys → Pair history n left right new_left new_right
+parting_lessens : (history : List (List ℕ)) → IsHistoryOfParents history → (a b : List ℕ) (left right new_left new_right : ℕ → Bool) (xs ys : List ℕ) (n : ℕ) → Parting history a b left right xs ys → Pair history n left right new_left new_right
     → length (taken (reverse history) new_left) + length (taken (reverse history) new_right) < length (taken (reverse history) left) + length (taken (reverse history) right)
 parting_lessens history good a b left right new_left new_right xs ys n h p =
     let t = turns_both history good a b left right new_left new_right xs ys n h p in
     let r = reverse history in
     turn_lessens (taken r left) (taken r new_left) (taken r right) (taken r new_right) n (left n) (right n) p.top.either t.xs t.ys
+
+-- Both walks go down a chain: the highest position is taken off each that has it, nothing else is pending in the chain to
+-- it from the first event on, and the parents of that one are put in.
+pub record BothGo (history : List (List ℕ)) (first n : ℕ) (left right new_left new_right : ℕ → Bool) : Type 0 where
+  pub top : IsHighest left right n
+  pub chain : IsChain history first n
+  pub left_clear : (m : ℕ) → first ≤ m → m < n → left m ≡ false
+  pub right_clear : (m : ℕ) → first ≤ m → m < n → right m ≡ false
+  pub next_left : (q : ℕ) → new_left q ≡ after_taking left (parents_at history first) n q
+  pub next_right : (q : ℕ) → new_right q ≡ after_taking right (parents_at history first) n q
+
+-- what comes of it
+pub record Parted (history : List (List ℕ)) (a b : List ℕ) (first n : ℕ) (left right new_left new_right : ℕ → Bool) (xs ys : List ℕ) : Type 0 where
+  pub parting : Parting history a b new_left new_right (if left n && not (right n) then range_with_len first (n + 1 - first) ++ xs else xs) (if right n && not (left n) then range_with_len first (n + 1 - first) ++ ys else ys)
+  pub less : length (taken (reverse history) new_left) + length (taken (reverse history) new_right) < length (taken (reverse history) left) + length (taken (reverse history) right)
+
+put_more : (b : Bool) (chain more : List ℕ) (n : ℕ) (xs : List ℕ) → more ≡ chain ++ n ∷ [] → cond b (chain ++ cond b (n ∷ xs) xs) (cond b (n ∷ xs) xs) ≡ cond b (more ++ xs) xs
+put_more true chain more n xs e = sym (ap (λ ps. ps ++ xs) e ∙ append_assoc chain (n ∷ []) xs)
+put_more false chain more n xs e = refl
+
+-- one of the two passes where the chain goes on
+either_down : (a b c d : Bool) → a ≡ c → b ≡ d → (c || d) ≡ true → (a || b) ≡ true
+either_down a b c d e f h = (λ i. e i || f i) ∙ h
+
+parted_by : (history : List (List ℕ)) → IsHistoryOfParents history → (a b : List ℕ) (first count n : ℕ) (left right new_left new_right : ℕ → Bool) (xs ys : List ℕ) → n ≡ first + count
+    → Parting history a b left right xs ys → BothGo history first n left right new_left new_right → Parted history a b first n left right new_left new_right xs ys
+parted_by history good a b first zero n left right new_left new_right xs ys long h g =
+    let here : first ≡ n = omega (arith, long) in
+    let one = sym (range_one first n here) in
+    let pair : Pair history n left right new_left new_right = record {
+      top = g.top;
+      next_left = subst (λ (k : ℕ). (q : ℕ) → new_left q ≡ after_taking left (parents_at history k) n q) here g.next_left;
+      next_right = subst (λ (k : ℕ). (q : ℕ) → new_right q ≡ after_taking right (parents_at history k) n q) here g.next_right;
+    } in
+    record {
+      parting =
+          subst (λ (zs : List ℕ). Parting history a b new_left new_right (if left n && not (right n) then zs ++ xs else xs) (if right n && not (left n) then zs ++ ys else ys)) one
+          (parting_turns history good a b left right new_left new_right xs ys n h pair);
+      less = parting_lessens history good a b left right new_left new_right xs ys n h pair;
+    }
+parted_by history good a b first (suc count) n left right new_left new_right xs ys long h g =
+    let before : ℕ = first + count in
+    let behind : n ≡ suc before = omega (arith, long) in
+    let order : first ≤ before = omega arith in
+    let link : parents_at history n ≡ before ∷ [] = ap (parents_at history) behind ∙ g.chain.links before order (omega (arith, behind)) in
+    let mid_left : ℕ → Bool = after_taking left (parents_at history n) n in
+    let mid_right : ℕ → Bool = after_taking right (parents_at history n) n in
+    let pair : Pair history n left right mid_left mid_right = record { top = g.top; next_left = λ q. refl; next_right = λ q. refl } in
+    let t = turns_both history good a b left right mid_left mid_right xs ys n h pair in
+    let at_left : mid_left before ≡ left n = down_at history first before n left new_left behind order link g.left_clear g.next_left in
+    let at_right : mid_right before ≡ right n = down_at history first before n right new_right behind order link g.right_clear g.next_right in
+    let go : BothGo history first before mid_left mid_right new_left new_right = record {
+      top = record {
+        either = either_down (mid_left before) (mid_right before) (left n) (right n) at_left at_right g.top.either;
+        left_above = λ m l. false_from_ne_true (mid_left m) (λ e. let less = t.left_low m e in omega (arith, less, l, behind));
+        right_above = λ m l. false_from_ne_true (mid_right m) (λ e. let less = t.right_low m e in omega (arith, less, l, behind));
+      };
+      chain = record { order = order; links = λ lv from to. g.chain.links lv from (omega (arith, to, behind)) };
+      left_clear = down_clear history first before n left new_left behind order link g.left_clear g.next_left;
+      right_clear = down_clear history first before n right new_right behind order link g.right_clear g.next_right;
+      next_left = down_next history first before n left new_left behind order link g.left_clear g.next_left;
+      next_right = down_next history first before n right new_right behind order link g.right_clear g.next_right;
+    } in
+    let chain : List ℕ = range_with_len first (before + 1 - first) in
+    let more : List ℕ = range_with_len first (n + 1 - first) in
+    let up : more ≡ chain ++ n ∷ [] = range_up first before n behind order in
+    let in_left : List ℕ = if left n && not (right n) then n ∷ xs else xs in
+    let in_right : List ℕ = if right n && not (left n) then n ∷ ys else ys in
+    let rest = parted_by history good a b first count before mid_left mid_right new_left new_right in_left in_right refl (parting_turns history good a b left right mid_left mid_right xs ys n h pair) go in
+    let whole_left = (λ i. cond (at_left i && not (at_right i)) (chain ++ in_left) in_left) ∙ put_more (left n && not (right n)) chain more n xs up in
+    let whole_right = (λ i. cond (at_right i && not (at_left i)) (chain ++ in_right) in_right) ∙ put_more (right n && not (left n)) chain more n ys up in
+    record {
+      parting = subst (λ (zs : List ℕ). Parting history a b new_left new_right zs (if right n && not (left n) then more ++ ys else ys)) whole_left
+          (subst (λ (zs : List ℕ). Parting history a b new_left new_right (cond (mid_left before && not (mid_right before)) (chain ++ in_left) in_left) zs) whole_right rest.parting);
+      less = let now = parting_lessens history good a b left right mid_left mid_right xs ys n h pair in let later = rest.less in omega (arith, now, later);
+    }
+
+pub parting_goes : (history : List (List ℕ)) → IsHistoryOfParents history → (a b : List ℕ) (first n : ℕ) (left right new_left new_right : ℕ → Bool) (xs ys : List ℕ) → Parting history a b left right xs ys
+    → BothGo history first n left right new_left new_right → Parted history a b first n left right new_left new_right xs ys
+parting_goes history good a b first n left right new_left new_right xs ys h g =
+    let order = g.chain.order in
+    parted_by history good a b first (n - first) n left right new_left new_right xs ys (omega (arith, order)) h g
+
+-- Above the highest that is left once n was taken off, nothing is pending below n.
+pub clear_above : (left right mid_left mid_right : ℕ → Bool) (highest : Option ℕ) (first n : ℕ) → ((q : ℕ) → mid_left q ≡ (if nat_eq n q then false else left q)) → ((q : ℕ) → mid_right q ≡ (if nat_eq n q then false else right q))
+    → IfNone highest ((q : ℕ) → (mid_left q || mid_right q) ≡ false) → IfSome highest (λ h. IsHighest mid_left mid_right h) → IfSome highest (λ h. h < first)
+    → ((m : ℕ) → first ≤ m → m < n → left m ≡ false) × ((m : ℕ) → first ≤ m → m < n → right m ≡ false)
+clear_above left right mid_left mid_right highest first n off_left off_right none top above = (
+  λ m low high. sym (off_left m ∙ ap (λ b. cond b false (left m)) (ne_eqb n m (λ e. omega (arith, e, high)))) ∙ (free highest none top above m low).0,
+  λ m low high. sym (off_right m ∙ ap (λ b. cond b false (right m)) (ne_eqb n m (λ e. omega (arith, e, high)))) ∙ (free highest none top above m low).1,
+)
+  where
+    free : (highest : Option ℕ) → IfNone highest ((q : ℕ) → (mid_left q || mid_right q) ≡ false) → IfSome highest (λ h. IsHighest mid_left mid_right h) → IfSome highest (λ h. h < first)
+        → (m : ℕ) → first ≤ m → (mid_left m ≡ false) × (mid_right m ≡ false)
+    free None none top above m low = or_parts (mid_left m) (mid_right m) (none m)
+    free (Some h) none top above m low = (top.left_above m (omega (arith, low, above)), top.right_above m (omega (arith, low, above)))
 
 -- nothing is taken that isn't a position there
 taken_short : (r : List (List ℕ)) (pending : ℕ → Bool) (p : ℕ) → length r ≤ p → is_named nat_eq (taken r pending) p ≡ false

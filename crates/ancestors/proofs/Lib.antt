@@ -1,3 +1,4 @@
 pub mod SpanLists
+pub mod Chains
 pub mod Walks
 pub mod Differences

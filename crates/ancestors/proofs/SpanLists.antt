@@ -69,71 +69,87 @@ descending_last spans s h = (
 )
 
 -- what comes of the spans
-pub record Lowered (old new : List Span) (lv : ℕ) : Type 0 where
-  pub positions : positions_of new ≡ lv ∷ positions_of old
+pub record Lowered (old new : List Span) (span : Span) : Type 0 where
+  pub positions : positions_of new ≡ positions_in span ++ positions_of old
   pub order : AreDescending new
 
--- The position joins the last span, where that begins right above it.
-joined_lower : (spans : List Span) (place lv : ℕ) (last : Span) → length spans ≡ place + 1 → last ≡ slice_index_or spans place last → last.from ≡ lv + 1
-    → AreDescending spans → Lowered spans (set spans place (record { from = lv; to = last.to })) lv
-joined_lower spans place lv last long at next h = ⊎_elim (λ e. absurd (let none = ap length e in omega (arith, long, none))) (λ k. here k.0 k.1 k.2) (last_cases spans)
+range_joined : (from count more : ℕ) → range_with_len from (count + more) ≡ range_with_len from count ++ range_with_len (from + count) more
+range_joined from zero more =
+    let none : 0 + more ≡ more = omega arith in
+    let start : from ≡ from + 0 = omega arith in
+    λ i. range_with_len (start i) (none i)
+range_joined from (suc count) more =
+    let long : suc count + more ≡ suc (count + more) = omega arith in
+    let start : from + 1 + count ≡ from + suc count = omega arith in
+    ap (range_with_len from) long ∙ ap (λ ps. from ∷ ps) (range_joined (from + 1) count more ∙ ap (λ (n : ℕ). range_with_len (from + 1) count ++ range_with_len n more) start)
+
+-- a span that ends where another one begins
+positions_joined : (span x : Span) → span.from < span.to → x.from < x.to → x.from ≡ span.to → positions_in (record { from = span.from; to = x.to }) ≡ positions_in span ++ positions_in x
+positions_joined span x filled above next =
+    let long : x.to - span.from ≡ (span.to - span.from) + (x.to - x.from) = omega (arith, filled, above, next) in
+    let start : span.from + (span.to - span.from) ≡ x.from = omega (arith, filled, next) in
+    ap (range_with_len span.from) long
+    ∙ range_joined span.from (span.to - span.from) (x.to - x.from)
+    ∙ ap (λ (n : ℕ). range_with_len span.from (span.to - span.from) ++ range_with_len n (x.to - x.from)) start
+
+-- The span joins the last one, where that begins right above it.
+joined_lower : (spans : List Span) (place : ℕ) (span last : Span) → length spans ≡ place + 1 → last ≡ slice_index_or spans place last → last.from ≡ span.to → span.from < span.to
+    → AreDescending spans → Lowered spans (set spans place (record { from = span.from; to = last.to })) span
+joined_lower spans place span last long at next filled h = ⊎_elim (λ e. absurd (let none = ap length e in omega (arith, long, none))) (λ k. here k.0 k.1 k.2) (last_cases spans)
   where
-    here : (front : List Span) (x : Span) → spans ≡ front ++ x ∷ [] → Lowered spans (set spans place (record { from = lv; to = last.to })) lv
+    here : (front : List Span) (x : Span) → spans ≡ front ++ x ∷ [] → Lowered spans (set spans place (record { from = span.from; to = last.to })) span
     here front x e =
         let short : length front ≡ place = let l = ap length e in omega (arith, l, long, length_push front x) in
         let same : last ≡ x = at ∙ ap (λ (xs : List Span). slice_index_or xs place last) e ∙ get_or_push front x last place short in
-        let new : Span = record { from = lv; to = last.to } in
+        let new : Span = record { from = span.from; to = last.to } in
         let changed : set spans place new ≡ front ++ new ∷ [] = ap (λ (xs : List Span). set xs place new) e ∙ set_at front x [] new place short in
         let old : AreDescending (front ++ x ∷ []) = subst AreDescending e h in
         let was = descending_last front x old in
-        let start : x.from ≡ lv + 1 = ap (λ (s : Span). s.from) (sym same) ∙ next in
+        let start : x.from ≡ span.to = ap (λ (s : Span). s.from) (sym same) ∙ next in
         let end : last.to ≡ x.to = ap (λ (s : Span). s.to) same in
-        let more : last.to - lv ≡ suc (x.to - x.from) = omega (arith, was.0, start, end) in
-        let above : lv + 1 ≡ x.from = sym start in
-        let in_new : positions_in new ≡ lv ∷ positions_in x = ap (range_with_len lv) more ∙ ap (λ (a : ℕ). lv ∷ range_with_len a (x.to - x.from)) above in
+        let in_new : positions_in new ≡ positions_in span ++ positions_in x = ap (λ (n : ℕ). positions_in (record { from = span.from; to = n })) end ∙ positions_joined span x filled was.0 start in
         record {
-          positions = ap positions_of changed ∙ positions_push front new ∙ ap (λ ps. ps ++ positions_of front) in_new ∙ ap (λ ps. lv ∷ ps) (sym (positions_push front x) ∙ ap positions_of (sym e));
-          order = subst AreDescending (sym changed) (descending_push front new (descending_front front x old) (omega (arith, was.0, start, end)) (λ k u l g. let low = was.1 k u l g in omega (arith, low, end)));
+          positions =
+              ap positions_of changed
+              ∙ positions_push front new
+              ∙ ap (λ ps. ps ++ positions_of front) in_new
+              ∙ append_assoc (positions_in span) (positions_in x) (positions_of front)
+              ∙ ap (λ ps. positions_in span ++ ps) (sym (positions_push front x) ∙ ap positions_of (sym e));
+          order = subst AreDescending (sym changed) (descending_push front new (descending_front front x old) (omega (arith, was.0, start, end, filled)) (λ k u l g. let low = was.1 k u l g in omega (arith, low, end)));
         }
 
 -- the last span, read twice
-pub joined_read : (spans : List Span) (place lv : ℕ) (read last : Span) → length spans ≡ place + 1 → read ≡ slice_index_or spans place read → last ≡ slice_index_or spans place last → read.from ≡ lv + 1
-    → AreDescending spans → Lowered spans (set spans place (record { from = lv; to = last.to })) lv
-joined_read spans place lv read last long first at next h =
+pub joined_read : (spans : List Span) (place : ℕ) (span read last : Span) → length spans ≡ place + 1 → read ≡ slice_index_or spans place read → last ≡ slice_index_or spans place last → read.from ≡ span.to → span.from < span.to
+    → AreDescending spans → Lowered spans (set spans place (record { from = span.from; to = last.to })) span
+joined_read spans place span read last long first at next filled h =
     let same : read ≡ last = get_or_read spans place read (omega (arith, long)) first last ∙ sym at in
-    joined_lower spans place lv last long at (ap (λ (s : Span). s.from) (sym same) ∙ next) h
+    joined_lower spans place span last long at (ap (λ (s : Span). s.from) (sym same) ∙ next) filled h
 
-first_above : (x : Span) (ps : List ℕ) (lv : ℕ) → x.from < x.to → All (λ p. lv < p) (positions_in x ++ ps) → lv < x.from
-first_above x ps lv filled h =
+first_above : (x : Span) (ps : List ℕ) (low : ℕ) → x.from < x.to → All (λ p. low ≤ p) (positions_in x ++ ps) → low ≤ x.from
+first_above x ps low filled h =
     let more : x.to - x.from ≡ suc (x.to - x.from - 1) = omega (arith, filled) in
-    let k : All (λ p. lv < p) (range_with_len x.from (suc (x.to - x.from - 1)) ++ ps) = subst (λ (n : ℕ). All (λ p. lv < p) (range_with_len x.from n ++ ps)) more h in
+    let k : All (λ p. low ≤ p) (range_with_len x.from (suc (x.to - x.from - 1)) ++ ps) = subst (λ (n : ℕ). All (λ p. low ≤ p) (range_with_len x.from n ++ ps)) more h in
     k 0 0 (omega arith)
 
--- Or else it stands in a span of its own.
-pub started_lower : (spans : List Span) (lv : ℕ) → AreDescending spans → All (λ p. lv < p) (positions_of spans)
-    → ((place : ℕ) (last : Span) → length spans ≡ place + 1 → slice_get spans place ≡ Some last → last.from ≡ lv + 1 → ⊥)
-    → Lowered spans (spans ++ record { from = lv; to = lv + 1 } ∷ []) lv
-started_lower spans lv h above apart = record {
-  positions = positions_push spans new ∙ ap (λ ps. ps ++ positions_of spans) one;
-  order = descending_push spans new h (omega arith) (λ place upper e u. higher place upper e u (last_cases spans));
+-- Or else it stands behind it.
+pub started_lower : (spans : List Span) (span : Span) → span.from < span.to → AreDescending spans → All (λ p. span.to ≤ p) (positions_of spans)
+    → ((place : ℕ) (last : Span) → length spans ≡ place + 1 → slice_get spans place ≡ Some last → last.from ≡ span.to → ⊥)
+    → Lowered spans (spans ++ span ∷ []) span
+started_lower spans span filled h above apart = record {
+  positions = positions_push spans span;
+  order = descending_push spans span h filled (λ place upper e u. higher place upper e u (last_cases spans));
 }
   where
-    new : Span
-    new = record { from = lv; to = lv + 1 }
-
-    one : positions_in new ≡ lv ∷ []
-    one = let e : lv + 1 - lv ≡ 1 = omega arith in ap (range_with_len lv) e
-
-    higher : (place : ℕ) (upper : Span) → place + 1 ≡ length spans → slice_get spans place ≡ Some upper → (spans ≡ []) ⊎ ((front : List Span) × (x : Span) × (spans ≡ front ++ x ∷ [])) → lv + 1 < upper.from
+    higher : (place : ℕ) (upper : Span) → place + 1 ≡ length spans → slice_get spans place ≡ Some upper → (spans ≡ []) ⊎ ((front : List Span) × (x : Span) × (spans ≡ front ++ x ∷ [])) → span.to < upper.from
     higher place upper e u (inl none) = absurd (let l = ap length none in omega (arith, l, e))
     higher place upper e u (inr (front, x, is)) =
         let short : place ≡ length front = let l = ap length is in omega (arith, l, e, length_push front x) in
         let same : x ≡ upper = same_Some x upper (sym (get_last front x place short) ∙ ap (λ (xs : List Span). slice_get xs place) (sym is) ∙ u) in
-        let filled : x.from < x.to = (descending_last front x (subst AreDescending is h)).0 in
-        let low : lv < x.from = first_above x (positions_of front) lv filled (subst (All (λ p. lv < p)) (ap positions_of is ∙ positions_push front x) above) in
+        let long : x.from < x.to = (descending_last front x (subst AreDescending is h)).0 in
+        let low : span.to ≤ x.from = first_above x (positions_of front) span.to long (subst (All (λ p. span.to ≤ p)) (ap positions_of is ∙ positions_push front x) above) in
         let from : x.from ≡ upper.from = ap (λ (s : Span). s.from) same in
-        differs low from (nat_eq upper.from (lv + 1)) refl
+        differs low from (nat_eq upper.from span.to) refl
       where
-        differs : lv < x.from → x.from ≡ upper.from → (b : Bool) → nat_eq upper.from (lv + 1) ≡ b → lv + 1 < upper.from
-        differs low from true q = absurd (apart place upper (sym e) u (eqb-true upper.from (lv + 1) q))
-        differs low from false q = let ne = eqb-false upper.from (lv + 1) q in omega (arith, low, from, ne)
+        differs : span.to ≤ x.from → x.from ≡ upper.from → (b : Bool) → nat_eq upper.from span.to ≡ b → span.to < upper.from
+        differs low from true q = absurd (apart place upper (sym e) u (eqb-true upper.from span.to q))
+        differs low from false q = let ne = eqb-false upper.from span.to q in omega (arith, low, from, ne)

@@ -1,44 +1,41 @@
 -- One walk from the highest pending position down.
-use Rattle.std.proofs.Common.{◌≡◌, ℕ, zero, suc, ◌<◌, ◌≤◌, Bool, true, false, not, cond, ◌||◌, inl, inr, nat_lt, nat_eq, nat_cmp, is_lt, is_eq, List, [], ◌∷◌, ◌++◌, flat_map, take, drop, slice_index_or, length, reverse, All, refl, sym, ap, ◌∙◌, subst, arith, append-nil, append_assoc}
+use Rattle.std.proofs.Common.{◌≡◌, ℕ, zero, suc, ◌+◌, ◌-◌, ◌<◌, ◌≤◌, ◌⊎◌, inl, inr, Bool, true, false, not, cond, ◌&&◌, ◌||◌, nat_lt, nat_le, nat_eq, nat_cmp, is_lt, is_eq, Option, None, Some, List, [], ◌∷◌, ◌++◌, flat_map, take, drop, slice_index_or, length, reverse, All, refl, sym, ap, ◌∙◌, subst, arith, append-nil, append_assoc}
+use Rattle.std.specs.Prelude.{IfSome, IfNone}
 use Rattle.std.specs.BTreeMap.{is_at}
 use Rattle.std.specs.BTreeSet.{BTreeSet, contains}
-use Rattle.std.specs.List.{list_any, list_all}
+use Rattle.std.specs.List.{list_any, list_all, range_with_len}
 use Rattle.std.specs.List.Sorted.{IsStrictlyIncreasing}
-use Rattle.std.proofs.lemmas.Bool.{false≢true, false_from_ne_true, ltb-true, ltb-false, or_left, or_right}
+use Rattle.std.proofs.lemmas.Bool.{false≢true, ltb-true, ltb-false, leb-true, leb-false, and_parts, or_left, or_right}
 use Rattle.std.proofs.lemmas.Cmp.{nat_eq_equiv}
 use Rattle.std.proofs.lemmas.List.{nil_from_length, take_all, length-reverse, reverse-reverse, reverse-append}
-use Rattle.std.proofs.lemmas.List.Elements.{All-cons, recursion_from_All}
-use Rattle.std.proofs.lemmas.Map.Views.{exact_unsigned_eq}
+use Rattle.std.proofs.lemmas.List.Elements.{All-append, recursion_from_All}
+use Rattle.std.proofs.lemmas.List.FromFn.{length-range_with_len, get_or-range_with_len}
 use Rattle.ew_model.specs.Sets.{Among}
 use Rattle.ew_model.specs.Graph.{is_named}
 use Rattle.ew_model.specs.Positions.{parents_at, IsHistoryOfParents, known_positions, is_known_at, is_reduced_at}
-use Rattle.ew_model.proofs.ListTests.{any_alike, pass_all, pass_alike, one_fails}
-use Rattle.ew_model.proofs.RisingLists.{rise_of, named_low, number_among, among_named, cmp_same, cmp_not_above}
+use Rattle.ew_model.proofs.ListTests.{any_from, found_by, pass_all, pass_alike, one_fails}
+use Rattle.ew_model.proofs.RisingLists.{rise_of, named_low, number_among}
 use Rattle.ew_model.proofs.SetLaws.{among_flat}
 use Rattle.ew_model.proofs.SortingLaws.{all_at}
-use Rattle.ew_model.proofs.PositionWalk.{taken, taken_agree, taken_none, walk_takes, walk_turn, walk_lower}
+use Rattle.ew_model.proofs.PositionWalk.{taken, taken_agree, taken_none, walk_takes}
 use Rattle.ew_model.proofs.PositionSides.{any_reversed, not_taken}
 use Rattle.ew_model.proofs.PositionReduced.{known_joined, reduced_by_parents}
+use Rattle.frontier.specs.Chains.{IsChain}
+use Rattle.ancestors.proofs.Chains.{Reached, reached_of_sets, Stretch, taken_there, taken_beside, stretch_within}
 
--- One turn: n is the highest pending, and its parents take its place.
-pub record Turn (history : List (List ℕ)) (n : ℕ) (old new : ℕ → Bool) : Type 0 where
-  pub walk : taken (reverse history) old ≡ n ∷ taken (reverse history) new
-  pub below : (m : ℕ) → new m ≡ true → m < n
+-- what lies above the highest pending position lies above all of them
+above_highest : (pending : ℕ → Bool) (highest : Option ℕ) (first : ℕ) → IfNone highest ((q : ℕ) → pending q ≡ false) → IfSome highest (λ h. (q : ℕ) → pending q ≡ true → q ≤ h)
+    → IfSome highest (λ h. h < first) → (q : ℕ) → pending q ≡ true → q < first
+above_highest pending None first none greatest above q e = absurd (false≢true (sym (none q) ∙ e))
+above_highest pending (Some h) first none greatest above q e = let low = greatest q e in omega (arith, low, above)
 
-pub turn_of : (history : List (List ℕ)) → IsHistoryOfParents history → (n : ℕ) (old mid new : ℕ → Bool) → ((q : ℕ) → old q ≡ true → q < length history) → old n ≡ true
-    → ((m : ℕ) → old m ≡ true → m ≤ n) → ((m : ℕ) → mid m ≡ cond (nat_eq n m) false (old m)) → ((m : ℕ) → new m ≡ (mid m || is_named nat_eq (parents_at history n) m)) → Turn history n old new
-turn_of history good n old mid new within at above without with = record {
-  walk = walk_turn history good n (within n at) old mid new at above without with;
-  below = walk_lower history good n (within n at) old mid new at above without with;
-}
-
--- The same, as a set of pending positions makes it.
-pub turn_of_sets : (history : List (List ℕ)) → IsHistoryOfParents history → (n : ℕ) (old mid new : BTreeSet ℕ) → ((q : ℕ) → contains nat_cmp old q ≡ true → q < length history) → contains nat_cmp old n ≡ true
-    → ((m : ℕ) → contains nat_cmp old m ≡ true → is_lt (nat_cmp n m) ≡ false) → ((m : ℕ) → contains nat_cmp mid m ≡ cond (is_eq (nat_cmp n m)) false (contains nat_cmp old m))
-    → ((m : ℕ) → contains nat_cmp new m ≡ (contains nat_cmp mid m || is_named nat_eq (parents_at history n) m)) → Turn history n (contains nat_cmp old) (contains nat_cmp new)
-turn_of_sets history good n old mid new within at above without with =
-    turn_of history good n (contains nat_cmp old) (contains nat_cmp mid) (contains nat_cmp new) within at (λ m e. cmp_not_above n m (above m e))
-    (λ m. without m ∙ ap (λ b. cond b false (contains nat_cmp old m)) (cmp_same n m)) with
+-- so a walk that takes the highest position off the set has come to it
+pub reached_above : (history : List (List ℕ)) (first n : ℕ) (old mid : BTreeSet ℕ) (highest : Option ℕ) → n < length history → IsChain history first n
+    → contains nat_cmp old n ≡ true → ((m : ℕ) → contains nat_cmp old m ≡ true → is_lt (nat_cmp n m) ≡ false) → ((m : ℕ) → contains nat_cmp mid m ≡ cond (is_eq (nat_cmp n m)) false (contains nat_cmp old m))
+    → IfNone highest ((q : ℕ) → contains nat_cmp mid q ≡ false) → IfSome highest (λ h. (q : ℕ) → contains nat_cmp mid q ≡ true → q ≤ h) → IfSome highest (λ h. h < first)
+    → Reached history first n (contains nat_cmp old)
+reached_above history first n old mid highest within chain here top without none greatest above =
+    reached_of_sets history first n old mid within chain here top without (above_highest (contains nat_cmp mid) highest first none greatest above)
 
 -- what was put into an empty set
 pub put_first : (positions : List ℕ) (old new : BTreeSet ℕ) → old.keys ≡ [] → ((q : ℕ) → contains nat_cmp new q ≡ (contains nat_cmp old q || is_named nat_eq positions q)) → (q : ℕ) → contains nat_cmp new q ≡ is_named nat_eq positions q
@@ -83,15 +80,19 @@ closing_starts history version pending low same = record {
   lower = λ q e. none_in_all (λ p. q < p);
 }
 
-pub closing_turns : (history : List (List ℕ)) (version found : List ℕ) (n : ℕ) (old new : ℕ → Bool) → Turn history n old new → old n ≡ true → Closing history version old found → Closing history version new (n ∷ found)
-closing_turns history version found n old new t at h = record {
-  whole = ap (λ ps. ps ++ taken (reverse history) new) (reverse-append (n ∷ []) found) ∙ append_assoc (reverse found) (n ∷ []) (taken (reverse history) new) ∙ ap (λ ps. reverse found ++ ps) (sym t.walk) ∙ h.whole;
-  within = λ q e. let low = t.below q e in let top = h.within n at in omega (arith, low, top);
-  lower = λ q e. let low = t.below q e in All-cons (λ p. q < p) n found low (λ k d l. let high = h.lower n at k d l in omega (arith, low, high));
-}
-
-pub turn_lessens : (history : List (List ℕ)) (n : ℕ) (old new : ℕ → Bool) → Turn history n old new → length (taken (reverse history) new) < length (taken (reverse history) old)
-turn_lessens history n old new t = let e = ap length t.walk in omega (arith, e)
+pub closing_goes : (history : List (List ℕ)) (version found : List ℕ) (first n : ℕ) (old new : ℕ → Bool) → Stretch history first n old new → old n ≡ true → Closing history version old found
+    → Closing history version new (range_with_len first (n + 1 - first) ++ found)
+closing_goes history version found first n old new t at h =
+    let chain : List ℕ = range_with_len first (n + 1 - first) in
+    record {
+      whole = ap (λ ps. ps ++ taken (reverse history) new) (reverse-append chain found) ∙ append_assoc (reverse found) (reverse chain) (taken (reverse history) new) ∙ ap (λ ps. reverse found ++ ps) (sym t.walk) ∙ h.whole;
+      within = stretch_within history first n old new t (h.within n at);
+      lower = λ q e.
+          let low = t.below q e in
+          All-append (λ p. q < p) chain found
+          (λ k d l. let long = length-range_with_len first (n + 1 - first) in let at = get_or-range_with_len first (n + 1 - first) k d (omega (arith, l, long)) in omega (arith, low, at))
+          (λ k d l. let high = h.lower n at k d l in let order = t.order in omega (arith, low, high, order));
+    }
 
 pub closing_ends : (history : List (List ℕ)) (version found : List ℕ) (pending : ℕ → Bool) → ((q : ℕ) → pending q ≡ false) → Closing history version pending found → found ≡ known_positions history version
 closing_ends history version found pending none h =
@@ -111,22 +112,10 @@ seeking_starts history version sought pending low same = record {
   within = start_within history version pending low same;
 }
 
--- another position than the one taken is taken later or not at all
-pub other_taken : (history : List (List ℕ)) (n p : ℕ) (old new : ℕ → Bool) → Turn history n old new → nat_eq p n ≡ false
-    → is_named nat_eq (taken (reverse history) new) p ≡ is_named nat_eq (taken (reverse history) old) p
-other_taken history n p old new t e = sym (ap (λ ps. is_named nat_eq ps p) t.walk ∙ ap (λ b. b || is_named nat_eq (taken (reverse history) new) p) e)
-
--- two positions, one of which is pending
-apart : (pending : ℕ → Bool) (n p : ℕ) → pending n ≡ true → pending p ≡ false → nat_eq p n ≡ false
-apart pending n p at none = false_from_ne_true (nat_eq p n) (λ e. false≢true (sym none ∙ ap pending (exact_unsigned_eq p n e) ∙ at))
-
-pub turn_within : (history : List (List ℕ)) (n : ℕ) (old new : ℕ → Bool) → Turn history n old new → old n ≡ true → ((q : ℕ) → old q ≡ true → q < length history) → (q : ℕ) → new q ≡ true → q < length history
-turn_within history n old new t at within q e = let low = t.below q e in let top = within n at in omega (arith, low, top)
-
-pub seeking_turns : (history : List (List ℕ)) (version : List ℕ) (sought n : ℕ) (old new : ℕ → Bool) → Turn history n old new → old n ≡ true → old sought ≡ false → Seeking history version sought old → Seeking history version sought new
-seeking_turns history version sought n old new t at none h = record {
-  same = other_taken history n sought old new t (apart old n sought at none) ∙ h.same;
-  within = turn_within history n old new t at h.within;
+pub seeking_goes : (history : List (List ℕ)) (version : List ℕ) (sought first n : ℕ) (old new : ℕ → Bool) → Stretch history first n old new → old n ≡ true → sought < first → Seeking history version sought old → Seeking history version sought new
+seeking_goes history version sought first n old new t at low h = record {
+  same = taken_beside history first n sought old new t (inl low) ∙ h.same;
+  within = stretch_within history first n old new t (h.within n at);
 }
 
 -- what is pending is taken
@@ -152,6 +141,10 @@ taken_here (ps ∷ r) pending p l e = at (pending (length r)) refl (nat_lt p (le
 pub seeking_finds : (history : List (List ℕ)) (version : List ℕ) (sought : ℕ) (pending : ℕ → Bool) → sought < length history → pending sought ≡ true → Seeking history version sought pending → true ≡ is_known_at history version sought
 seeking_finds history version sought pending l e h = sym (taken_here (reverse history) pending sought (let same = length-reverse history in omega (arith, l, same)) e) ∙ h.same
 
+pub seeking_passes : (history : List (List ℕ)) → IsHistoryOfParents history → (version : List ℕ) (sought first n : ℕ) (pending : ℕ → Bool) → Reached history first n pending → first ≤ sought → sought ≤ n → Seeking history version sought pending
+    → true ≡ is_known_at history version sought
+seeking_passes history good version sought first n pending r low high h = sym (taken_there history good first n sought pending r low high) ∙ h.same
+
 pub seeking_misses : (history : List (List ℕ)) → IsHistoryOfParents history → (version : List ℕ) (sought : ℕ) (pending : ℕ → Bool) → ((q : ℕ) → pending q ≡ true → q < sought) → Seeking history version sought pending → false ≡ is_known_at history version sought
 seeking_misses history good version sought pending low h = sym (not_taken history good pending sought low) ∙ h.same
 
@@ -175,10 +168,24 @@ comparing_starts history good positions above pending low same = record {
         let less : q < found.0 = all_at (λ p. p < found.0) (parents_at history found.0) q (recursion_from_All (λ p. p < found.0) (parents_at history found.0) (good found.0 upper).lower) found.2 in
         omega (arith, upper, less)
 
-pub comparing_turns : (history : List (List ℕ)) (positions above : List ℕ) (n : ℕ) (old new : ℕ → Bool) → Turn history n old new → old n ≡ true → is_named nat_eq positions n ≡ false → Comparing history positions above old → Comparing history positions above new
-comparing_turns history positions above n old new t at none h = record {
-  same = λ p m. other_taken history n p old new t (false_from_ne_true (nat_eq p n) (λ e. false≢true (sym none ∙ among_named positions n (subst (λ q. Among q positions) (exact_unsigned_eq p n e) m)))) ∙ h.same p m;
-  within = turn_within history n old new t at h.within;
+-- the chain from one position to another
+abbrev pub in_chain : ℕ → ℕ → ℕ → Bool
+in_chain first n p = nat_le first p && nat_le p n
+
+-- positions none of which is in the chain lie beside it
+beside : (positions : List ℕ) (first n : ℕ) → list_any (in_chain first n) positions ≡ false → (p : ℕ) → Among p positions → (p < first) ⊎ (n < p)
+beside positions first n none p m = at (nat_le first p) refl (nat_le p n) refl
+  where
+    at : (b : Bool) → nat_le first p ≡ b → (c : Bool) → nat_le p n ≡ c → (p < first) ⊎ (n < p)
+    at false e c f = inl (leb-false first p e)
+    at true e false f = inr (leb-false p n f)
+    at true e true f = absurd (false≢true (sym none ∙ any_from (in_chain first n) positions p m (λ i. e i && f i)))
+
+pub comparing_goes : (history : List (List ℕ)) (positions above : List ℕ) (first n : ℕ) (old new : ℕ → Bool) → Stretch history first n old new → old n ≡ true → list_any (in_chain first n) positions ≡ false → Comparing history positions above old
+    → Comparing history positions above new
+comparing_goes history positions above first n old new t at none h = record {
+  same = λ p m. taken_beside history first n p old new t (beside positions first n none p m) ∙ h.same p m;
+  within = stretch_within history first n old new t (h.within n at);
 }
 
 -- the parents of the lowest position know none of the positions
@@ -201,22 +208,16 @@ module _ (history : List (List ℕ)) (good : IsHistoryOfParents history) (lowest
       ∙ pass_alike (λ p. not (is_known_at history (parents_at history lowest ++ flat_map (parents_at history) others) p)) (λ p. not (is_known_at history (flat_map (parents_at history) others) p)) (lowest ∷ others)
       (λ p m. ap not (known_joined history good (parents_at history lowest) (flat_map (parents_at history) others) p ∙ ap (λ b. b || is_known_at history (flat_map (parents_at history) others) p) (lowest_knows_none p m)))
 
-  -- one that the walk comes to is an ancestor of another
-  comparing_finds : (n : ℕ) (pending : ℕ → Bool) → pending n ≡ true → is_named nat_eq (lowest ∷ others) n ≡ true → Comparing history (lowest ∷ others) others pending → false ≡ is_reduced_at history (lowest ∷ others)
-  comparing_finds n pending at e h =
-      let m = number_among (lowest ∷ others) n e in
-      let low = h.within n at in
-      let there : is_named nat_eq (taken (reverse history) pending) n ≡ true = taken_here (reverse history) pending n (let same = length-reverse history in omega (arith, low, same)) at in
-      sym (by_others ∙ one_fails (λ p. not (is_known_at history (flat_map (parents_at history) others) p)) (lowest ∷ others) n m (ap not (sym (h.same n m) ∙ there)))
+  -- one that the walk takes is an ancestor of another
+  comparing_finds : (p : ℕ) (pending : ℕ → Bool) → Among p (lowest ∷ others) → is_named nat_eq (taken (reverse history) pending) p ≡ true → Comparing history (lowest ∷ others) others pending → false ≡ is_reduced_at history (lowest ∷ others)
+  comparing_finds p pending m there h =
+      sym (by_others ∙ one_fails (λ p. not (is_known_at history (flat_map (parents_at history) others) p)) (lowest ∷ others) p m (ap not (sym (h.same p m) ∙ there)))
 
   -- and where all that is pending lies below them none is
   comparing_misses : (pending : ℕ → Bool) → ((q : ℕ) → pending q ≡ true → q < lowest) → Comparing history (lowest ∷ others) others pending → true ≡ is_reduced_at history (lowest ∷ others)
   comparing_misses pending low h =
       sym (by_others ∙ pass_all (λ p. not (is_known_at history (flat_map (parents_at history) others) p)) (lowest ∷ others)
       (λ p m. ap not (sym (h.same p m) ∙ not_taken history good pending p (λ q e. let less = low q e in let least = at_least p m in omega (arith, less, least)))))
-
-pub any_named : (positions : List ℕ) (n : ℕ) → list_any (λ p. nat_eq p n) positions ≡ is_named nat_eq positions n
-any_named positions n = any_alike (λ p. nat_eq p n) (nat_eq n) positions (λ p m. nat_eq_equiv.symm p n)
 
 -- The same of positions that were split into the lowest and the others.
 module _ (history : List (List ℕ)) (good : IsHistoryOfParents history) (positions : List ℕ) (lowest : ℕ) (others : List ℕ) (split : positions ≡ lowest ∷ others) (rising : IsStrictlyIncreasing positions) (within : All (λ p. p < length history) positions) where
@@ -230,9 +231,14 @@ module _ (history : List (List ℕ)) (good : IsHistoryOfParents history) (positi
       (λ low. comparing_starts history good (lowest ∷ others) others pending (λ k d l. low (suc k) d (omega (arith, l))) same)
       within
 
-  pub reduced_finds : (n : ℕ) (pending : ℕ → Bool) → pending n ≡ true → list_any (λ p. nat_eq p n) positions ≡ true → Comparing history positions (drop 1 positions) pending → false ≡ is_reduced_at history positions
-  reduced_finds n pending at e =
-      subst (Judged pending false) (sym split) (λ r w h. comparing_finds history good lowest others r w n pending at (ap (λ ps. is_named nat_eq ps n) (sym split) ∙ sym (any_named positions n) ∙ e) h) rising within
+  pub reduced_finds : (first n : ℕ) (pending : ℕ → Bool) → Reached history first n pending → list_any (in_chain first n) positions ≡ true → Comparing history positions (drop 1 positions) pending → false ≡ is_reduced_at history positions
+  reduced_finds first n pending r e =
+      let found = found_by (in_chain first n) positions e in
+      let parts = and_parts (nat_le first found.0) (nat_le found.0 n) found.2 in
+      let low = leb-true first found.0 parts.0 in
+      let high = leb-true found.0 n parts.1 in
+      let there = taken_there history good first n found.0 pending r low high in
+      subst (λ ps. Among found.0 ps → Judged pending false ps) (sym split) (λ m r w h. comparing_finds history good lowest others r w found.0 pending m there h) found.1 rising within
 
   pub other_within : (place : ℕ) → place < length others → slice_index_or others place 0 < length history
   other_within place l = subst (λ ps. All (λ p. p < length history) ps → slice_index_or others place 0 < length history) (sym split) (λ low. low (suc place) 0 (omega (arith, l))) within

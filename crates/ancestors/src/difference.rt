@@ -1,21 +1,23 @@
 //! What either of two versions knows alone.
 
-ghost use Rattle.std.specs.Prelude.{◌≡◌, ℕ, ◌+◌, ◌<◌, ◌^◌, ◌&&◌, ◌||◌, not, nat_eq, if◌then◌else◌, ◌∷◌, length, IfOk, OnOk};
+ghost use Rattle.std.specs.Prelude.{◌≡◌, ℕ, ◌<◌, ◌≤◌, ◌&&◌, ◌||◌, not, nat_eq, if◌then◌else◌, ◌++◌, length, IfOk, OnOk};
 ghost use Rattle.std.specs.List.{All};
 ghost use Rattle.ew_model.specs.Graph.{is_named};
 ghost use Rattle.ew_model.specs.Positions.{parents_at, known_alone};
-ghost use Rattle.ancestors.specs.Spans.{positions_of, AreDescending};
+ghost use Rattle.ancestors.specs.Spans.{positions_in, positions_of, AreDescending};
 ghost use Rattle.ancestors.specs.Floors.{HasAllBelow};
 ghost use Rattle.ancestors.specs.Sides.{has_left, has_right, on_left, on_right};
 
+use crate::pending::chain_above;
 use crate::sides::{Side, Sides};
-use crate::spans::Spans;
+use crate::spans::{Span, Spans};
 use ew_model::NoMem;
 use frontier::Parentage;
 use std::alloc::Global;
 
 /// The events that version `a` knows and `b` doesn't, and those that `b` knows and `a` doesn't. Both know all events
-/// below the floor. The walk ends where nothing is pending for one of the two alone, and goes no lower than the floor.
+/// below the floor. The walk takes a whole chain of events at each step. It ends where nothing is pending for one of the
+/// two alone, and begins no chain below the floor.
 pub fn diff<G: Parentage>(
     alloc: Global,
     g: &G,
@@ -39,27 +41,32 @@ pub fn diff<G: Parentage>(
     let mut left = Spans::new(alloc);
     let mut right = Spans::new(alloc);
     while let Some((n, side)) = sides.pop_from(floor) {
-        put_alone(&mut left, &mut right, side, n)?;
-        put_parents(g, n, &mut sides, side)?;
+        let first = chain_above(g, n, sides.highest());
+        let chain = Span {
+            from: first,
+            to: n + 1,
+        };
+        put_alone(&mut left, &mut right, side, chain)?;
+        put_parents(g, first, &mut sides, side)?;
     }
     Ok((left, right))
 }
 
-/// Puts a position below all others into the spans of the one version that has it alone, if one does.
-fn put_alone(left: &mut Spans, right: &mut Spans, side: Side, lv: u32) -> Result<(), NoMem>
-    requires left { All (λ p. lv < p) (positions_of left.old) }
-    requires right { All (λ p. lv < p) (positions_of right.old) }
+/// Puts positions below all others into the spans of the one version that has them alone, if one does.
+fn put_alone(left: &mut Spans, right: &mut Spans, side: Side, chain: Span) -> Result<(), NoMem>
+    requires filled { chain.from < chain.to }
+    requires left { All (λ p. chain.to ≤ p) (positions_of left.old) }
+    requires right { All (λ p. chain.to ≤ p) (positions_of right.old) }
     requires left_order { AreDescending left.old }
     requires right_order { AreDescending right.old }
-    requires room { lv + 1 < 2 ^ 32 }
-    ensures left { OnOk result (positions_of left.new ≡ (if has_left side && not (has_right side) then lv ∷ positions_of left.old else positions_of left.old)) }
-    ensures right { OnOk result (positions_of right.new ≡ (if has_right side && not (has_left side) then lv ∷ positions_of right.old else positions_of right.old)) }
+    ensures left { OnOk result (positions_of left.new ≡ (if has_left side && not (has_right side) then positions_in chain ++ positions_of left.old else positions_of left.old)) }
+    ensures right { OnOk result (positions_of right.new ≡ (if has_right side && not (has_left side) then positions_in chain ++ positions_of right.old else positions_of right.old)) }
     ensures left_order { AreDescending left.new }
     ensures right_order { AreDescending right.new }
 {
     match side {
-        Side::Left => left.push_lower(lv),
-        Side::Right => right.push_lower(lv),
+        Side::Left => left.push_lower(chain),
+        Side::Right => right.push_lower(chain),
         Side::Both => Ok(()),
     }
 }

@@ -6,6 +6,7 @@ ghost use Rattle.std.specs.BTreeSet.{contains};
 ghost use Rattle.ew_model.specs.Graph.{is_named};
 ghost use Rattle.ancestors.specs.Sides.{has_left, has_right, is_on, on_left, on_right, AgreeFrom, IsHighest};
 
+use crate::pending::last;
 use ew_model::NoMem;
 use std::alloc::Global;
 use std::collections::BTreeSet;
@@ -76,6 +77,15 @@ impl Sides {
         let highest = self.highest_from(floor)?;
         let side = self.take(highest);
         Some((highest, side))
+    }
+
+    /// The highest position.
+    pub fn highest(&self) -> Option<u32>
+        ensures none { IfNone result ((q : ℕ) → (on_left self.now q || on_right self.now q) ≡ false) }
+        ensures highest { IfSome result (λ n. IsHighest (on_left self.now) (on_right self.now) n) }
+    {
+        let apart = higher(last(&self.left), last(&self.right));
+        higher(apart, last(&self.both))
     }
 
     /// The highest position, unless the two walks have the same pending from the floor on.
@@ -151,15 +161,6 @@ fn put_both(
     right.remove(&lv);
     both.insert(lv)?;
     Ok(())
-}
-
-/// The highest position.
-fn last(positions: &BTreeSet<u32>) -> Option<u32>
-    ensures none { IfNone result ((q : ℕ) → contains nat_cmp positions.now q ≡ false) }
-    ensures member { IfSome result (λ n. contains nat_cmp positions.now n ≡ true) }
-    ensures greatest { IfSome result (λ n. (q : ℕ) → contains nat_cmp positions.now q ≡ true → q ≤ n) }
-{
-    positions.last().copied()
 }
 
 /// The higher one of two positions, of those that there are.

@@ -1,8 +1,8 @@
 //! Spans of positions.
 
-ghost use Rattle.std.specs.Prelude.{◌≡◌, ◌+◌, ◌<◌, ◌^◌, [], ◌∷◌, OnOk, OnErr};
+ghost use Rattle.std.specs.Prelude.{◌≡◌, ◌<◌, ◌≤◌, [], ◌++◌, OnOk, OnErr};
 ghost use Rattle.std.specs.List.{All};
-ghost use Rattle.ancestors.specs.Spans.{positions_of, AreDescending};
+ghost use Rattle.ancestors.specs.Spans.{positions_in, positions_of, AreDescending};
 
 use ew_model::NoMem;
 use std::alloc::Global;
@@ -53,36 +53,32 @@ impl Spans {
         self.spans.as_slice()
     }
 
-    /// Puts in a position below all others.
-    pub(crate) fn push_lower(&mut self, lv: u32) -> Result<(), NoMem>
-        requires lower { All (λ p. lv < p) (positions_of self.old) }
-        requires room { lv + 1 < 2 ^ 32 }
-        ensures ok { OnOk result (positions_of self.new ≡ lv ∷ positions_of self.old) }
+    /// Puts in a span below all others.
+    pub(crate) fn push_lower(&mut self, span: Span) -> Result<(), NoMem>
+        requires filled { span.from < span.to }
+        requires lower { All (λ p. span.to ≤ p) (positions_of self.old) }
+        ensures ok { OnOk result (positions_of self.new ≡ positions_in span ++ positions_of self.old) }
         ensures order { AreDescending self.new }
         ensures err { OnErr result (self.new ≡ self.old) }
     {
-        add_lower(&mut self.spans, lv)
+        add_lower(&mut self.spans, span)
     }
 }
 
-/// Puts a position below those of the spans into the last span, where that begins right above it, or else into a span
-/// of its own.
-fn add_lower(spans: &mut Vec<Span>, lv: u32) -> Result<(), NoMem>
+/// Puts a span below the others into the last of them, where that begins right above it, or else behind them.
+fn add_lower(spans: &mut Vec<Span>, span: Span) -> Result<(), NoMem>
     requires order { AreDescending spans.old.items }
-    requires lower { All (λ p. lv < p) (positions_of spans.old.items) }
-    requires room { lv + 1 < 2 ^ 32 }
-    ensures ok { OnOk result (positions_of spans.new.items ≡ lv ∷ positions_of spans.old.items) }
+    requires filled { span.from < span.to }
+    requires lower { All (λ p. span.to ≤ p) (positions_of spans.old.items) }
+    ensures ok { OnOk result (positions_of spans.new.items ≡ positions_in span ++ positions_of spans.old.items) }
     ensures order { AreDescending spans.new.items }
     ensures err { OnErr result (spans.new.items ≡ spans.old.items) }
 {
     let count = spans.len();
-    if count > 0 && spans[count - 1].from == lv + 1 {
-        spans[count - 1].from = lv;
+    if count > 0 && spans[count - 1].from == span.to {
+        spans[count - 1].from = span.from;
     } else {
-        spans.push(Span {
-            from: lv,
-            to: lv + 1,
-        })?;
+        spans.push(span)?;
     }
     Ok(())
 }

@@ -383,6 +383,10 @@ impl Parentage for Graph {
     fn parents_of(&self, lv: u32) -> SmallVec<u32, 16> {
         self.events.parents_at(lv)
     }
+
+    fn chain_start(&self, lv: u32) -> u32 {
+        self.events.chain_start(lv)
+    }
 }
 
 /// Where a graph stood once: the events that came since are its tail. Contracts see how many events there were, the

@@ -1,2 +1,7 @@
 pub mod Cutting
-pub mod Pairing
+pub mod Found
+pub mod Kept
+pub mod Maximal
+pub mod OneCut
+pub mod RunEvents
+pub mod RunLines

@@ -1,2 +1,4 @@
 pub mod BareEvents
+pub mod KeptRuns
 pub mod Pieces
+pub mod Runs

@@ -1,10 +1,13 @@
 //! The events' operations and parents.
 
-ghost use Rattle.std.specs.Prelude.{◌≡◌, ℕ, ◌+◌, ◌<◌, ◌≤◌, ◌^◌, List, [], ◌∷◌, ◌++◌, length, take, Some, slice_get, OnOk, OnErr, IsOkAnd};
+ghost use Rattle.std.specs.Prelude.{◌≡◌, ℕ, ◌+◌, ◌<◌, ◌≤◌, ◌^◌, List, [], ◌∷◌, ◌++◌, length, take, Some, slice_get, vec_len, vec_capacity, OnOk, OnErr, IsOkAnd};
 ghost use Rattle.ew_model.specs.Positions.{AreParents, IsHistoryOfParents, parents_at};
 ghost use Rattle.event_runs.specs.BareEvents.{BareEvent, bare, ops_in, parents_in};
+ghost use Rattle.event_runs.specs.KeptRuns.{op_chars};
+ghost use Rattle.event_runs.specs.Runs.{AreRunsOf, IsRunCount};
 
 use crate::lists::NumberLists;
+use crate::runs::{Run, find_run, keep_below, put};
 use ew_model::NoMem;
 use ew_model::event::Op;
 use frontier::Parentage;
@@ -15,19 +18,24 @@ use std::marker::Model;
 /// The events of a history without their ids. Contracts see the list of each one's operation and its parents' positions.
 #[derive(Drop)]
 pub struct EventRuns {
-    ops: Vec<Op>,
+    runs: Vec<Run>,
+    /// The parents of each run's first event. Those of any other event are the event before it.
     parents: NumberLists,
+    /// The characters of all insertions.
+    chars: Vec<char>,
+    count: u32,
 }
 
 impl Model for EventRuns {
     ghost use Rattle.std.specs.Prelude.{List};
-    ghost use Rattle.event_runs.specs.BareEvents.{BareEvent, paired, ArePaired};
+    ghost use Rattle.event_runs.specs.BareEvents.{BareEvent};
+    ghost use Rattle.event_runs.specs.KeptRuns.{events_in, AreKept};
 
     ghost Value = { List BareEvent };
 
-    ghost view = { λ r. paired r.ops.items r.parents };
+    ghost view = { λ r. events_in r.chars.items r.runs.items r.parents };
 
-    ghost invariant = { λ r. ArePaired r.ops.items r.parents };
+    ghost invariant = { λ r. AreKept r.runs.items r.parents r.chars.items r.count };
 }
 
 impl EventRuns {
@@ -36,8 +44,10 @@ impl EventRuns {
         ensures { IsOkAnd result (λ events. events ≡ []) }
     {
         Ok(EventRuns {
-            ops: Vec::new(alloc),
+            runs: Vec::new(alloc),
             parents: NumberLists::new(alloc),
+            chars: Vec::new(alloc),
+            count: 0,
         })
     }
 
@@ -46,8 +56,16 @@ impl EventRuns {
         ensures count { result ≡ length self.now }
         ensures history { IsHistoryOfParents (parents_in self.now) }
     {
-        let _parents = &self.parents;
-        self.ops.len() as u32
+        self.count
+    }
+
+    /// How many runs the events make, each as long as it goes on. It takes no memory.
+    pub fn runs(&self) -> u32
+        ensures count { IsRunCount self.now result }
+        ensures only { (runs : List (List BareEvent)) → AreRunsOf self.now runs → length runs ≡ result }
+    {
+        let _count = self.count;
+        self.runs.len() as u32
     }
 
     /// Puts one more event behind the others.
@@ -57,9 +75,12 @@ impl EventRuns {
         ensures ok { OnOk result (self.new ≡ self.old ++ bare op parents.now ∷ []) }
         ensures err { OnErr result (self.new ≡ self.old) }
     {
-        self.ops.reserve(1)?;
-        self.parents.push(parents)?;
-        self.ops.push_reserved(op);
+        // Room for a character, used or not: behind `put` nothing fails.
+        self.chars.reserve(1)?;
+        let one = Run::of_one(self.count, op, self.chars.len() as u32);
+        put(&mut self.runs, &mut self.parents, one, parents)?;
+        put_char(&mut self.chars, op);
+        self.count += 1;
         Ok(())
     }
 
@@ -68,8 +89,9 @@ impl EventRuns {
         requires { lv < length self.now }
         ensures { slice_get (ops_in self.now) lv ≡ Some result }
     {
-        let _parents = &self.parents;
-        self.ops[lv as usize]
+        let _count = self.count;
+        let run = self.runs[find_run(&self.runs, lv)];
+        run.op_behind(lv - run.start, &self.chars)
     }
 
     /// The parents of the event at a position, rising.
@@ -78,20 +100,34 @@ impl EventRuns {
         ensures value { result.items ≡ parents_at (parents_in self.now) lv }
         ensures lower { AreParents lv result.items }
     {
-        inline_from(*self.ops.allocator(), self.parents.get(lv as usize))
+        let _count = self.count;
+        let alloc = *self.runs.allocator();
+        let place = find_run(&self.runs, lv);
+        if self.runs[place].start == lv {
+            inline_from(alloc, self.parents.get(place))
+        } else {
+            inline_from(alloc, &[lv - 1])
+        }
     }
 
     /// Leaves the first n events.
     pub fn truncate(&mut self, n: u32)
         ensures { self.new ≡ take n self.old }
     {
-        self.ops.truncate(n as usize);
-        self.parents.truncate(n as usize);
+        if n < self.count {
+            let chars = keep_below(&mut self.runs, n);
+            self.parents.truncate(self.runs.len());
+            self.chars.truncate(chars);
+            self.count = n;
+        }
     }
 }
 
 impl Parentage for EventRuns {
+    ghost use Rattle.std.specs.Prelude.{◌≡◌, ℕ, ◌<◌, length};
+    ghost use Rattle.frontier.specs.Chains.{IsChain};
     ghost use Rattle.event_runs.specs.BareEvents.{parents_in};
+    ghost use Rattle.event_runs.specs.Runs.{IsRunStart};
 
     ghost parents = { λ events. parents_in events };
 
@@ -101,6 +137,27 @@ impl Parentage for EventRuns {
 
     fn parents_of(&self, lv: u32) -> SmallVec<u32, 16> {
         self.parents_at(lv)
+    }
+
+    /// The position of the first event in the run of an event.
+    fn chain_start(&self, lv: u32) -> u32
+        requires { lv < length (parents_in self.now) }
+        ensures chain { IsChain (parents_in self.now) result lv }
+        ensures start { IsRunStart self.now lv result }
+        ensures only { (start : ℕ) → IsRunStart self.now lv start → start ≡ result }
+    {
+        let _count = self.count;
+        self.runs[find_run(&self.runs, lv)].start
+    }
+}
+
+/// Puts the operation's character, if it inserts one, behind the others, where there is room for it.
+fn put_char(chars: &mut Vec<char>, op: Op)
+    requires { vec_len chars.old < vec_capacity chars.old }
+    ensures { chars.new.items ≡ chars.old.items ++ op_chars op }
+{
+    if let Op::Ins { ch, .. } = op {
+        chars.push_reserved(ch);
     }
 }
 

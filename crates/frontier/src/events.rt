@@ -2,6 +2,7 @@
 
 ghost use Rattle.std.specs.Prelude.{◌≡◌, ℕ, ◌<◌, List, length};
 ghost use Rattle.ew_model.specs.Positions.{AreParents, IsHistoryOfParents, parents_at};
+ghost use Rattle.frontier.specs.Chains.{IsChain};
 
 use smallvec::SmallVec;
 
@@ -20,4 +21,13 @@ pub trait Parentage {
         requires { lv < length (parents self.now) }
         ensures value { result.items ≡ parents_at (parents self.now) lv }
         ensures lower { AreParents lv result.items };
+
+    /// Where a chain to the event at a position begins, in which each event has exactly the one before it as its
+    /// parents: at that event itself, or at an event before it.
+    fn chain_start(&self, lv: u32) -> u32
+        requires { lv < length (parents self.now) }
+        ensures { IsChain (parents self.now) result lv }
+    {
+        lv
+    }
 }

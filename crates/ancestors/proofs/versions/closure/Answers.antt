@@ -3,7 +3,8 @@ use Rattle.std.specs.Ordering.{nat_cmp}
 use Rattle.std.specs.BTreeSet.{contains}
 use Rattle.ancestors.specs.declared.spans.Span.{Span}
 use Rattle.ancestors.specs.Spans.{positions_of}
-use Rattle.ancestors.proofs.Walks.{Turn, Closing, turn_of_sets, turn_lessens, put_first, none_pending, closing_starts, closing_turns, closing_ends}
+use Rattle.ancestors.proofs.Chains.{Stretch, stretch_of_sets, stretch_lessens}
+use Rattle.ancestors.proofs.Walks.{Closing, reached_above, put_first, none_pending, closing_starts, closing_goes, closing_ends}
 use Rattle.ancestors.proofs.versions.closure.Goals.{In_ok-put_parents}
 use Rattle.ancestors.proofs.versions.closure.Goals as goal
 
@@ -17,26 +18,25 @@ loop-n-init g c =
     )
 
 pub push_lower-requires-clause-lower : goal.push_lower-requires-clause-lower
-push_lower-requires-clause-lower g c = c.loop-n.invariant.0.lower c.in-Some.n (search rules)
+push_lower-requires-clause-lower g c = λ k d l. let low = c.loop-n.invariant.0.lower c.in-Some.n (search rules) k d l in omega (arith, low)
 
-pub push_lower-requires-clause-room : goal.push_lower-requires-clause-room
-push_lower-requires-clause-room g c =
-    let low = c.loop-n.invariant.0.within c.in-Some.n (search rules) in
-    omega (arith, low, c.count-count.ensures.count, c.count-count.type_inv)
-
-turned : (g : _) (c : In_ok-put_parents g) → Turn (g.G.Parentage.parents c.args.g.now) c.in-Some.n (contains nat_cmp c.loop-n.pending) (contains nat_cmp c.put_parents.new.pending)
+turned : (g : _) (c : In_ok-put_parents g) → Stretch (g.G.Parentage.parents c.args.g.now) c.chain_above-first.result c.in-Some.n (contains nat_cmp c.loop-n.pending) (contains nat_cmp c.put_parents.new.pending)
 turned g c =
-    turn_of_sets (g.G.Parentage.parents c.args.g.now) c.count-count.ensures.history c.in-Some.n c.loop-n.pending c.pop_last.new.self c.put_parents.new.pending c.loop-n.invariant.0.within
-    (search rules) c.in-Some.ensures.greatest c.in-Some.ensures.updates.0 c.in_ok-put_parents.ensures.all
+    let h = g.G.Parentage.parents c.args.g.now in
+    let n = c.in-Some.n in
+    let first = c.chain_above-first.result in
+    let reached = reached_above h first n c.loop-n.pending c.pop_last.new.self c.last.result (c.loop-n.invariant.0.within n (search rules)) c.chain_above-first.ensures.chain
+    (search rules) c.in-Some.ensures.greatest c.in-Some.ensures.updates.0 c.last.ensures.none c.last.ensures.greatest c.chain_above-first.ensures.above in
+    stretch_of_sets h c.count-count.ensures.history first n c.loop-n.pending c.pop_last.new.self c.put_parents.new.pending reached c.in-Some.ensures.updates.0 c.in_ok-put_parents.ensures.all
 
 pub loop-n-smaller : goal.loop-n-smaller
-loop-n-smaller g c = turn_lessens (g.G.Parentage.parents c.args.g.now) c.in-Some.n (contains nat_cmp c.loop-n.pending) (contains nat_cmp c.put_parents.new.pending) (turned g c)
+loop-n-smaller g c = stretch_lessens (g.G.Parentage.parents c.args.g.now) c.chain_above-first.result c.in-Some.n (contains nat_cmp c.loop-n.pending) (contains nat_cmp c.put_parents.new.pending) (turned g c)
 
 pub loop-n-preserved : goal.loop-n-preserved
 loop-n-preserved g c =
     let h = g.G.Parentage.parents c.args.g.now in (
       subst (Closing h c.args.version.now (contains nat_cmp c.put_parents.new.pending)) (sym c.in_ok-push_lower.ensures.ok)
-          (closing_turns h c.args.version.now (positions_of c.loop-n.found) c.in-Some.n (contains nat_cmp c.loop-n.pending) (contains nat_cmp c.put_parents.new.pending) (turned g c) (search rules) c.loop-n.invariant.0),
+          (closing_goes h c.args.version.now (positions_of c.loop-n.found) c.chain_above-first.result c.in-Some.n (contains nat_cmp c.loop-n.pending) (contains nat_cmp c.put_parents.new.pending) (turned g c) (search rules) c.loop-n.invariant.0),
       c.push_lower.ensures.order,
     )
 

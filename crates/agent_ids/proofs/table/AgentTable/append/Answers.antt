@@ -1,16 +1,19 @@
-use Rattle.std.proofs.Common.{◌≡◌, ◌∷◌, ◌++◌, [], ℕ, List, Vec, Global, length, map, refl, sym, ap, subst, arith, length-append}
-use Rattle.std.proofs.lemmas.List.{length-map}
+use Rattle.std.proofs.Common.{◌≡◌, ◌∷◌, ◌++◌, [], List, length, refl, sym, ap, subst, arith, length-append}
 use Rattle.ew_model.specs.declared.id.Id.{Id}
 use Rattle.agent_ids.specs.Agents.{count_of}
 use Rattle.agent_ids.specs.Table.{IsTable}
-use Rattle.agent_ids.proofs.OwnPositions.{kept_alike}
+use Rattle.agent_ids.proofs.OwnPositions.{kept_alike, own_few}
 use Rattle.agent_ids.proofs.Numbers.{numbered_push}
 use Rattle.agent_ids.proofs.table.AgentTable.append.Goals as goal
 
 pub add_position-requires : goal.add_position-requires
 add_position-requires c =
     let alike = kept_alike _ _ _ c.self.invariant.agents in
-    record { alike = omega (arith, alike, c.self.inside.positions.ok.0, length-map c.self.inside.positions.items (λ (v : Vec ℕ Global). v.items)) }
+    let long = ap (length {A = Id}) c.self.view_is in
+    record {
+      alike = omega (arith, alike, c.self.inside.positions.ok.0);
+      room = own_few c.self.inside.ids c.self.inside.names.keys c.self.inside.positions.items c.self.invariant.agents (omega (arith, c.requires.room, long));
+    }
 
 pub invariant_of-self-in_default : goal.invariant_of-self-in_default
 invariant_of-self-in_default c =
@@ -19,7 +22,7 @@ invariant_of-self-in_default c =
     let place : length ids ≡ c.len-lv.result = sym c.len-lv.ensures in
     let next = subst (λ (xs : List Id). c.args.id.seq ≡ count_of xs c.args.id.agent) (sym c.self.view_is) c.requires.next in
     let long = ap (length {A = Id}) c.self.view_is in
-    subst (λ (xs : List Id). IsTable xs c.add_position.new.names.keys (map (λ (v : Vec ℕ Global). v.items) c.add_position.new.positions.items)) more (record {
+    subst (λ (xs : List Id). IsTable xs c.add_position.new.names.keys c.add_position.new.positions.items) more (record {
       agents = c.in_default.ensures.ok ids c.args.id c.self.invariant.agents place refl;
       numbered = numbered_push ids c.args.id c.self.invariant.numbered next;
       few = omega (arith, c.requires.room, long, length-append ids (c.args.id ∷ []));

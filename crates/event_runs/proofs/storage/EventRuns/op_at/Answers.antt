@@ -1,19 +1,51 @@
-use Rattle.std.proofs.Common.{◌≡◌, ◌∙◌, ◌<◌, List, length, slice_get, Some, refl, sym, ap, subst, arith}
-use Rattle.std.proofs.lemmas.Option.{slice_get_read}
-use Rattle.ew_model.specs.declared.event.Op.{Op}
+use Rattle.std.proofs.Common.{◌∙◌, ◌-◌, ℕ, List, length, slice_get, option_map, Some, sym, ap, subst, arith}
+use Rattle.std.proofs.lemmas.Option.{slice_get-map}
+use Rattle.event_runs.specs.declared.runs.Run.{Run}
 use Rattle.event_runs.specs.BareEvents.{BareEvent, ops_in}
-use Rattle.event_runs.proofs.Pairing.{length-paired, ops_in-paired}
+use Rattle.event_runs.specs.KeptRuns.{op_in, events_in, AreRuns}
+use Rattle.event_runs.proofs.Found.{held_within, found, within_count}
 use Rattle.event_runs.proofs.storage.EventRuns.op_at.Goals as goal
+
+pub find_run-requires : goal.find_run-requires
+find_run-requires c =
+    let cs = c.self.inside.chars.items in
+    let low = within_count cs c.self.inside.runs.items c.self.inside.parents c.self.inside.count c.args.lv c.args.self.now c.self.invariant c.self.view_is c.requires in
+    (c.self.inside.parents, c.self.inside.count, length cs, subst (λ (rs : List Run). AreRuns 0 0 rs c.self.inside.parents c.self.inside.count (length cs)) (sym c.deref.ensures.value) c.self.invariant.in_line, low, omega arith)
 
 pub index-requires : goal.index-requires
 index-requires c =
-    let events = ap length c.self.view_is in
-    omega (arith, events, c.requires, length-paired c.self.inside.ops.items c.self.inside.parents c.self.invariant.alike, c.self.invariant.alike, c.self.inside.ops.ok.0)
+    let low = held_within c.self.inside.runs.items c.deref.result.now c.find_run.result c.args.lv c.deref.ensures.value c.find_run.ensures in
+    omega (arith, low, c.self.inside.runs.ok.0)
+
+pub overflow_sub-lv : goal.overflow_sub-lv
+overflow_sub-lv c =
+    (found c.self.inside.chars.items c.self.inside.runs.items c.deref.result.now c.self.inside.parents c.self.inside.count c.find_run.result c.args.lv c.index.result.now
+    c.self.invariant c.deref.ensures.value c.find_run.ensures c.index.ensures).from
+
+pub op_behind-requires-clause-within : goal.op_behind-requires-clause-within
+op_behind-requires-clause-within c =
+    let f = found c.self.inside.chars.items c.self.inside.runs.items c.deref.result.now c.self.inside.parents c.self.inside.count c.find_run.result c.args.lv c.index.result.now
+    c.self.invariant c.deref.ensures.value c.find_run.ensures c.index.ensures in
+    let from = f.from in let to = f.to in omega (arith, from, to)
+
+pub op_behind-requires-clause-fits : goal.op_behind-requires-clause-fits
+op_behind-requires-clause-fits c =
+    (found c.self.inside.chars.items c.self.inside.runs.items c.deref.result.now c.self.inside.parents c.self.inside.count c.find_run.result c.args.lv c.index.result.now
+    c.self.invariant c.deref.ensures.value c.find_run.ensures c.index.ensures).within.fits
+
+pub op_behind-requires-clause-chars : goal.op_behind-requires-clause-chars
+op_behind-requires-clause-chars c =
+    let f = found c.self.inside.chars.items c.self.inside.runs.items c.deref.result.now c.self.inside.parents c.self.inside.count c.find_run.result c.args.lv c.index.result.now
+    c.self.invariant c.deref.ensures.value c.find_run.ensures c.index.ensures in
+    let chars = f.within.chars in let long = ap (length {A = ℕ}) c.deref-2.ensures.value in omega (arith, chars, long)
 
 pub returns : goal.returns
 returns c =
-    let ops = c.self.inside.ops.items in
-    let events = ap length c.self.view_is in
-    let there : c.args.lv < length ops = omega (arith, events, c.requires, length-paired ops c.self.inside.parents c.self.invariant.alike, c.self.invariant.alike) in
-    let all : ops ≡ ops_in c.args.self.now = sym (ops_in-paired ops c.self.inside.parents c.self.invariant.alike) ∙ ap (λ (es : List BareEvent). ops_in es) c.self.view_is in
-    subst (λ (os : List Op). slice_get os c.args.lv ≡ Some c.index.result.now) all (slice_get_read ops (length ops) c.args.lv c.index.result.now refl there c.index.ensures)
+    let run = c.index.result.now in
+    let f = found c.self.inside.chars.items c.self.inside.runs.items c.deref.result.now c.self.inside.parents c.self.inside.count c.find_run.result c.args.lv run
+    c.self.invariant c.deref.ensures.value c.find_run.ensures c.index.ensures in
+    ap (λ (es : List BareEvent). slice_get (ops_in es) c.args.lv) (sym c.self.view_is)
+    ∙ slice_get-map (λ (e : BareEvent). e.op) (events_in c.self.inside.chars.items c.self.inside.runs.items c.self.inside.parents) c.args.lv
+    ∙ ap (option_map (λ (e : BareEvent). e.op)) f.event
+    ∙ ap (λ (chars : List ℕ). Some (op_in run.kind run.at run.chars_before chars (c.args.lv - run.start))) (sym c.deref-2.ensures.value)
+    ∙ ap Some (sym c.op_behind.ensures)

@@ -1,0 +1,264 @@
+//! Runs of neighbouring events.
+
+ghost use Rattle.std.specs.Prelude.{◌≡◌, ◌↔◌, ℕ, suc, ◌+◌, ◌<◌, ◌≤◌, ◌^◌, List, [], ◌∷◌, ◌++◌, length, slice_set, slice_get, Some, IsTrue, IfSome, IfNone, OnOk, OnErr};
+ghost use Rattle.std.specs.List.{AllWithin};
+ghost use Rattle.event_runs.specs.declared.runs.Run.{Run};
+ghost use Rattle.event_runs.specs.declared.runs.RunKind.{RunKind};
+ghost use Rattle.event_runs.specs.KeptRuns.{op_in, run_of_one, inserts, other_kind, longer, shorter, chars_to_end, IsNext, JoinsAs, LastJoinsAs, Fits, AreRuns, IsHeldAt, GrowBy, AreCutAt};
+
+use crate::lists::NumberLists;
+use ew_model::NoMem;
+use ew_model::event::Op;
+
+/// How the operations of a run go on from one another.
+#[derive(Clone, Copy)]
+pub enum RunKind {
+    /// Insertions, each right behind the one before.
+    Insertions,
+    /// Deletions at one index.
+    Deletions,
+    /// Deletions, each at the index right before that of the one before.
+    BackDeletions,
+}
+
+/// Neighbouring events, each on the one before, of one kind.
+#[derive(Clone, Copy)]
+pub struct Run {
+    /// The position of the first event.
+    pub start: u32,
+    /// How many more there are.
+    pub more: u32,
+    pub kind: RunKind,
+    /// The index of the first operation.
+    pub at: u32,
+    /// How many characters the runs before this one insert: the place of its own first one.
+    pub chars_before: u32,
+}
+
+impl RunKind {
+    /// Whether a run of the kind inserts characters.
+    fn inserts(self) -> bool
+        ensures { result ≡ inserts self }
+    {
+        match self {
+            RunKind::Insertions => true,
+            RunKind::Deletions => false,
+            RunKind::BackDeletions => false,
+        }
+    }
+
+    /// The kind that a run of one event could be of as well.
+    fn other(self) -> RunKind
+        ensures { result ≡ other_kind self }
+    {
+        match self {
+            RunKind::Insertions => RunKind::Insertions,
+            RunKind::Deletions => RunKind::BackDeletions,
+            RunKind::BackDeletions => RunKind::Deletions,
+        }
+    }
+
+    /// Whether an index is the one behind those of a first operation and so many more of the kind.
+    fn has_next(self, at: u32, more: u32, next: u32) -> bool
+        ensures { IsTrue result ↔ IsNext self at more next }
+    {
+        match self {
+            RunKind::Insertions => next > at && next - at - 1 == more,
+            RunKind::Deletions => next == at,
+            RunKind::BackDeletions => at > next && at - next - 1 == more,
+        }
+    }
+}
+
+impl Run {
+    /// The run of one event, so many characters being inserted before it.
+    pub fn of_one(start: u32, op: Op, chars_before: u32) -> Run
+        ensures { result ≡ run_of_one start op chars_before }
+    {
+        let (kind, at) = match op {
+            Op::Ins { at, .. } => (RunKind::Insertions, at),
+            Op::Del { at } => (RunKind::Deletions, at),
+        };
+        Run {
+            start,
+            more: 0,
+            kind,
+            at,
+            chars_before,
+        }
+    }
+
+    /// How many characters there are up to the end of the run.
+    pub fn chars_to_end(&self) -> usize
+        ensures { result ≡ chars_to_end self.now }
+    {
+        let before = self.chars_before as usize;
+        match self.kind {
+            RunKind::Insertions => before + self.more as usize + 1,
+            RunKind::Deletions => before,
+            RunKind::BackDeletions => before,
+        }
+    }
+
+    /// The operation so many places behind the first one.
+    pub fn op_behind(&self, offset: u32, chars: &[char]) -> Op
+        requires within { offset ≤ self.now.more }
+        requires fits { Fits self.now.kind self.now.at self.now.more }
+        requires chars { chars_to_end self.now ≤ length chars.now }
+        ensures { result ≡ op_in self.now.kind self.now.at self.now.chars_before chars.now offset }
+    {
+        match self.kind {
+            RunKind::Insertions => Op::Ins {
+                at: self.at + offset,
+                ch: chars[self.chars_before as usize + offset as usize],
+            },
+            RunKind::Deletions => Op::Del { at: self.at },
+            RunKind::BackDeletions => Op::Del {
+                at: self.at - offset,
+            },
+        }
+    }
+
+    /// The kind that the run is of once it has the event of another one behind its own.
+    fn kind_with(&self, one: &Run) -> Option<RunKind>
+        ensures some { IfSome result (λ kind. JoinsAs self.now one.now kind) }
+        ensures none { IfNone result ((kind : RunKind) → JoinsAs self.now one.now kind → ⊥) }
+    {
+        if self.kind.inserts() != one.kind.inserts() {
+            None
+        } else if self.kind.has_next(self.at, self.more, one.at) {
+            Some(self.kind)
+        } else if self.more == 0 && self.kind.other().has_next(self.at, self.more, one.at) {
+            Some(self.kind.other())
+        } else {
+            None
+        }
+    }
+}
+
+/// How many of the runs begin below a position.
+fn count_below(runs: &[Run], end: u32) -> usize
+    requires { (lists : List (List ℕ)) × (count : ℕ) × (chars : ℕ) × AreRuns 0 0 runs.now lists count chars }
+    ensures bound { result ≤ length runs.now }
+    ensures below { AllWithin (λ r. r.start < end) runs.now 0 result }
+    ensures above { AllWithin (λ r. end ≤ r.start) runs.now result (length runs.now) }
+{
+    runs.partition_point(|run| run.start < end)
+}
+
+/// The place of the run that has the event at a position.
+pub fn find_run(runs: &[Run], position: u32) -> usize
+    requires { (lists : List (List ℕ)) × (count : ℕ) × (chars : ℕ) × AreRuns 0 0 runs.now lists count chars × (position < count) × (count < 2 ^ 32) }
+    ensures { IsHeldAt runs.now result position }
+{
+    count_below(runs, position + 1) - 1
+}
+
+/// Puts the event of a run of one behind the others: into the last run, where the two go together, or else as a run of
+/// its own.
+pub fn put(
+    runs: &mut Vec<Run>,
+    lists: &mut NumberLists,
+    one: Run,
+    parents: &[u32],
+) -> Result<(), NoMem>
+    requires runs { AreRuns 0 0 runs.old.items lists.old one.start one.chars_before }
+    requires one { one.more ≡ 0 }
+    requires fits { one.at < 2 ^ 32 }
+    requires room { one.start + 1 < 2 ^ 32 }
+    ensures ok { OnOk result (GrowBy runs.old.items runs.new.items lists.old lists.new one parents.now) }
+    ensures same_runs { OnErr result (runs.new.items ≡ runs.old.items) }
+    ensures same_lists { OnErr result (lists.new ≡ lists.old) }
+{
+    match kind_of_last(runs, &one, parents) {
+        Some(kind) => {
+            lengthen_last(runs, kind);
+            Ok(())
+        }
+        None => start_run(runs, lists, one, parents),
+    }
+}
+
+/// The kind that the last run is of once it has the event of another one, with these parents, behind its own.
+fn kind_of_last(runs: &[Run], one: &Run, parents: &[u32]) -> Option<RunKind>
+    requires { (lists : List (List ℕ)) × (count : ℕ) × (chars : ℕ) × AreRuns 0 0 runs.now lists count chars × (count < 2 ^ 32) }
+    ensures some { IfSome result (λ kind. LastJoinsAs runs.now one.now parents.now kind) }
+    ensures none { IfNone result ((kind : RunKind) → LastJoinsAs runs.now one.now parents.now kind → ⊥) }
+{
+    let run = runs.last()?;
+    if is_only(parents, run.start + run.more) {
+        run.kind_with(one)
+    } else {
+        None
+    }
+}
+
+/// Whether the position stands in the list alone.
+fn is_only(positions: &[u32], position: u32) -> bool
+    ensures { IsTrue result ↔ (positions.now ≡ position ∷ []) }
+{
+    positions == [position].as_slice()
+}
+
+/// Gives the last run an event more, and a kind.
+fn lengthen_last(runs: &mut Vec<Run>, kind: RunKind)
+    requires { (lists : List (List ℕ)) × (count : ℕ) × (chars : ℕ) × AreRuns 0 0 runs.old.items lists count chars × (count < 2 ^ 32) }
+    ensures { (place : ℕ) (r : Run) → length runs.old.items ≡ suc place → slice_get runs.old.items place ≡ Some r → runs.new.items ≡ slice_set runs.old.items place (longer r kind) }
+{
+    let count = runs.len();
+    if count > 0 {
+        let run = runs[count - 1];
+        runs[count - 1] = Run {
+            more: run.more + 1,
+            kind,
+            ..run
+        };
+    }
+}
+
+/// Puts a run behind the others, and the parents of its first event.
+fn start_run(
+    runs: &mut Vec<Run>,
+    lists: &mut NumberLists,
+    one: Run,
+    parents: &[u32],
+) -> Result<(), NoMem>
+    ensures runs { OnOk result (runs.new.items ≡ runs.old.items ++ one ∷ []) }
+    ensures lists { OnOk result (lists.new ≡ lists.old ++ parents.now ∷ []) }
+    ensures same_runs { OnErr result (runs.new.items ≡ runs.old.items) }
+    ensures same_lists { OnErr result (lists.new ≡ lists.old) }
+{
+    runs.reserve(1)?;
+    lists.push(parents)?;
+    runs.push_reserved(one);
+    Ok(())
+}
+
+/// Leaves the events below a position, and says how many characters they insert.
+pub fn keep_below(runs: &mut Vec<Run>, end: u32) -> usize
+    requires { (lists : List (List ℕ)) × (count : ℕ) × (chars : ℕ) × AreRuns 0 0 runs.old.items lists count chars }
+    ensures { (lists : List (List ℕ)) (count chars : ℕ) → AreRuns 0 0 runs.old.items lists count chars → end ≤ count → AreCutAt runs.old.items runs.new.items lists chars end result }
+{
+    let kept = count_below(runs, end);
+    runs.truncate(kept);
+    shorten_last(runs, end)
+}
+
+/// Leaves the events of the last run below a position, and says how many characters there are up to their end.
+fn shorten_last(runs: &mut Vec<Run>, end: u32) -> usize
+    requires { AllWithin (λ r. r.start < end) runs.old.items 0 (length runs.old.items) }
+    ensures last { (place : ℕ) (r : Run) → length runs.old.items ≡ suc place → slice_get runs.old.items place ≡ Some r → (runs.new.items ≡ slice_set runs.old.items place (shorter r end)) × (result ≡ chars_to_end (shorter r end)) }
+    ensures none { runs.old.items ≡ [] → (runs.new.items ≡ []) × (result ≡ 0) }
+{
+    let count = runs.len();
+    if count > 0 {
+        let run = Run {
+            more: end - runs[count - 1].start - 1,
+            ..runs[count - 1]
+        };
+        runs[count - 1] = run;
+        run.chars_to_end()
+    } else {
+        0
+    }
+}
