@@ -14,7 +14,7 @@ use Rattle.ew_model.specs.Sound.{IsSound, IsSoundId, IsSoundOp}
 use Rattle.ew_model.proofs.Decimals.{decimal_lacks, decimal_once}
 use Rattle.ew_model.proofs.EscapedText.{escaped_same}
 use Rattle.ew_model.proofs.LineLaws.{Lacks, cut_once, never_cut}
-use Rattle.history_view.specs.Listings.{event_line, log_text, op_words}
+use Rattle.history_words.specs.Listings.{event_line, log_text, op_words}
 use Rattle.history_view.specs.LogLaw.{LogsDiffer}
 
 lacks_append : (b : ℕ) (xs ys : List ℕ) → Lacks xs b → Lacks ys b → Lacks (xs ++ ys) b

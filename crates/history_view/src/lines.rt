@@ -2,7 +2,7 @@
 
 ghost use Rattle.std.specs.Prelude.{◌≡◌, [], ◌++◌, ◌∷◌, OnOk, codes, decimal};
 ghost use Rattle.ew_model.specs.Scripts.{escaped_char, id_text, spaced, version_text};
-ghost use Rattle.history_view.specs.Listings.{event_line, id_line, number_line, op_words};
+ghost use Rattle.history_words.specs.Listings.{event_line, id_line, number_line, op_words};
 
 use event_words::print::{print_char, print_id, print_version};
 use ew_model::NoMem;

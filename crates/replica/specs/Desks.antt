@@ -15,7 +15,7 @@ use Rattle.replica.specs.declared.answer.Answer.{Answer}
 use Rattle.replica.specs.declared.answer.Answer.TheVariants as answer
 use Rattle.replica.specs.declared.desk.Desk.{Desk}
 use Rattle.replica.specs.Counting.{Counted}
-use Rattle.replica.specs.Receiving.{repeats_in, refused_in}
+use Rattle.history_words.specs.Tallies.{repeats_in, refused_in}
 use Rattle.waiting_pool.specs.Waiting.{Waiting, events_of}
 use Rattle.waiting_pool.specs.Knowing.{IsBehind}
 

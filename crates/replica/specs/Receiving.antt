@@ -1,53 +1,14 @@
 -- What receiving leaves, and what is told of it.
-use Rattle.std.specs.Prelude.{◌≡◌, ℕ, Bool, true, false, List, ◌++◌, length, count_by, flat_map, Option, Some, None, option_map}
-use Rattle.std.specs.Option.{option_to_list}
-use Rattle.ew_model.specs.declared.id.Id.{Id}
+use Rattle.std.specs.Prelude.{◌≡◌, ℕ, true, List, ◌++◌, length}
 use Rattle.ew_model.specs.declared.event.Event.{Event}
-use Rattle.ew_model.specs.declared.verdict.Refusal.{Refusal}
-use Rattle.ew_model.specs.declared.verdict.Refusal.TheVariants as why
-use Rattle.ew_model.specs.Arrival.{Answer, Outcome, judgements, desk_of, arrive}
+use Rattle.ew_model.specs.Arrival.{Outcome, judgements, desk_of, arrive}
 use Rattle.ew_model.specs.Cuts.{latest_cut}
 use Rattle.ew_model.specs.Kept.{ReplicaState}
 use Rattle.ew_model.specs.Limits.{LimitNumbers}
-use Rattle.ew_model.specs.Verdicts.{Ruling, is_verdict_good}
-use Rattle.ew_model.specs.Verdicts.Ruling.{Repeat, Clash, SelfParent, TooManyParents, ParentsUnsorted, PoolFull, NotReduced, Skipped, GraphFull, OutOfRange}
+use Rattle.history_words.specs.Tallies.{accepted_in, repeats_in, refused_in}
 use Rattle.replica.specs.declared.took.Took.{Took}
 use Rattle.replica.specs.declared.took.Stopped.{Stopped}
 use Rattle.replica.specs.Fronts.{IsFront}
-
--- why an event isn't taken; none where it is held now, waits, or was there before
-abbrev pub refusal_in : Ruling → Option Refusal
-refusal_in Clash = Some why.Clash
-refusal_in SelfParent = Some why.SelfParent
-refusal_in TooManyParents = Some why.TooManyParents
-refusal_in ParentsUnsorted = Some why.ParentsUnsorted
-refusal_in PoolFull = Some why.PoolFull
-refusal_in NotReduced = Some why.NotReduced
-refusal_in Skipped = Some why.Skipped
-refusal_in GraphFull = Some why.GraphFull
-refusal_in (OutOfRange len) = Some (why.OutOfRange len)
-refusal_in ruling = None
-
--- the event was there before
-abbrev pub is_repeat : Ruling → Bool
-is_repeat Repeat = true
-is_repeat ruling = false
-
--- the event's id with the reason, where it is refused
-abbrev pub refused_by : Answer → List (Id × Refusal)
-refused_by a = option_to_list (option_map (λ reason. (a.event.id, reason)) (refusal_in a.ruling))
-
--- those that were refused, in order of judging
-abbrev pub refused_in : List Answer → List (Id × Refusal)
-refused_in answers = flat_map refused_by answers
-
--- how many were appended
-abbrev pub accepted_in : List Answer → ℕ
-accepted_in answers = count_by (λ (a : Answer). is_verdict_good a.ruling) answers
-
--- how many were there before
-abbrev pub repeats_in : List Answer → ℕ
-repeats_in answers = count_by (λ (a : Answer). is_repeat a.ruling) answers
 
 -- The answers are counted, how many wait now, and the greatest critical cut that isn't above the number held before.
 pub record Tells (before : ℕ) (o : Outcome) (took : Took) : Type 0 where
