@@ -1,5 +1,6 @@
 //! The files of the system as a shelf.
-ghost use Rattle.std.specs.Prelude.{◌≡◌, ◌≢◌, ◌+◌, ◌<◌, ◌≤◌, ◌^◌, None, Some, Ok, take, IsErr, IfOk, IfErr, IfSome, vec_len};
+ghost use Rattle.std.specs.Prelude.{◌≡◌, ◌≢◌, ◌+◌, ◌<◌, ◌≤◌, ◌^◌, None, Ok, take, IsErr, IfOk, IfErr, IfSome, IsSomeAnd, OnOk, vec_len};
+ghost use Rattle.std.specs.Io.KnownBytes.{Appends};
 ghost use Rattle.std.specs.IoError.{error_kind};
 
 use crate::{Counter, Shelf, ShelfFault};
@@ -16,18 +17,24 @@ pub struct DirShelf<R> {
     alloc: Global,
     pub faults: Counter,
     pub misses: Counter,
+    pub loads: Counter,
+    pub lost: Counter,
 }
 
 impl<R: Files> DirShelf<R> {
     pub fn new(alloc: Global, system: R) -> Self
         ensures faults { result.faults ≡ 0 }
         ensures misses { result.misses ≡ 0 }
+        ensures loads { result.loads ≡ 0 }
+        ensures lost { result.lost ≡ 0 }
     {
         DirShelf {
             system,
             alloc,
             faults: Counter::new(),
             misses: Counter::new(),
+            loads: Counter::new(),
+            lost: Counter::new(),
         }
     }
 }
@@ -39,9 +46,14 @@ impl<R: Files> Shelf for DirShelf<R> {
 
     ghost misses = { λ s. s.misses };
 
+    ghost loads = { λ s. s.loads };
+
+    ghost lost = { λ s. s.lost };
+
     /// `None` is for a file that isn't there. Whatever else the system refuses is a fault.
     fn load(&mut self, name: &str, max: usize) -> Result<Option<Vec<u8>>, ShelfFault> {
-        match load_file(&self.system, self.alloc, name, max) {
+        self.loads.rise();
+        match front_of(self.alloc, fs::open(&self.system, name), max) {
             Ok(Some(bytes)) => Ok(Some(bytes)),
             Ok(None) => {
                 self.misses.rise();
@@ -50,6 +62,7 @@ impl<R: Files> Shelf for DirShelf<R> {
             Err(ShelfFault::OutOfMemory) => Err(ShelfFault::OutOfMemory),
             Err(ShelfFault::Failed) => {
                 self.faults.rise();
+                self.lost.rise();
                 Err(ShelfFault::Failed)
             }
         }
@@ -68,29 +81,21 @@ impl<R: Files> Shelf for DirShelf<R> {
     }
 }
 
-fn load_file<R: Files>(
-    system: &R,
+// What is loaded of a file that was opened: its first `max + 1` bytes, or all where there are fewer. Nothing where it isn't
+// there; any other error is a fault.
+fn front_of<F: Read + Drop>(
     alloc: Global,
-    name: &str,
+    opened: io::Result<F>,
     max: usize,
 ) -> Result<Option<Vec<u8>>, ShelfFault>
     requires { max < 2 ^ 62 }
-    ensures { IfOk result (λ loaded. IfSome loaded (λ v. vec_len v ≤ max + 1)) }
-{
-    match found(fs::open(system, name))? {
-        Some(file) => Ok(Some(read_front(alloc, file, max)?)),
-        None => Ok(None),
-    }
-}
-
-// Nothing where the file isn't there; any other error is a fault.
-fn found<F: Drop>(opened: io::Result<F>) -> Result<Option<F>, ShelfFault>
-    ensures opened { IfOk opened (λ f. result ≡ Ok (Some f)) }
+    ensures most { IfOk result (λ found. IfSome found (λ v. vec_len v ≤ max + 1)) }
+    ensures opened { IfOk opened (λ f. IfOk result (λ found. IsSomeAnd found (λ v. IfSome (F.remaining f) (λ xs. v.items ≡ take (max + 1) xs)))) }
     ensures missing { IfErr opened (λ e. error_kind e ≡ ErrorKind.NotFound → result ≡ Ok None) }
     ensures refused { IfErr opened (λ e. error_kind e ≢ ErrorKind.NotFound → IsErr result) }
 {
     match opened {
-        Ok(file) => Ok(Some(file)),
+        Ok(file) => Ok(Some(read_front(alloc, file, max)?)),
         Err(error) if error.kind() == ErrorKind::NotFound => Ok(None),
         Err(error) => Err(fault_of(&error)),
     }
@@ -149,7 +154,7 @@ fn fill_and_rename<R: Files>(
     name: &str,
     bytes: &[u8],
 ) -> Result<(), ShelfFault> {
-    let filled = match fill(file, bytes) {
+    let filled = match fill_and_close(file, bytes) {
         Ok(()) => fs::rename(system, neighbour, name),
         Err(error) => Err(error),
     };
@@ -162,8 +167,14 @@ fn fill_and_rename<R: Files>(
     }
 }
 
-// Closes the file, too.
-fn fill<F: Write + OpenFile + Drop>(mut file: F, bytes: &[u8]) -> io::Result<()> {
+fn fill_and_close<F: Write + OpenFile + Drop>(mut file: F, bytes: &[u8]) -> io::Result<()> {
+    fill(&mut file, bytes)
+}
+
+// Writes all of the bytes, and has the system keep them.
+fn fill<F: Write + OpenFile>(file: &mut F, bytes: &[u8]) -> io::Result<()>
+    ensures { OnOk result (Appends (F.contents file.old) (F.contents file.new) bytes.now) }
+{
     file.write_all(bytes)?;
     file.sync_all()
 }

@@ -41,6 +41,3 @@ pub use sure_shelf::SureShelf;
 pub use sure_sink::SureSink;
 pub use sure_source::SureSource;
 pub use unread_bytes::UnreadBytes;
-
-#[cfg(test)]
-mod tests;

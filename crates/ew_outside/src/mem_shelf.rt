@@ -1,7 +1,7 @@
 //! A shelf in memory that fails where a test asks for it.
 ghost use Rattle.std.specs.Prelude.{⊤, ◌≡◌, ◌+◌, ◌<◌, ◌≤◌, ◌^◌, ◌↔◌, Some, IfOk, IfSome, IsTrue, Contains, vec_len};
 ghost use Rattle.std.specs.FinMap.{empty};
-ghost use Rattle.ew_outside.specs.Counts.{CountsFaults, CountsMisses, is_failed};
+ghost use Rattle.ew_outside.specs.Counts.{CountsFaults, CountsMisses, is_failed, next};
 ghost use Rattle.ew_outside.specs.Files.{LoadGives, StoreLeaves};
 ghost use Rattle.ew_outside.specs.Memory.{after_call, StoresAsPlanned};
 
@@ -15,6 +15,8 @@ pub struct MemShelf {
     pub calls: Calls,
     pub landing: Vec<u64>,
     pub misses: Counter,
+    pub loads: Counter,
+    pub lost: Counter,
 }
 
 impl MemShelf {
@@ -24,12 +26,16 @@ impl MemShelf {
         ensures calls { result.calls ≡ record { failing = failing.items; made = 0; faults = 0 } }
         ensures landing { result.landing.items ≡ landing.items }
         ensures misses { result.misses ≡ 0 }
+        ensures loads { result.loads ≡ 0 }
+        ensures lost { result.lost ≡ 0 }
     {
         MemShelf {
             files: FileMap::new(alloc),
             calls: Calls::new(failing),
             landing,
             misses: Counter::new(),
+            loads: Counter::new(),
+            lost: Counter::new(),
         }
     }
 
@@ -41,6 +47,8 @@ impl MemShelf {
         ensures calls { self.new.calls ≡ after_call self.old.calls (is_failed result) }
         ensures landing { self.new.landing.items ≡ self.old.landing.items }
         ensures misses { self.new.misses ≡ self.old.misses }
+        ensures loads { self.new.loads ≡ self.old.loads }
+        ensures lost { self.new.lost ≡ self.old.lost }
     {
         if !self.landing.contains(&self.calls.made()) {
             self.calls.count(true);
@@ -66,6 +74,10 @@ impl Shelf for MemShelf {
 
     ghost misses = { λ s. s.misses };
 
+    ghost loads = { λ s. s.loads };
+
+    ghost lost = { λ s. s.lost };
+
     fn load(&mut self, name: &str, max: usize) -> Result<Option<Vec<u8>>, ShelfFault>
         requires { max < 2 ^ 62 }
         ensures bytes { LoadGives (Some self.old.files) name.now max result }
@@ -73,12 +85,16 @@ impl Shelf for MemShelf {
         ensures same { Some self.new.files ≡ Some self.old.files }
         ensures cause { CountsFaults self.old.calls.faults self.new.calls.faults result }
         ensures misses { CountsMisses self.old.misses self.new.misses result }
+        ensures loads { self.new.loads ≡ next self.old.loads }
+        ensures lost { CountsFaults self.old.lost self.new.lost result }
         ensures exactly { IsTrue (is_failed result) ↔ Contains self.old.calls.failing self.old.calls.made }
         ensures calls { self.new.calls ≡ after_call self.old.calls (is_failed result) }
         ensures landing { self.new.landing.items ≡ self.old.landing.items }
     {
+        self.loads.rise();
         if self.calls.fails_next() {
             self.calls.count(true);
+            self.lost.rise();
             return Err(ShelfFault::Failed);
         }
         self.calls.count(false);
@@ -95,6 +111,8 @@ impl Shelf for MemShelf {
         ensures left { StoreLeaves (Some self.old.files) (Some self.new.files) name.now bytes.now result }
         ensures cause { CountsFaults self.old.calls.faults self.new.calls.faults result }
         ensures misses { self.new.misses ≡ self.old.misses }
+        ensures loads { self.new.loads ≡ self.old.loads }
+        ensures lost { self.new.lost ≡ self.old.lost }
         ensures planned { StoresAsPlanned (Contains self.old.calls.failing self.old.calls.made) (Contains self.old.landing.items self.old.calls.made) self.old.files self.new.files name.now bytes.now result }
         ensures calls { self.new.calls ≡ after_call self.old.calls (is_failed result) }
         ensures landing { self.new.landing.items ≡ self.old.landing.items }

@@ -1,7 +1,7 @@
 //! A shelf in memory that never fails.
-ghost use Rattle.std.specs.Prelude.{◌≡◌, ◌+◌, ◌<◌, ◌≤◌, ◌^◌, Some, false, IfOk, IfSome, vec_len};
+ghost use Rattle.std.specs.Prelude.{◌≡◌, ◌+◌, ◌<◌, ◌≤◌, ◌^◌, ℕ, Some, false, IfOk, IfSome, vec_len};
 ghost use Rattle.std.specs.FinMap.{empty};
-ghost use Rattle.ew_outside.specs.Counts.{CountsFaults, CountsMisses, is_failed};
+ghost use Rattle.ew_outside.specs.Counts.{CountsFaults, CountsMisses, is_failed, next};
 ghost use Rattle.ew_outside.specs.Files.{LoadGives, StoreLeaves};
 
 use crate::{Counter, FileMap, Shelf, ShelfFault};
@@ -12,6 +12,7 @@ use std::alloc::Global;
 pub struct SureShelf {
     pub files: FileMap,
     pub misses: Counter,
+    pub loads: Counter,
 }
 
 impl SureShelf {
@@ -19,10 +20,12 @@ impl SureShelf {
     pub fn new(alloc: Global) -> SureShelf
         ensures files { result.files ≡ empty }
         ensures misses { result.misses ≡ 0 }
+        ensures loads { result.loads ≡ 0 }
     {
         SureShelf {
             files: FileMap::new(alloc),
             misses: Counter::new(),
+            loads: Counter::new(),
         }
     }
 }
@@ -34,6 +37,10 @@ impl Shelf for SureShelf {
 
     ghost misses = { λ s. s.misses };
 
+    ghost loads = { λ s. s.loads };
+
+    ghost lost = { λ _. 0 };
+
     fn load(&mut self, name: &str, max: usize) -> Result<Option<Vec<u8>>, ShelfFault>
         requires { max < 2 ^ 62 }
         ensures bytes { LoadGives (Some self.old.files) name.now max result }
@@ -41,8 +48,11 @@ impl Shelf for SureShelf {
         ensures same { Some self.new.files ≡ Some self.old.files }
         ensures cause { CountsFaults 0 0 result }
         ensures misses { CountsMisses self.old.misses self.new.misses result }
+        ensures loads { self.new.loads ≡ next self.old.loads }
+        ensures lost { CountsFaults 0 0 result }
         ensures sure { is_failed result ≡ false }
     {
+        self.loads.rise();
         match self.files.first(name, max)? {
             Some(bytes) => Ok(Some(bytes)),
             None => {
@@ -56,6 +66,8 @@ impl Shelf for SureShelf {
         ensures left { StoreLeaves (Some self.old.files) (Some self.new.files) name.now bytes.now result }
         ensures cause { CountsFaults 0 0 result }
         ensures misses { self.new.misses ≡ self.old.misses }
+        ensures loads { self.new.loads ≡ self.old.loads }
+        ensures lost { ◌≡◌ {A = ℕ} 0 0 }
         ensures sure { is_failed result ≡ false }
     {
         self.files.put(name, bytes)?;
