@@ -14,7 +14,7 @@ use Rattle.command_table.specs.Scripts.{Reading, script, bad_line, Means}
 use Rattle.ew_model.specs.declared.event.Event.{Event}
 use Rattle.command_table.specs.Table.{Reply, refuses, script_reply, input_reply, edited_reply, made_reply, Opened, opened, open_file, over_events, over_both}
 use Rattle.command_table.specs.Text.{bad_line as bad_line_text}
-use Rattle.command_plans.specs.Views.{plan_view, PlansBy, ShelfCauses, MissesBy}
+use Rattle.command_plans.specs.Views.{plan_view, PlansBy, ShelfCauses, LostBy, MissesBy}
 
 means_once : (input : List ℕ) (x y : Reading) → Means input x → Means input y → x ≡ y
 means_once input (script xs) (script ys) left right = ap script (scripts_are_unique input xs ys left right)
@@ -85,6 +85,8 @@ both_opened reply name other limits held None later result same view plans = tt
 pub later_causes : (before mid now : ℕ) (result : Result Plan Stop) → mid ≡ before → ShelfCauses mid now result → ShelfCauses before now result
 later_causes before mid now result same cause = subst (λ n. ShelfCauses n now result) same cause
 
-pub later_misses : (before mid now : ℕ) (result : Result Plan Stop) → before ≤ mid → MissesBy mid now result → MissesBy before now result
-later_misses before mid now (Ok p) low missed = (omega (arith, missed.0), λ three. let rose = missed.1 three in omega (arith, rose))
-later_misses before mid now (Err e) low missed = omega arith
+pub later_misses : (before mid now : ℕ) (result : Result Plan Stop) → mid ≡ before → MissesBy mid now result → MissesBy before now result
+later_misses before mid now result same missed = subst (λ n. MissesBy n now result) same missed
+
+pub later_lost : (before mid now : ℕ) (result : Result Plan Stop) → mid ≡ before → LostBy mid now result → LostBy before now result
+later_lost before mid now result same lost = subst (λ n. LostBy n now result) same lost

@@ -38,3 +38,8 @@ PlansScript name agent r input (Err _) = ⊤
 abbrev pub PlansInput : List ℕ → List ℕ → ReplicaState → List ℕ → Result Plan Stop → Type 0
 PlansInput name agent r input (Ok p) = (reading : Reading) → Means input reading → plan_view p ≡ input_reply name agent r.limits input reading r.held
 PlansInput name agent r input (Err _) = ⊤
+
+-- the plan is the table's for a meaning of the input
+abbrev pub MayScript : List ℕ → List ℕ → ReplicaState → List ℕ → Result Plan AllocError → Type 0
+MayScript name agent r input (Ok p) = (reading : Reading) × Means input reading × (plan_view p ≡ script_reply name agent r.limits r.held reading)
+MayScript name agent r input (Err _) = ⊤

@@ -1,10 +1,13 @@
 -- What the code's values stand for.
-use Rattle.std.specs.Prelude.{◌≡◌, ◌≤◌, ⊤, ℕ, List, [], Option, None, Some, Result, Ok, Err, Bool, true, false, ◌⊎◌}
+use Rattle.std.specs.Prelude.{◌≡◌, ◌≤◌, ⊤, ℕ, List, [], Option, None, Some, IfSome, Result, Ok, Err, Bool, true, false, ◌⊎◌}
 use Rattle.ew_outside.specs.Files.{Files}
 use Rattle.ew_outside.specs.Counts.{Rose}
 use Rattle.ew_model.specs.Limits.{LimitNumbers}
 use Rattle.command_table.specs.Scripts.{Reading, Means}
-use Rattle.command_table.specs.Table.{Command, Reply, prints, stores, refuses, Opened, opened, refused}
+use Rattle.command_table.specs.Text.{usage}
+use Rattle.command_table.specs.Reads.{after_loads}
+use Rattle.command_table.specs.Possible.{MayReply}
+use Rattle.command_table.specs.Table.{Text, Command, Reply, prints, stores, refuses, Opened, opened, refused}
 use Rattle.ew_outside.specs.declared.fault.ShelfFault.{ShelfFault}
 use Rattle.ew_outside.specs.declared.fault.ShelfFault.TheVariants as shelf_fault
 use Rattle.command_plans.specs.declared.reply.Plan.{Plan}
@@ -50,8 +53,15 @@ status_of (plan.Refuses status _) = status
 
 -- the count of misses rises exactly where the plan is to say that a file is missing
 abbrev pub MissesBy : ℕ → ℕ → Result Plan Stop → Type 0
-MissesBy before now (Ok p) = (before ≤ now) × (status_of p ≡ 3 → Rose before now)
+MissesBy before now (Ok p) = (before ≤ now) × (status_of p ≡ 3 → Rose before now) × ((status_of p ≡ 3 → ⊥) → now ≡ before)
 MissesBy before now (Err _) = before ≤ now
+
+-- a load failed exactly where the shelf did
+abbrev pub LostBy : {T : Type 0} → ℕ → ℕ → Result T Stop → Type 0
+LostBy before now (Ok _) = now ≡ before
+LostBy before now (Err OutOfMemory) = now ≡ before
+LostBy before now (Err ShelfFailed) = (before ≤ now) × Rose before now
+LostBy before now (Err SourceFailed) = now ≡ before
 
 -- which counts moved: none, but that of the object that is named
 abbrev pub Causes : {T : Type 0} → ℕ → ℕ → ℕ → ℕ → Result T Stop → Type 0
@@ -105,8 +115,8 @@ IsFresh limits (found.Refused _ _) = ⊤
 
 -- the count of misses rises where the file is missing
 abbrev pub OpenMisses : ℕ → ℕ → Result Found Stop → Type 0
-OpenMisses before now (Ok (found.Open _)) = before ≤ now
-OpenMisses before now (Ok (found.Refused status _)) = (before ≤ now) × (status ≡ 3 → Rose before now)
+OpenMisses before now (Ok (found.Open _)) = now ≡ before
+OpenMisses before now (Ok (found.Refused status _)) = (before ≤ now) × (status ≡ 3 → Rose before now) × ((status ≡ 3 → ⊥) → now ≡ before)
 OpenMisses before now (Err _) = before ≤ now
 
 -- a plan of a line that is taken
@@ -116,7 +126,7 @@ IsCommandPlan _ = ⊤
 
 -- which plans a line may have
 abbrev pub PlansLine : Option Command → Result Plan Stop → Type 0
-PlansLine None (Ok (plan.Refuses status _)) = status ≡ 2
+PlansLine None (Ok (plan.Refuses status text)) = (status ≡ 2) × (text.items ≡ usage)
 PlansLine None (Ok _) = ⊥
 PlansLine None (Err e) = e ≡ OutOfMemory
 PlansLine (Some _) (Ok p) = IsCommandPlan p
@@ -131,3 +141,18 @@ ReadsFor false old new planned = new ≡ old
 abbrev pub MissesFor : Bool → ℕ → ℕ → Result Plan Stop → Type 0
 MissesFor true before now planned = MissesBy before now planned
 MissesFor false before now planned = before ≤ now
+
+-- these files were loaded, where the map was told and there is a plan
+abbrev pub LoadsAll : (Files → List Text) → Option Files → ℕ → ℕ → Result Plan Stop → Type 0
+LoadsAll names files before now (Ok p) = IfSome files (λ m. now ≡ after_loads (names m) before)
+LoadsAll names files before now (Err _) = ⊤
+
+-- where a load failed, the input is as before
+abbrev pub KeepsInput : Option (List ℕ) → Option (List ℕ) → Result Plan Stop → Type 0
+KeepsInput old new (Err ShelfFailed) = new ≡ old
+KeepsInput old new _ = ⊤
+
+-- the plan is one of the replies of the line
+abbrev pub MayPlan : Option Command → LimitNumbers → Result Plan Stop → Type 0
+MayPlan l limits (Ok p) = MayReply l limits (plan_view p)
+MayPlan l limits (Err _) = ⊤

@@ -1,10 +1,14 @@
 //! The command that edits a file by a script.
-ghost use Rattle.std.specs.Prelude.{◌≡◌, ◌≢◌, ◌<◌, ◌^◌, [], length, IfOk, IfSome};
+ghost use Rattle.std.specs.Prelude.{◌≡◌, ◌≢◌, ◌<◌, ◌+◌, ◌^◌, [], length, IfOk, IfSome};
 ghost use Rattle.event_words.specs.Meaning.{edit_meant, numbered_edits};
 ghost use Rattle.replica.specs.Answers.{EditsBy};
-ghost use Rattle.command_plans.specs.Edits.{EditsTo, LineRefuses, PlansInput, PlansScript, edits_reply};
-ghost use Rattle.command_table.specs.Table.{input_reply, made_reply, open_file, over_events};
-ghost use Rattle.command_plans.specs.Views.{Causes, IsCommandPlan, MissesBy, PlansBy, ReadsAll, SourceCauses, plan_view, status_of};
+ghost use Rattle.command_plans.specs.Edits.{EditsTo, LineRefuses, MayScript, PlansInput, PlansScript, edits_reply};
+ghost use Rattle.command_table.specs.Reads.{IfRefused, LeavesInput, TakesAtMost};
+ghost use Rattle.command_table.specs.Possible.{MayEdit, MayReplyTo};
+ghost use Rattle.command_table.specs.Table as table;
+ghost use Rattle.command_table.specs.Table.{input_reply, made_reply, open_file, opened, over_events};
+ghost use Rattle.command_plans.specs.Views.{Causes, IsCommandPlan, KeepsInput, LostBy, MissesBy, PlansBy, ReadsAll, SourceCauses, plan_view, status_of};
+ghost use Rattle.ew_outside.specs.Counts.{next};
 
 use crate::input::{Input, read_input};
 use crate::open::{Found, open};
@@ -140,6 +144,7 @@ fn run_script<'a, L: Ledger>(
     requires short { length script.now < 2 ^ 32 }
     requires none_waits { replica.waiting ≡ [] }
     ensures told { PlansScript name.now agent replica script.now result }
+    ensures some { MayScript name.now agent replica script.now result }
     ensures plan { IfOk result IsCommandPlan }
     ensures found { IfOk result (λ p. status_of p ≢ 3) }
 {
@@ -169,7 +174,9 @@ fn take_input<'a, S: Source, L: Ledger>(
     requires limits { replica.limits ≡ limits.now }
     requires none_waits { replica.waiting ≡ [] }
     ensures told { IfSome (S.left input.old) (λ xs. PlansInput name.now agent replica xs result) }
+    ensures some { IfOk result (λ p. MayEdit name.now agent limits.now (opened replica.held) (plan_view p)) }
     ensures end { ReadsAll (S.left input.old) (S.left input.new) result }
+    ensures few { TakesAtMost (limits.now.input + 1) (S.left input.old) (S.left input.new) }
     ensures cause { SourceCauses (S.faults input.old) (S.faults input.new) result }
     ensures found { IfOk result (λ p. status_of p ≢ 3) }
     ensures plan { IfOk result IsCommandPlan }
@@ -195,11 +202,17 @@ pub fn edit<'a, H: Shelf, S: Source, L: Ledger>(
     steps: &mut Steps<L>,
 ) -> Result<Plan<'a>, Stop>
     ensures told { PlansBy (λ files xs reading. over_events (input_reply name.now agent limits.now xs reading) (open_file name.now limits.now files)) (H.files shelf.old) (S.left input.old) result }
+    ensures some { IfOk result (λ p. MayReplyTo (table.edit name.now agent) limits.now (plan_view p)) }
     ensures plan { IfOk result IsCommandPlan }
     ensures same { H.files shelf.new ≡ H.files shelf.old }
     ensures end { ReadsAll (S.left input.old) (S.left input.new) result }
     ensures cause { Causes (H.faults shelf.old) (H.faults shelf.new) (S.faults input.old) (S.faults input.new) result }
     ensures misses { MissesBy (H.misses shelf.old) (H.misses shelf.new) result }
+    ensures few { TakesAtMost (limits.now.input + 1) (S.left input.old) (S.left input.new) }
+    ensures kept { KeepsInput (S.left input.old) (S.left input.new) result }
+    ensures untouched { IfSome (H.files shelf.old) (λ m. IfRefused (open_file name.now limits.now m) (LeavesInput (S.left input.old) (S.left input.new) (S.faults input.old) (S.faults input.new))) }
+    ensures loads { H.loads shelf.new ≡ next (H.loads shelf.old) }
+    ensures lost { LostBy (H.lost shelf.old) (H.lost shelf.new) result }
 {
     match open(alloc, name, limits, shelf, steps)? {
         Found::Refused { status, text } => Ok(Plan::Refuses { status, text }),

@@ -1,7 +1,8 @@
 //! Reading the input whole, where it isn't above a bound.
-ghost use Rattle.std.specs.Prelude.{◌≡◌, ◌<◌, IfOk, IfSome};
+ghost use Rattle.std.specs.Prelude.{◌≡◌, ◌<◌, ◌+◌, IfOk, IfSome};
 ghost use Rattle.command_plans.specs.Inputs.{input_view, input_of, EndsInput, IsWithin};
 ghost use Rattle.command_plans.specs.Views.{SourceCauses};
+ghost use Rattle.command_table.specs.Reads.{TakesAtMost};
 
 use crate::reply::Stop;
 use ew_outside::{Failed, Source};
@@ -21,6 +22,7 @@ pub fn read_input<S: Source>(alloc: Global, source: &mut S, most: u32) -> Result
     ensures told { IfSome (S.left source.old) (λ xs. IfOk result (λ i. input_view i ≡ input_of most xs)) }
     ensures short { IfOk result (IsWithin most) }
     ensures end { EndsInput (S.left source.old) (S.left source.new) result }
+    ensures few { TakesAtMost (most + 1) (S.left source.old) (S.left source.new) }
     ensures cause { SourceCauses (S.faults source.old) (S.faults source.new) result }
 {
     let bound = most as usize;

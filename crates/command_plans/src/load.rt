@@ -1,7 +1,7 @@
 //! Loading a file whole, where it isn't above a bound.
 ghost use Rattle.std.specs.Prelude.{◌≡◌, ◌<◌, ◌^◌, IfSome, IfOk};
 ghost use Rattle.std.specs.FinMap.{get};
-ghost use Rattle.ew_outside.specs.Counts.{CountsFaults};
+ghost use Rattle.ew_outside.specs.Counts.{CountsFaults, next};
 ghost use Rattle.command_plans.specs.Loading.{LoadMisses, loaded_view};
 ghost use Rattle.command_table.specs.Loads.{whole_of};
 
@@ -22,6 +22,8 @@ pub fn load_whole<H: Shelf>(shelf: &mut H, name: &str, most: u64) -> Result<Load
     ensures same { H.files shelf.new ≡ H.files shelf.old }
     ensures cause { CountsFaults (H.faults shelf.old) (H.faults shelf.new) result }
     ensures misses { LoadMisses (H.misses shelf.old) (H.misses shelf.new) result }
+    ensures loads { H.loads shelf.new ≡ next (H.loads shelf.old) }
+    ensures lost { CountsFaults (H.lost shelf.old) (H.lost shelf.new) result }
 {
     match shelf.load(name, most as usize)? {
         None => Ok(Loaded::Missing),

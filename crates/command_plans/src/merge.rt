@@ -1,12 +1,16 @@
 //! The command that merges another file into a file.
-ghost use Rattle.std.specs.Prelude.{◌≡◌, ◌≢◌, ◌<◌, ◌^◌, [], find, length, IfOk, IfSome};
+ghost use Rattle.std.specs.Prelude.{◌≡◌, ◌≢◌, ◌<◌, ◌^◌, [], ◌∷◌, find, length, IfOk, IfSome};
 ghost use Rattle.std.specs.List.{list_any};
 ghost use Rattle.std.specs.Option.{option_copied};
 ghost use Rattle.command_plans.specs.Merging.{took_reply};
 ghost use Rattle.command_texts.specs.Told.{took_text};
-ghost use Rattle.command_table.specs.Table.{merge_reply, open_file, over_both, over_events, received_reply};
+ghost use Rattle.command_table.specs.Loads.{File};
+ghost use Rattle.command_table.specs.Possible.{MayReplyTo};
+ghost use Rattle.command_table.specs.Table.{merge_reply, open_file, opened_as, over_both, over_events, received_reply};
 ghost use Rattle.command_table.specs.Table as table;
-ghost use Rattle.command_plans.specs.Views.{IsCommandPlan, MissesBy, ShelfCauses, plan_view, status_of};
+ghost use Rattle.command_plans.specs.Views.{IsCommandPlan, LoadsAll, LostBy, MissesBy, ShelfCauses, plan_view, status_of};
+ghost use Rattle.command_table.specs.Reads.{LoadsFront, loads_behind};
+ghost use Rattle.ew_outside.specs.Counts.{next};
 
 use crate::open::{Found, open};
 use crate::reply::{Plan, Stop};
@@ -110,16 +114,16 @@ fn receive<'a, L: Ledger>(
     name: &'a str,
     limits: &Limits,
     mut replica: Replica,
-    other: &Replica,
+    other: Replica,
     steps: &mut Steps<L>,
 ) -> Result<Plan<'a>, AllocError>
     requires limits { replica.limits ≡ limits.now }
     requires none_waits { replica.waiting ≡ [] }
-    ensures told { IfOk result (λ p. plan_view p ≡ merge_reply name.now limits.now replica.held other.now.held) }
+    ensures told { IfOk result (λ p. plan_view p ≡ merge_reply name.now limits.now replica.held other.held) }
     ensures plan { IfOk result IsCommandPlan }
     ensures found { IfOk result (λ p. status_of p ≢ 3) }
 {
-    match replica.receive(events_of(other)?, steps) {
+    match replica.receive(events_of(&other)?, steps) {
         Ok(took) => took_plan(alloc, name, limits, &replica, &took),
         Err(_) => Err(AllocError),
     }
@@ -138,15 +142,18 @@ fn take_other<'a, H: Shelf, L: Ledger>(
     requires limits { replica.limits ≡ limits.now }
     requires none_waits { replica.waiting ≡ [] }
     ensures told { IfSome (H.files shelf.old) (λ m. IfOk result (λ p. plan_view p ≡ over_events (merge_reply name.now limits.now replica.held) (open_file other.now limits.now m))) }
+    ensures some { IfOk result (λ p. (file : File) × (plan_view p ≡ over_events (merge_reply name.now limits.now replica.held) (opened_as other.now limits.now file))) }
     ensures plan { IfOk result IsCommandPlan }
     ensures same { H.files shelf.new ≡ H.files shelf.old }
     ensures cause { ShelfCauses (H.faults shelf.old) (H.faults shelf.new) result }
     ensures misses { MissesBy (H.misses shelf.old) (H.misses shelf.new) result }
+    ensures loads { H.loads shelf.new ≡ next (H.loads shelf.old) }
+    ensures lost { LostBy (H.lost shelf.old) (H.lost shelf.new) result }
 {
     match open(alloc, other, limits, shelf, steps)? {
         Found::Refused { status, text } => Ok(Plan::Refuses { status, text }),
         Found::Open(other) => {
-            let plan = receive(alloc, name, limits, replica, &other, steps)?;
+            let plan = receive(alloc, name, limits, replica, other, steps)?;
             Ok(plan)
         }
     }
@@ -162,10 +169,14 @@ pub fn merge<'a, H: Shelf, L: Ledger>(
     steps: &mut Steps<L>,
 ) -> Result<Plan<'a>, Stop>
     ensures told { IfSome (H.files shelf.old) (λ m. IfOk result (λ p. plan_view p ≡ over_both (merge_reply name.now limits.now) (open_file name.now limits.now m) (open_file other.now limits.now m))) }
+    ensures some { IfOk result (λ p. MayReplyTo (table.merge name.now other.now) limits.now (plan_view p)) }
     ensures plan { IfOk result IsCommandPlan }
     ensures same { H.files shelf.new ≡ H.files shelf.old }
     ensures cause { ShelfCauses (H.faults shelf.old) (H.faults shelf.new) result }
     ensures misses { MissesBy (H.misses shelf.old) (H.misses shelf.new) result }
+    ensures front { LoadsFront (name.now ∷ other.now ∷ []) (H.loads shelf.old) (H.loads shelf.new) }
+    ensures loads { LoadsAll (λ m. loads_behind name.now other.now (open_file name.now limits.now m)) (H.files shelf.old) (H.loads shelf.old) (H.loads shelf.new) result }
+    ensures lost { LostBy (H.lost shelf.old) (H.lost shelf.new) result }
 {
     match open(alloc, name, limits, shelf, steps)? {
         Found::Refused { status, text } => Ok(Plan::Refuses { status, text }),

@@ -4,8 +4,10 @@ ghost use Rattle.ew_model.specs.FileFaults.{file_finding};
 ghost use Rattle.ew_model.specs.Limits.{most_file_bytes};
 ghost use Rattle.ew_model.specs.Verdicts.{first_bad};
 ghost use Rattle.command_plans.specs.Faults.{finding_of};
+ghost use Rattle.command_table.specs.Possible.{MayOpen};
 ghost use Rattle.command_table.specs.Table.{judged, open_file, read_as, refused};
-ghost use Rattle.command_plans.specs.Views.{IsFileStatus, IsFresh, IsJudged, IsOpenable, IsRead, OpenMisses, ShelfCauses, opened_view};
+ghost use Rattle.command_plans.specs.Views.{IsFileStatus, IsFresh, IsJudged, IsOpenable, IsRead, LostBy, OpenMisses, ShelfCauses, opened_view};
+ghost use Rattle.ew_outside.specs.Counts.{next};
 
 use crate::load::{Loaded, load_whole};
 use crate::reply::Stop;
@@ -107,11 +109,14 @@ pub fn open<H: Shelf, L: Ledger>(
     steps: &mut Steps<L>,
 ) -> Result<Found, Stop>
     ensures told { IfSome (H.files shelf.old) (λ m. IfOk result (λ f. opened_view f ≡ open_file name.now limits.now m)) }
+    ensures some { IfOk result (λ f. MayOpen name.now limits.now (opened_view f)) }
     ensures status { IfOk result IsOpenable }
     ensures fresh { IfOk result (λ f. IsFresh limits.now f) }
     ensures same { H.files shelf.new ≡ H.files shelf.old }
     ensures cause { ShelfCauses (H.faults shelf.old) (H.faults shelf.new) result }
     ensures misses { OpenMisses (H.misses shelf.old) (H.misses shelf.new) result }
+    ensures loads { H.loads shelf.new ≡ next (H.loads shelf.old) }
+    ensures lost { LostBy (H.lost shelf.old) (H.lost shelf.new) result }
 {
     let most = most_bytes(limits);
     match load_whole(shelf, name, most)? {

@@ -1,9 +1,10 @@
 //! From a command to what is to be done.
-ghost use Rattle.std.specs.Prelude.{◌≡◌, false, true, IfOk, Some};
+ghost use Rattle.std.specs.Prelude.{◌≡◌, ◌+◌, false, true, IfOk, IfSome, Some};
 ghost use Rattle.std.specs.Option.{option_map};
 ghost use Rattle.ew_model.specs.Names.{is_name};
+ghost use Rattle.command_table.specs.Reads.{IfEditRefused, LeavesInput, LoadsFront, TakesAtMost, files_of, loads_of};
 ghost use Rattle.command_table.specs.Table.{needs_file, reads_input, reply_of, reply_to};
-ghost use Rattle.command_plans.specs.Views.{Causes, IsCommandPlan, MissesFor, PlansAlone, PlansBy, PlansLine, ReadsFor, ShelfCauses};
+ghost use Rattle.command_plans.specs.Views.{Causes, IsCommandPlan, KeepsInput, LoadsAll, LostBy, MayPlan, MissesFor, PlansAlone, PlansBy, PlansLine, ReadsFor, ShelfCauses};
 ghost use Rattle.command_words.specs.Words.{IsNamed, line_view};
 
 use crate::commands::{create, show};
@@ -30,12 +31,20 @@ pub fn make_plan<'a, H: Shelf, S: Source, L: Ledger>(
 ) -> Result<Plan<'a>, Stop>
     requires { IsNamed (option_map line_view line) }
     ensures told { PlansBy (reply_of (option_map line_view line.entry) limits.now) (H.files shelf.old) (S.left input.old) result }
+    ensures some { MayPlan (option_map line_view line.entry) limits.now result }
     ensures line { PlansLine (option_map line_view line.entry) result }
     ensures same { H.files shelf.new ≡ H.files shelf.old }
     ensures read { ReadsFor (reads_input (option_map line_view line.entry)) (S.left input.old) (S.left input.new) result }
     ensures quiet { reads_input (option_map line_view line.entry) ≡ false → S.faults input.new ≡ S.faults input.old }
     ensures cause { Causes (H.faults shelf.old) (H.faults shelf.new) (S.faults input.old) (S.faults input.new) result }
     ensures misses { MissesFor (needs_file (option_map line_view line.entry)) (H.misses shelf.old) (H.misses shelf.new) result }
+    ensures alone { reads_input (option_map line_view line.entry) ≡ false → PlansAlone (reply_of (option_map line_view line.entry) limits.now) (H.files shelf.old) result }
+    ensures few { TakesAtMost (limits.now.input + 1) (S.left input.old) (S.left input.new) }
+    ensures kept { KeepsInput (S.left input.old) (S.left input.new) result }
+    ensures untouched { IfSome (H.files shelf.old) (λ m. IfEditRefused (option_map line_view line.entry) limits.now m (LeavesInput (S.left input.old) (S.left input.new) (S.faults input.old) (S.faults input.new))) }
+    ensures front { LoadsFront (files_of (option_map line_view line.entry)) (H.loads shelf.old) (H.loads shelf.new) }
+    ensures loads { LoadsAll (loads_of (option_map line_view line.entry) limits.now) (H.files shelf.old) (H.loads shelf.old) (H.loads shelf.new) result }
+    ensures lost { LostBy (H.lost shelf.old) (H.lost shelf.new) result }
 {
     match line {
         None => Ok(Plan::Refuses {
@@ -57,12 +66,20 @@ fn plan_taken<'a, H: Shelf, S: Source, L: Ledger>(
 ) -> Result<Plan<'a>, Stop>
     requires { IsNamed (Some (line_view line)) }
     ensures told { PlansBy (reply_to (line_view line.entry) limits.now) (H.files shelf.old) (S.left input.old) result }
+    ensures some { MayPlan (Some (line_view line.entry)) limits.now result }
     ensures plan { IfOk result IsCommandPlan }
     ensures same { H.files shelf.new ≡ H.files shelf.old }
     ensures read { ReadsFor (reads_input (Some (line_view line.entry))) (S.left input.old) (S.left input.new) result }
     ensures quiet { reads_input (Some (line_view line.entry)) ≡ false → S.faults input.new ≡ S.faults input.old }
     ensures cause { Causes (H.faults shelf.old) (H.faults shelf.new) (S.faults input.old) (S.faults input.new) result }
     ensures misses { MissesFor (needs_file (Some (line_view line.entry))) (H.misses shelf.old) (H.misses shelf.new) result }
+    ensures alone { reads_input (Some (line_view line.entry)) ≡ false → PlansAlone (reply_to (line_view line.entry) limits.now) (H.files shelf.old) result }
+    ensures few { TakesAtMost (limits.now.input + 1) (S.left input.old) (S.left input.new) }
+    ensures kept { KeepsInput (S.left input.old) (S.left input.new) result }
+    ensures untouched { IfSome (H.files shelf.old) (λ m. IfEditRefused (Some (line_view line.entry)) limits.now m (LeavesInput (S.left input.old) (S.left input.new) (S.faults input.old) (S.faults input.new))) }
+    ensures front { LoadsFront (files_of (Some (line_view line.entry))) (H.loads shelf.old) (H.loads shelf.new) }
+    ensures loads { LoadsAll (loads_of (Some (line_view line.entry)) limits.now) (H.files shelf.old) (H.loads shelf.old) (H.loads shelf.new) result }
+    ensures lost { LostBy (H.lost shelf.old) (H.lost shelf.new) result }
 {
     match line {
         Taken::Edit { file, agent } => edit(
@@ -88,10 +105,14 @@ fn plan_unread<'a, H: Shelf, L: Ledger>(
 ) -> Result<Plan<'a>, Stop>
     requires { reads_input (Some (line_view line)) ≡ false }
     ensures told { PlansAlone (reply_to (line_view line.entry) limits.now) (H.files shelf.old) result }
+    ensures some { MayPlan (Some (line_view line.entry)) limits.now result }
     ensures plan { IfOk result IsCommandPlan }
     ensures same { H.files shelf.new ≡ H.files shelf.old }
     ensures cause { ShelfCauses (H.faults shelf.old) (H.faults shelf.new) result }
     ensures misses { MissesFor (needs_file (Some (line_view line.entry))) (H.misses shelf.old) (H.misses shelf.new) result }
+    ensures front { LoadsFront (files_of (Some (line_view line.entry))) (H.loads shelf.old) (H.loads shelf.new) }
+    ensures loads { LoadsAll (loads_of (Some (line_view line.entry)) limits.now) (H.files shelf.old) (H.loads shelf.old) (H.loads shelf.new) result }
+    ensures lost { LostBy (H.lost shelf.old) (H.lost shelf.new) result }
 {
     match line {
         Taken::New(name) => create(alloc, name, shelf),

@@ -1,5 +1,5 @@
 -- From what the parts of a run ensure to what a run is.
-use Rattle.std.proofs.Common.{Vec, ◌≡◌, ◌≤◌, ◌<◌, ◌⊎◌, inl, inr, ℕ, List, [], false, refl, sym, ◌∙◌, ap, subst, arith, Option, None, Some, Result, Ok, Err}
+use Rattle.std.proofs.Common.{Vec, ◌≡◌, ◌≤◌, ◌<◌, ◌+◌, ◌⊎◌, inl, inr, ℕ, List, [], false, refl, sym, ◌∙◌, ap, subst, arith, Option, None, Some, IfSome, Result, Ok, Err}
 use Rattle.std.specs.Io.KnownBytes.{Appends}
 use Rattle.std.proofs.KnownBytes.{Appends-nil}
 use Rattle.std.proofs.lemmas.Bool.Decides.{eqb_tells}
@@ -9,12 +9,14 @@ use Rattle.ew_outside.specs.Files.{Files}
 use Rattle.ew_outside.specs.Counts.{Rose, IsQuiet}
 use Rattle.ew_outside.specs.Bytes.{IsFlushed}
 use Rattle.command_table.specs.Outputs.{GrowsByFront}
-use Rattle.command_table.specs.Text.{out_of_memory}
+use Rattle.command_table.specs.Text.{usage as usage_text, out_of_memory}
 use Rattle.command_table.specs.Scripts.{Reading, Means}
-use Rattle.command_table.specs.Table.{Command, Reply, Answer, reply_of, answer_of, reads_input, needs_file}
-use Rattle.command_plans.specs.Views.{plan_view, status_of, Causes, MissesFor, MissesBy, PlansBy, PlansLine, ReadsFor, ReadsAll, IsRefusal}
-use Rattle.command_runs.specs.Endings.{EndFiles, EndOut, EndShelfCount, EndSinkCount, EndsPlan, end_of_stop, end_status, end_text, FilesAfter, files_after, out_of}
-use Rattle.command_table.specs.Headline.{Seen, Object, shelf, source, sink, faults_of, failed_text, TellsErr, IsAnswered, IsFailed, IsOutOfMemory, IsTableRun, NamesFault, IsLineRun}
+use Rattle.command_table.specs.Table.{Text, Command, Reply, Answer, reply_of, answer_of, reads_input, needs_file}
+use Rattle.command_plans.specs.Views.{plan_view, status_of, Causes, KeepsInput, MayPlan, LoadsAll, LostBy, MissesFor, MissesBy, PlansAlone, PlansBy, PlansLine, ReadsFor, ReadsAll, IsRefusal}
+use Rattle.command_runs.specs.Endings.{EndFiles, EndOut, EndShelfCount, EndSinkCount, EndsPlan, SaysNone, end_of_stop, end_status, end_text, FilesAfter, files_after, out_of}
+use Rattle.command_table.specs.Reads.{files_of, loads_of, LoadsFront, TakesAtMost, LeavesInput, IfEditRefused}
+use Rattle.command_table.specs.Headline.{Seen, Object, shelf, source, sink, faults_of, failed_text, TellsErr, IsAnswered, IsFailed, IsOutOfMemory, IsSaid, IsTableRun, FaultLeaves, NamesFault, IsStatus, IsLineRun, IsRun}
+use Rattle.command_plans.proofs.Reading.{holds_edit_refused, takes_none}
 use Rattle.command_plans.specs.declared.reply.Plan.{Plan}
 use Rattle.command_plans.specs.declared.reply.Plan.TheVariants as plan
 use Rattle.command_plans.specs.declared.reply.Stop.{Stop}
@@ -31,14 +33,25 @@ pub record Facts (l : Option Command) (limits : LimitNumbers) (planned : Result 
   pub quiet : reads_input l ≡ false → new.source_faults ≡ old.source_faults
   pub cause : Causes old.shelf_faults mid.shelf_faults old.source_faults new.source_faults planned
   pub misses : MissesFor (needs_file l) old.misses mid.misses planned
+  pub alone : reads_input l ≡ false → PlansAlone (reply_of l limits) old.files planned
+  pub few : TakesAtMost (limits.input + 1) old.left new.left
+  pub untouched : IfSome old.files (λ m. IfEditRefused l limits m (LeavesInput old.left new.left old.source_faults new.source_faults))
+  pub some : MayPlan l limits planned
+  pub kept : KeepsInput old.left new.left planned
+  pub front : LoadsFront (files_of l) old.loads mid.loads
+  pub loads : LoadsAll (loads_of l limits) old.files old.loads mid.loads planned
+  pub lost : LostBy old.lost mid.lost planned
   pub which : EndsPlan planned ending
   pub files : EndFiles planned ending mid.files new.files
   pub out : EndOut planned ending old.out new.out new.flushed
   pub shelf_count : EndShelfCount planned ending mid.shelf_faults new.shelf_faults
   pub sink_count : EndSinkCount ending old.out_faults new.out_faults
   pub no_miss : new.misses ≡ mid.misses
+  pub no_load : new.loads ≡ mid.loads
+  pub no_loss : new.lost ≡ mid.lost
   pub status : code ≡ end_status ending
   pub text : TellsErr old new (end_text ending)
+  pub silent : SaysNone ending old.err new.err old.err_faults new.err_faults
 
 -- a status other than 6 and 8 is that of a plan
 pub at_status : (planned : Result Plan Stop) (ending : Ending) (n : ℕ) → EndsPlan planned ending → n ≡ end_status ending → (n ≡ 6 → ⊥) → (n ≡ 8 → ⊥)
@@ -104,6 +117,25 @@ answered (plan.Refuses status text) ending files old mid new code told same w f 
       err = subst (λ x. TellsErr old new (end_text x)) w t;
     }
 
+-- what is said of a plan, whatever the objects tell
+pub said : (p : Plan) (ending : Ending) (old new : Seen) (code : ℕ) → EndsPlan (Ok p) ending → EndOut (Ok p) ending old.out new.out new.flushed → code ≡ end_status ending → TellsErr old new (end_text ending)
+    → (code ≡ 6 → ⊥) → (code ≡ 8 → ⊥) → IsSaid (plan_view p) old new code
+said (plan.Prints out) e.Done old new code w o s t n6 n8 = (s, o.0, t)
+said (plan.Prints out) (e.Refused _ _) old new code w o s t n6 n8 = absurd w
+said (plan.Prints out) e.ShelfFailed old new code w o s t n6 n8 = absurd w
+said (plan.Prints out) e.SourceFailed old new code w o s t n6 n8 = absurd w
+said (plan.Prints out) e.SinkFailed old new code w o s t n6 n8 = absurd (n6 s)
+said (plan.Prints out) e.OutOfMemory old new code w o s t n6 n8 = absurd w
+said (plan.Stores out name bytes) e.Done old new code w o s t n6 n8 = (s, o.0, t)
+said (plan.Stores out name bytes) (e.Refused _ _) old new code w o s t n6 n8 = absurd w
+said (plan.Stores out name bytes) e.ShelfFailed old new code w o s t n6 n8 = absurd (n6 s)
+said (plan.Stores out name bytes) e.SourceFailed old new code w o s t n6 n8 = absurd w
+said (plan.Stores out name bytes) e.SinkFailed old new code w o s t n6 n8 = absurd (n6 s)
+said (plan.Stores out name bytes) e.OutOfMemory old new code w o s t n6 n8 = absurd (n8 s)
+said (plan.Refuses status text) ending old new code w o s t n6 n8 =
+    let quiet : EndOut (Ok (plan.Refuses status text)) (e.Refused status text) old.out new.out new.flushed = subst (λ x. EndOut (Ok (plan.Refuses status text)) x old.out new.out new.flushed) w o in
+    (s ∙ ap end_status w, quiet, subst (λ x. TellsErr old new (end_text x)) w t)
+
 -- ---- the courses that a run may take
 
 -- no count of a fault moved
@@ -116,6 +148,7 @@ pub record Calm (old new : Seen) : Type 0 where
 pub record Struck (object : Object) (old new : Seen) : Type 0 where
   pub rose : Rose (faults_of object old) (faults_of object new)
   pub later : (other : Object) → faults_of other old ≤ faults_of other new
+  pub others : (other : Object) → (other ≡ object → ⊥) → faults_of other new ≡ faults_of other old
 
 pub data Course (planned : Result Plan Stop) (old new : Seen) (code : ℕ) : Type 0 where
   -- the plan was carried out
@@ -124,12 +157,12 @@ pub data Course (planned : Result Plan Stop) (old new : Seen) (code : ℕ) : Typ
   -- the line was refused
   Refused : (status : ℕ) (text : Vec ℕ Global) → planned ≡ Ok (plan.Refuses status text) → code ≡ status → new.files ≡ old.files → new.out ≡ old.out → Calm old new → Course planned old new code
   -- an object failed before anything was stored or printed
-  Stopped : (object : Object) → code ≡ 6 → (object ≡ sink → ⊥) → new.files ≡ old.files → new.out ≡ old.out → Struck object old new → TellsErr old new (failed_text object) → Course planned old new code
+  Stopped : (object : Object) → code ≡ 6 → (object ≡ sink → ⊥) → new.files ≡ old.files → new.out ≡ old.out → Struck object old new → TellsErr old new (failed_text object) → FaultLeaves object old new → Course planned old new code
   -- the store failed
-  Landed : (p : Plan) → planned ≡ Ok p → code ≡ 6 → (new.files ≡ old.files) ⊎ FilesAfter p old.files new.files → new.out ≡ old.out → Struck shelf old new → TellsErr old new (failed_text shelf)
+  Landed : (p : Plan) → planned ≡ Ok p → code ≡ 6 → (new.files ≡ old.files) ⊎ FilesAfter p old.files new.files → new.out ≡ old.out → Struck shelf old new → TellsErr old new (failed_text shelf) → new.lost ≡ old.lost
       → Course planned old new code
   -- the output failed
-  Broken : (p : Plan) → planned ≡ Ok p → code ≡ 6 → FilesAfter p old.files new.files → GrowsByFront old.out new.out (out_of p) → Struck sink old new → TellsErr old new (failed_text sink)
+  Broken : (p : Plan) → planned ≡ Ok p → code ≡ 6 → FilesAfter p old.files new.files → GrowsByFront old.out new.out (out_of p) → Struck sink old new → TellsErr old new (failed_text sink) → new.lost ≡ old.lost
       → Course planned old new code
   Starved : code ≡ 8 → new.files ≡ old.files → new.out ≡ old.out → Calm old new → TellsErr old new out_of_memory → Course planned old new code
 
@@ -152,14 +185,16 @@ course l limits (Err stop.ShelfFailed) ending old mid new code h =
     (record {
       rose = subst (Rose old.shelf_faults) (sym h.shelf_count) h.cause.0.1;
       later = elim [ shelf ↦ omega (arith, h.cause.0.0, h.shelf_count) | source ↦ omega (arith, h.cause.1) | sink ↦ omega (arith, quiet) ];
-    }) (told_end ending e.ShelfFailed old new h.which h.text)
+      others = elim [ shelf ↦ λ bad. absurd (bad refl) | source ↦ λ _. h.cause.1 | sink ↦ λ _. quiet ];
+    }) (told_end ending e.ShelfFailed old new h.which h.text) (inl (subst (Rose old.lost) (sym h.no_loss) h.lost.1, (h.files ∙ h.same, h.out), (h.kept, h.cause.1)))
 course l limits (Err stop.SourceFailed) ending old mid new code h =
     let quiet = still ending e.SourceFailed old.out_faults new.out_faults h.which h.sink_count in
     Stopped source (h.status ∙ ap end_status h.which) (λ bad. cc) (h.files ∙ h.same) h.out
     (record {
       rose = h.cause.1.1;
       later = elim [ shelf ↦ omega (arith, h.cause.0, h.shelf_count) | source ↦ h.cause.1.0 | sink ↦ omega (arith, quiet) ];
-    }) (told_end ending e.SourceFailed old new h.which h.text)
+      others = elim [ shelf ↦ λ _. h.shelf_count ∙ h.cause.0 | source ↦ λ bad. absurd (bad refl) | sink ↦ λ _. quiet ];
+    }) (told_end ending e.SourceFailed old new h.which h.text) (h.no_loss ∙ h.lost, (h.files ∙ h.same, h.out))
 course l limits (Err stop.OutOfMemory) ending old mid new code h =
     Starved (h.status ∙ ap end_status h.which) (h.files ∙ h.same) h.out
     (record {
@@ -189,7 +224,8 @@ course l limits (Ok (plan.Prints out)) e.SinkFailed old mid new code h =
     (record {
       rose = h.sink_count.1;
       later = elim [ shelf ↦ omega (arith, h.shelf_count, h.cause.0) | source ↦ omega (arith, h.cause.1) | sink ↦ h.sink_count.0 ];
-    }) h.text
+      others = elim [ shelf ↦ λ _. h.shelf_count ∙ h.cause.0 | source ↦ λ _. h.cause.1 | sink ↦ λ bad. absurd (bad refl) ];
+    }) h.text (h.no_loss ∙ h.lost)
 course l limits (Ok (plan.Prints out)) e.OutOfMemory old mid new code h = absurd h.which
 course l limits (Ok (plan.Stores out name bytes)) e.Done old mid new code h =
     Done (plan.Stores out name bytes) refl refl h.status (after_plan (plan.Stores out name bytes) _ _ _ h.same h.files) h.out.0 h.out.1
@@ -201,14 +237,16 @@ course l limits (Ok (plan.Stores out name bytes)) e.ShelfFailed old mid new code
     (record {
       rose = subst (λ m. Rose m new.shelf_faults) h.cause.0 h.shelf_count.1;
       later = elim [ shelf ↦ omega (arith, h.shelf_count.0, h.cause.0) | source ↦ omega (arith, h.cause.1) | sink ↦ omega (arith, h.sink_count) ];
-    }) h.text
+      others = elim [ shelf ↦ λ bad. absurd (bad refl) | source ↦ λ _. h.cause.1 | sink ↦ λ _. h.sink_count ];
+    }) h.text (h.no_loss ∙ h.lost)
 course l limits (Ok (plan.Stores out name bytes)) e.SourceFailed old mid new code h = absurd h.which
 course l limits (Ok (plan.Stores out name bytes)) e.SinkFailed old mid new code h =
     Broken (plan.Stores out name bytes) refl h.status (after_plan (plan.Stores out name bytes) _ _ _ h.same h.files) h.out
     (record {
       rose = h.sink_count.1;
       later = elim [ shelf ↦ omega (arith, h.shelf_count, h.cause.0) | source ↦ omega (arith, h.cause.1) | sink ↦ h.sink_count.0 ];
-    }) h.text
+      others = elim [ shelf ↦ λ _. h.shelf_count ∙ h.cause.0 | source ↦ λ _. h.cause.1 | sink ↦ λ bad. absurd (bad refl) ];
+    }) h.text (h.no_loss ∙ h.lost)
 course l limits (Ok (plan.Stores out name bytes)) e.OutOfMemory old mid new code h =
     Starved h.status (h.files ∙ h.same) h.out
     (record { shelf_same = h.shelf_count ∙ h.cause.0; source_same = h.cause.1; sink_same = h.sink_count }) h.text
@@ -224,7 +262,7 @@ abbrev pub RefusesBy : Result Plan Stop → Type 0
 RefusesBy planned = (status : ℕ) (text : Vec ℕ Global) → planned ≡ Ok (plan.Refuses status text) → IsRefused status
 
 refuses_line : (l : Option Command) (status : ℕ) (text : Vec ℕ Global) → PlansLine l (Ok (plan.Refuses status text)) → IsRefused status
-refuses_line None status text two = inl two
+refuses_line None status text two = inl two.0
 refuses_line (Some l) status text any = inr any
 
 pub refuses_by : (l : Option Command) (planned : Result Plan Stop) → PlansLine l planned → RefusesBy planned
@@ -238,50 +276,50 @@ calm_object old new calm sink = calm.sink_same
 pub fault_named : (planned : Result Plan Stop) (old new : Seen) (code : ℕ) → Course planned old new code → RefusesBy planned → code ≡ 6 → NamesFault old new
 fault_named planned old new code (Done p is zero code0 files out flushed calm) below six = absurd (omega (arith, code0, six))
 fault_named planned old new code (Refused status text is code_is files out calm) below six = absurd (omega (arith, below status text is, code_is, six))
-fault_named planned old new code (Stopped object six' other files out struck text) below six = record { object = object; rose = struck.rose; text = text }
-fault_named planned old new code (Landed p is six' files out struck text) below six = record { object = shelf; rose = struck.rose; text = text }
-fault_named planned old new code (Broken p is six' files out struck text) below six = record { object = sink; rose = struck.rose; text = text }
+fault_named planned old new code (Stopped object six' other files out struck text far) below six = record { object = object; rose = struck.rose; others = struck.others; leaves = far; text = text }
+fault_named planned old new code (Landed p is six' files out struck text far) below six = record { object = shelf; rose = struck.rose; others = struck.others; leaves = inr (far, out); text = text }
+fault_named planned old new code (Broken p is six' files out struck text far) below six = record { object = sink; rose = struck.rose; others = struck.others; leaves = far; text = text }
 fault_named planned old new code (Starved code8 files out calm text) below six = absurd (omega (arith, code8, six))
 
 pub fault_always : (planned : Result Plan Stop) (old new : Seen) (code : ℕ) → Course planned old new code → (object : Object) → faults_of object old < faults_of object new → code ≡ 6
 fault_always planned old new code (Done p is zero code0 files out flushed calm) object rose = absurd (omega (arith, rose, calm_object old new calm object))
 fault_always planned old new code (Refused status text is code_is files out calm) object rose = absurd (omega (arith, rose, calm_object old new calm object))
-fault_always planned old new code (Stopped _ six _ files out struck text) object rose = six
-fault_always planned old new code (Landed p is six files out struck text) object rose = six
-fault_always planned old new code (Broken p is six files out struck text) object rose = six
+fault_always planned old new code (Stopped _ six _ files out struck text far) object rose = six
+fault_always planned old new code (Landed p is six files out struck text far) object rose = six
+fault_always planned old new code (Broken p is six files out struck text far) object rose = six
 fault_always planned old new code (Starved code8 files out calm text) object rose = absurd (omega (arith, rose, calm_object old new calm object))
 
 pub never_falls : (planned : Result Plan Stop) (old new : Seen) (code : ℕ) → Course planned old new code → (object : Object) → faults_of object old ≤ faults_of object new
 never_falls planned old new code (Done p is zero code0 files out flushed calm) object = omega (arith, calm_object old new calm object)
 never_falls planned old new code (Refused status text is code_is files out calm) object = omega (arith, calm_object old new calm object)
-never_falls planned old new code (Stopped _ six _ files out struck text) object = struck.later object
-never_falls planned old new code (Landed p is six files out struck text) object = struck.later object
-never_falls planned old new code (Broken p is six files out struck text) object = struck.later object
+never_falls planned old new code (Stopped _ six _ files out struck text far) object = struck.later object
+never_falls planned old new code (Landed p is six files out struck text far) object = struck.later object
+never_falls planned old new code (Broken p is six files out struck text far) object = struck.later object
 never_falls planned old new code (Starved code8 files out calm text) object = omega (arith, calm_object old new calm object)
 
 pub starves : (planned : Result Plan Stop) (old new : Seen) (code : ℕ) → Course planned old new code → RefusesBy planned → code ≡ 8 → IsOutOfMemory old new
 starves planned old new code (Done p is zero code0 files out flushed calm) below eight = absurd (omega (arith, code0, eight))
 starves planned old new code (Refused status text is code_is files out calm) below eight = absurd (omega (arith, below status text is, code_is, eight))
-starves planned old new code (Stopped _ six _ files out struck text) below eight = absurd (omega (arith, six, eight))
-starves planned old new code (Landed p is six files out struck text) below eight = absurd (omega (arith, six, eight))
-starves planned old new code (Broken p is six files out struck text) below eight = absurd (omega (arith, six, eight))
+starves planned old new code (Stopped _ six _ files out struck text far) below eight = absurd (omega (arith, six, eight))
+starves planned old new code (Landed p is six files out struck text far) below eight = absurd (omega (arith, six, eight))
+starves planned old new code (Broken p is six files out struck text far) below eight = absurd (omega (arith, six, eight))
 starves planned old new code (Starved code8 files out calm text) below eight = record { files = files; out = out; err = text }
 
 pub leaves_all : (planned : Result Plan Stop) (old new : Seen) (code : ℕ) → Course planned old new code → (code ≡ 0 → ⊥) → (code ≡ 6 → ⊥) → (new.files ≡ old.files) × (new.out ≡ old.out)
 leaves_all planned old new code (Done p is zero code0 files out flushed calm) n0 n6 = absurd (n0 code0)
 leaves_all planned old new code (Refused status text is code_is files out calm) n0 n6 = (files, out)
-leaves_all planned old new code (Stopped _ six _ files out struck text) n0 n6 = absurd (n6 six)
-leaves_all planned old new code (Landed p is six files out struck text) n0 n6 = absurd (n6 six)
-leaves_all planned old new code (Broken p is six files out struck text) n0 n6 = absurd (n6 six)
+leaves_all planned old new code (Stopped _ six _ files out struck text far) n0 n6 = absurd (n6 six)
+leaves_all planned old new code (Landed p is six files out struck text far) n0 n6 = absurd (n6 six)
+leaves_all planned old new code (Broken p is six files out struck text far) n0 n6 = absurd (n6 six)
 leaves_all planned old new code (Starved code8 files out calm text) n0 n6 = (files, out)
 
 pub flushes : (planned : Result Plan Stop) (old new : Seen) (code : ℕ) → Course planned old new code → RefusesBy planned
     → code ≡ 0 → IsFlushed new.out new.flushed
 flushes planned old new code (Done p is zero code0 files out flushed calm) kept done = flushed
 flushes planned old new code (Refused status text is code_is files out calm) kept done = absurd (omega (arith, kept status text is, code_is, done))
-flushes planned old new code (Stopped _ six _ files out struck text) kept done = absurd (omega (arith, six, done))
-flushes planned old new code (Landed p is six files out struck text) kept done = absurd (omega (arith, six, done))
-flushes planned old new code (Broken p is six files out struck text) kept done = absurd (omega (arith, six, done))
+flushes planned old new code (Stopped _ six _ files out struck text far) kept done = absurd (omega (arith, six, done))
+flushes planned old new code (Landed p is six files out struck text far) kept done = absurd (omega (arith, six, done))
+flushes planned old new code (Broken p is six files out struck text far) kept done = absurd (omega (arith, six, done))
 flushes planned old new code (Starved code8 files out calm text) kept done = absurd (omega (arith, code8, done))
 
 -- a count that is quiet hasn't risen
@@ -308,17 +346,17 @@ pub fault_leaves : (planned : Result Plan Stop) (old new : Seen) (code : ℕ) (f
     → ((p : Plan) → planned ≡ Ok p → t ≡ answer_of (plan_view p) files) → RefusesBy planned → code ≡ 6 → IsFailed t old new
 fault_leaves planned old new code files t (Done p is zero code0 f out flushed calm) at same below six = absurd (omega (arith, code0, six))
 fault_leaves planned old new code files t (Refused status text is code_is f out calm) at same below six = absurd (omega (arith, below status text is, code_is, six))
-fault_leaves planned old new code files t (Stopped object six' other f out struck text) at same below six = record {
+fault_leaves planned old new code files t (Stopped object six' other f out struck text far) at same below six = record {
   files = inl f;
   out = (0, subst (λ x. Appends old.out x []) (sym out) (Appends-nil old.out));
   stored = λ first second. absurd (stopped_not_quiet object old new other struck.rose first second);
 }
-fault_leaves planned old new code files t (Landed p is six' f out struck text) at same below six = record {
+fault_leaves planned old new code files t (Landed p is six' f out struck text far) at same below six = record {
   files = elim f [ inl stays ↦ inl stays | inr after ↦ inr (after_files p files t old.files new.files at (same p is) after) ];
   out = (0, subst (λ x. Appends old.out x []) (sym out) (Appends-nil old.out));
   stored = λ first second. absurd (quiet_not_rose _ _ first struck.rose);
 }
-fault_leaves planned old new code files t (Broken p is six' f out struck text) at same below six = record {
+fault_leaves planned old new code files t (Broken p is six' f out struck text far) at same below six = record {
   files = inr (after_files p files t old.files new.files at (same p is) f);
   out = subst (λ x. GrowsByFront old.out new.out x) (sym (out_same p files t (same p is))) out;
   stored = λ first second. after_files p files t old.files new.files at (same p is) f;
@@ -336,6 +374,16 @@ tabled l limits planned old files input reading told at left means p is =
     let second : PlansBy reply (Some files) (Some input) planned = subst (λ x. PlansBy reply (Some files) x planned) left first in
     let third : (reading : Reading) → Means input reading → plan_view p ≡ reply files input reading = subst (λ x. PlansBy reply (Some files) (Some input) x) is second in
     ap (λ r. answer_of r files) (sym (third reading means))
+
+-- the same of a line that has no use for the input
+pub tabled_alone : (l : Option Command) (limits : LimitNumbers) (planned : Result Plan Stop) (old : Seen) (files : Files) (input : List ℕ) (reading : Reading)
+    → PlansAlone (reply_of l limits) old.files planned → old.files ≡ Some files
+    → (p : Plan) → planned ≡ Ok p → answer_of (reply_of l limits files input reading) files ≡ answer_of (plan_view p) files
+tabled_alone l limits planned old files input reading told at p is =
+    let reply : Files → List ℕ → Reading → Reply = reply_of l limits in
+    let first : PlansAlone reply (Some files) planned = subst (λ x. PlansAlone reply x planned) at told in
+    let second : PlansAlone reply (Some files) (Ok p) = subst (λ x. PlansAlone reply (Some files) x) is first in
+    ap (λ r. answer_of r files) (sym (second input reading))
 
 pub table_answered : (l : Option Command) (limits : LimitNumbers) (planned : Result Plan Stop) (ending : Ending) (old mid new : Seen) (code : ℕ) (files : Files) (t : Answer)
     → Facts l limits planned ending old mid new code → old.files ≡ Some files → ((p : Plan) → planned ≡ Ok p → t ≡ answer_of (plan_view p) files)
@@ -366,17 +414,56 @@ table_run l limits planned ending old mid new code files t h k below at same = r
 
 -- ---- the words alone
 
-pub only_none : (l : Option Command) (p : Plan) → PlansLine l (Ok p) → status_of p ≡ 2 → l ≡ None
-only_none None p line two = refl
-only_none (Some l) (plan.Prints out) line two = absurd (omega (arith, two))
-only_none (Some l) (plan.Stores out name bytes) line two = absurd (omega (arith, two))
-only_none (Some l) (plan.Refuses status text) line two = absurd (omega (arith, line, two))
+-- the usage is told exactly where there is no line
+pub told_usage : (l : Option Command) (p : Plan) (ending : Ending) (old new : Seen) → PlansLine l (Ok p) → EndsPlan (Ok p) ending → status_of p ≡ 2 → TellsErr old new (end_text ending)
+    → (l ≡ None) × TellsErr old new usage_text
+told_usage None (plan.Prints out) ending old new line which two told = absurd line
+told_usage None (plan.Stores out name bytes) ending old new line which two told = absurd line
+told_usage None (plan.Refuses status text) ending old new line which two told = (refl, subst (λ x. TellsErr old new x) (ap end_text which ∙ line.1) told)
+told_usage (Some l) (plan.Prints out) ending old new line which two told = absurd (omega (arith, two))
+told_usage (Some l) (plan.Stores out name bytes) ending old new line which two told = absurd (omega (arith, two))
+told_usage (Some l) (plan.Refuses status text) ending old new line which two told = absurd (omega (arith, line, two))
 
 pub none_only : (planned : Result Plan Stop) (ending : Ending) (code : ℕ) → PlansLine None planned → EndsPlan planned ending → code ≡ end_status ending → (code ≡ 2) ⊎ (code ≡ 8)
 none_only (Ok (plan.Prints out)) ending code line which status = absurd line
 none_only (Ok (plan.Stores out name bytes)) ending code line which status = absurd line
-none_only (Ok (plan.Refuses s text)) ending code line which status = inl (status ∙ ap end_status which ∙ line)
+none_only (Ok (plan.Refuses s text)) ending code line which status = inl (status ∙ ap end_status which ∙ line.0)
 none_only (Err stopped) ending code line which status = inr (status ∙ ap end_status which ∙ ap (λ x. end_status (end_of_stop x)) line)
+
+pub among : (planned : Result Plan Stop) (old new : Seen) (code : ℕ) → Course planned old new code → RefusesBy planned → IsStatus code
+among planned old new code (Done p is zero code0 files out flushed calm) below = inl code0
+among planned old new code (Refused status text is code_is files out calm) below =
+    let why = below status text is in
+    let low : 2 ≤ code = omega (arith, why, code_is) in
+    let high : code ≤ 8 = omega (arith, why, code_is) in
+    inr (low, high)
+among planned old new code (Stopped _ six _ files out struck text far) below = inr (omega (arith, six), omega (arith, six))
+among planned old new code (Landed p is six files out struck text far) below = inr (omega (arith, six), omega (arith, six))
+among planned old new code (Broken p is six files out struck text far) below = inr (omega (arith, six), omega (arith, six))
+among planned old new code (Starved code8 files out calm text) below = inr (omega (arith, code8), omega (arith, code8))
+
+-- nothing is said at status 0
+pub says_none : (planned : Result Plan Stop) (ending : Ending) (n : ℕ) (old new : Seen) → EndsPlan planned ending → n ≡ end_status ending → RefusesBy planned → n ≡ 0
+    → SaysNone ending old.err new.err old.err_faults new.err_faults → (new.err ≡ old.err) × (new.err_faults ≡ old.err_faults)
+says_none (Err stop.ShelfFailed) ending n old new w s below zero h = let six = s ∙ ap end_status w in absurd (omega (arith, six, zero))
+says_none (Err stop.SourceFailed) ending n old new w s below zero h = let six = s ∙ ap end_status w in absurd (omega (arith, six, zero))
+says_none (Err stop.OutOfMemory) ending n old new w s below zero h = let eight = s ∙ ap end_status w in absurd (omega (arith, eight, zero))
+says_none (Ok (plan.Refuses status text)) ending n old new w s below zero h =
+    let why = below status text refl in
+    let is = s ∙ ap end_status w in
+    absurd (omega (arith, why, is, zero))
+says_none (Ok (plan.Prints out)) e.Done n old new w s below zero h = h
+says_none (Ok (plan.Prints out)) (e.Refused _ _) n old new w s below zero h = absurd w
+says_none (Ok (plan.Prints out)) e.ShelfFailed n old new w s below zero h = absurd w
+says_none (Ok (plan.Prints out)) e.SourceFailed n old new w s below zero h = absurd w
+says_none (Ok (plan.Prints out)) e.SinkFailed n old new w s below zero h = absurd (omega (arith, s, zero))
+says_none (Ok (plan.Prints out)) e.OutOfMemory n old new w s below zero h = absurd w
+says_none (Ok (plan.Stores out name bytes)) e.Done n old new w s below zero h = h
+says_none (Ok (plan.Stores out name bytes)) (e.Refused _ _) n old new w s below zero h = absurd w
+says_none (Ok (plan.Stores out name bytes)) e.ShelfFailed n old new w s below zero h = absurd (omega (arith, s, zero))
+says_none (Ok (plan.Stores out name bytes)) e.SourceFailed n old new w s below zero h = absurd w
+says_none (Ok (plan.Stores out name bytes)) e.SinkFailed n old new w s below zero h = absurd (omega (arith, s, zero))
+says_none (Ok (plan.Stores out name bytes)) e.OutOfMemory n old new w s below zero h = absurd (omega (arith, s, zero))
 
 -- what the parts make of a run
 pub is_run : (l : Option Command) (limits : LimitNumbers) (planned : Result Plan Stop) (ending : Ending) (old mid new : Seen) (code : ℕ) → Facts l limits planned ending old mid new code
@@ -387,6 +474,13 @@ is_run l limits planned ending old mid new code h =
     record {
       told = λ files input reading at left means. table_run l limits planned ending old mid new code files (answer_of (reply_of l limits files input reading) files) h k below at
           (tabled l limits planned old files input reading h.told at left means);
+      alone = λ unread files input reading at. table_run l limits planned ending old mid new code files (answer_of (reply_of l limits files input reading) files) h k below at
+          (tabled_alone l limits planned old files input reading (h.alone unread) at);
+      said = λ n6 n8.
+          let a = at_status planned ending code h.which h.status n6 n8 in
+          (plan_view a.0, subst (MayPlan l limits) a.1 h.some, said a.0 ending old new code (subst (λ x. EndsPlan x ending) a.1 h.which) (subst (λ x. EndOut x ending old.out new.out new.flushed) a.1 h.out) h.status h.text n6 n8);
+      among = among planned old new code k below;
+      silent = λ zero. says_none planned ending code old new h.which h.status below zero h.silent;
       fault = fault_named planned old new code k below;
       always = fault_always planned old new code k;
       later = never_falls planned old new code k;
@@ -395,13 +489,26 @@ is_run l limits planned ending old mid new code h =
       flushed = flushes planned old new code k below;
       usage = λ two.
           let a = at_status planned ending code h.which h.status (λ six. omega (arith, two, six)) (λ eight. omega (arith, two, eight)) in
-          only_none l a.0 (subst (PlansLine l) a.1 h.line) (a.2 ∙ two);
+          told_usage l a.0 ending old new (subst (PlansLine l) a.1 h.line) (subst (λ x. EndsPlan x ending) a.1 h.which) (a.2 ∙ two) h.text;
       only_usage = λ none. none_only planned ending code (subst (λ l. PlansLine l planned) none h.line) h.which h.status;
       missing = λ needs three.
           let a = at_status planned ending code h.which h.status (λ six. omega (arith, three, six)) (λ eight. omega (arith, three, eight)) in
           let by : MissesBy old.misses mid.misses planned = subst (λ b. MissesFor b old.misses mid.misses planned) needs h.misses in
           let rose : MissesBy old.misses mid.misses (Ok a.0) = subst (MissesBy old.misses mid.misses) a.1 by in
           subst (Rose old.misses) (sym h.no_miss) (rose.1 (a.2 ∙ three));
+      found = λ needs n3 n6 n8.
+          let a = at_status planned ending code h.which h.status n6 n8 in
+          let by : MissesBy old.misses mid.misses planned = subst (λ b. MissesFor b old.misses mid.misses planned) needs h.misses in
+          let same : MissesBy old.misses mid.misses (Ok a.0) = subst (MissesBy old.misses mid.misses) a.1 by in
+          h.no_miss ∙ same.2 (λ three. n3 (sym a.2 ∙ three));
+      few = h.few;
+      untouched = λ files at. subst (λ x. IfSome x (λ m. IfEditRefused l limits m (LeavesInput old.left new.left old.source_faults new.source_faults))) at h.untouched;
+      front = (h.front.0, h.no_load ∙ h.front.1);
+      loads = λ files at n6 n8.
+          let a = at_status planned ending code h.which h.status n6 n8 in
+          let over : LoadsAll (loads_of l limits) (Some files) old.loads mid.loads planned = subst (λ x. LoadsAll (loads_of l limits) x old.loads mid.loads planned) at h.loads in
+          let all : LoadsAll (loads_of l limits) (Some files) old.loads mid.loads (Ok a.0) = subst (λ x. LoadsAll (loads_of l limits) (Some files) old.loads mid.loads x) a.1 over in
+          h.no_load ∙ all;
       read = λ reads zero input left.
           let a = at_status planned ending code h.which h.status (λ six. omega (arith, zero, six)) (λ eight. omega (arith, zero, eight)) in
           let all : ReadsAll old.left new.left planned = subst (λ b. ReadsFor b old.left new.left planned) reads h.read in
@@ -409,3 +516,34 @@ is_run l limits planned ending old mid new code h =
           told (a.2 ∙ zero);
       unread = λ unread. (subst (λ b. ReadsFor b old.left new.left planned) unread h.read, h.quiet unread);
     }
+
+-- a run for whose words there was no memory
+pub starved_run : (l : Option Command) (limits : LimitNumbers) (old new : Seen) (code : ℕ) → code ≡ 8 → Calm old new → new.files ≡ old.files → new.out ≡ old.out → new.left ≡ old.left → new.loads ≡ old.loads
+    → TellsErr old new out_of_memory → IsLineRun l limits old new code
+starved_run l limits old new code eight calm files out left loads text = record {
+  told = λ _ _ _ _ _ _. record { answered = λ _ n8. absurd (n8 eight); failed = λ six. absurd (omega (arith, six, eight)); complete = λ _. inr eight };
+  alone = λ _ _ _ _ _. record { answered = λ _ n8. absurd (n8 eight); failed = λ six. absurd (omega (arith, six, eight)); complete = λ _. inr eight };
+  said = λ _ n8. absurd (n8 eight);
+  among = inr (omega (arith, eight), omega (arith, eight));
+  silent = λ zero. absurd (omega (arith, zero, eight));
+  fault = λ six. absurd (omega (arith, six, eight));
+  always = λ object rose. absurd (omega (arith, rose, calm_object old new calm object));
+  later = λ object. omega (arith, calm_object old new calm object);
+  memory = λ _. record { files = files; out = out; err = text };
+  nothing = λ _ _. (files, out);
+  flushed = λ zero. absurd (omega (arith, zero, eight));
+  usage = λ two. absurd (omega (arith, two, eight));
+  only_usage = λ _. inr eight;
+  missing = λ _ three. absurd (omega (arith, three, eight));
+  found = λ _ _ _ n8. absurd (n8 eight);
+  read = λ _ zero _ _. absurd (omega (arith, zero, eight));
+  unread = λ _. (left, calm.source_same);
+  few = takes_none _ old.left new.left left;
+  untouched = λ files _. holds_edit_refused l limits (Some files) _ (left, calm.source_same);
+  front = (0, loads);
+  loads = λ _ _ _ n8. absurd (n8 eight);
+}
+
+-- a run whose status is the process's
+pub run_ends : (words : List Text) (limits : LimitNumbers) (old new : Seen) (status code : ℕ) → code ≡ status → IsRun words limits old new status → IsRun words limits old new code
+run_ends words limits old new status code same run = subst (IsRun words limits old new) (sym same) run

@@ -83,6 +83,11 @@ end_text SourceFailed = source_failed
 end_text SinkFailed = sink_failed
 end_text OutOfMemory = out_of_memory
 
+-- nothing is said where the run is done
+abbrev pub SaysNone : Ending → Option (List ℕ) → Option (List ℕ) → ℕ → ℕ → Type 0
+SaysNone Done old new before now = (new ≡ old) × (now ≡ before)
+SaysNone _ old new before now = ⊤
+
 abbrev pub IsDoneOrSinkFailed : Ending → Type 0
 IsDoneOrSinkFailed Done = ⊤
 IsDoneOrSinkFailed SinkFailed = ⊤

@@ -1,6 +1,6 @@
 //! How a run ends, once its plan is made.
 ghost use Rattle.std.specs.Prelude.{◌≡◌};
-ghost use Rattle.command_runs.specs.Endings.{IsDoneOrSinkFailed, PrintLeaves, EndFiles, EndOut, EndShelfCount, EndSinkCount, EndsPlan, end_of_stop, end_status, end_text};
+ghost use Rattle.command_runs.specs.Endings.{IsDoneOrSinkFailed, PrintLeaves, EndFiles, EndOut, EndShelfCount, EndSinkCount, EndsPlan, SaysNone, end_of_stop, end_status, end_text};
 ghost use Rattle.command_table.specs.Outputs.{Tells};
 
 use crate::output::{write_all, write_and_flush};
@@ -53,6 +53,8 @@ pub fn carry_out<H: Shelf, K: Sink>(
     ensures shelf { EndShelfCount planned.entry result (H.faults shelf.old) (H.faults shelf.new) }
     ensures sink { EndSinkCount result (K.faults out.old) (K.faults out.new) }
     ensures misses { H.misses shelf.new ≡ H.misses shelf.old }
+    ensures loads { H.loads shelf.new ≡ H.loads shelf.old }
+    ensures lost { H.lost shelf.new ≡ H.lost shelf.old }
 {
     match planned {
         Err(stop) => Ending::from(stop),
@@ -76,6 +78,7 @@ pub fn carry_out<H: Shelf, K: Sink>(
 pub fn tell<E: Sink>(ending: Ending, err: &mut E) -> u8
     ensures status { result ≡ end_status ending }
     ensures text { Tells (E.taken err.old) (E.taken err.new) (E.faults err.old) (E.faults err.new) (end_text ending) }
+    ensures silent { SaysNone ending (E.taken err.old) (E.taken err.new) (E.faults err.old) (E.faults err.new) }
 {
     match ending {
         Ending::Done => 0,

@@ -1,12 +1,17 @@
-//! A run whose steps nobody counts.
+//! A run whose steps nobody counts, and what a process ends with.
 ghost use Rattle.std.specs.Prelude.{◌≡◌, ◌<◌, map, string_bytes};
+ghost use Rattle.std.specs.Process.{exit_status};
 ghost use Rattle.command_table.specs.Headline.{IsRun, seen};
+ghost use Rattle.command_table.specs.Outputs.{Tells};
+ghost use Rattle.command_table.specs.Text.{out_of_memory};
 
+use crate::ending::{Ending, tell};
 use crate::top::run;
 use ew_model::limits::Limits;
 use ew_model::steps::Steps;
 use ew_outside::{Shelf, Sink, Source};
 use std::alloc::Global;
+use std::process::ExitCode;
 use std::sync::ledger::{Blank, Ledger};
 
 /// Runs a command line over a ledger of its own.
@@ -24,12 +29,46 @@ pub fn run_uncounted<L: Ledger, H: Shelf, S: Source, K: Sink, E: Sink>(
     requires parts { blank.parts ≡ L.parts }
     requires some { 0 < blank.parts }
     ensures run { IsRun (map string_bytes words.now) limits.now
-        (seen (H.files shelf.old) (H.faults shelf.old) (H.misses shelf.old) (S.left input.old) (S.faults input.old)
+        (seen (H.files shelf.old) (H.faults shelf.old) (H.misses shelf.old) (H.loads shelf.old) (H.lost shelf.old) (S.left input.old) (S.faults input.old)
         (K.taken out.old) (K.flushed out.old) (K.faults out.old) (E.taken err.old) (E.faults err.old))
-        (seen (H.files shelf.new) (H.faults shelf.new) (H.misses shelf.new) (S.left input.new) (S.faults input.new)
+        (seen (H.files shelf.new) (H.faults shelf.new) (H.misses shelf.new) (H.loads shelf.new) (H.lost shelf.new) (S.left input.new) (S.faults input.new)
         (K.taken out.new) (K.flushed out.new) (K.faults out.new) (E.taken err.new) (E.faults err.new))
         result }
 {
     let mut steps = Steps::<L>::new(blank);
     run(alloc, words, limits, shelf, input, out, err, &mut steps)
+}
+
+/// Runs a command line, and answers its status as that of the process.
+pub fn run_process<L: Ledger, H: Shelf, S: Source, K: Sink, E: Sink>(
+    alloc: Global,
+    blank: Blank,
+    words: &[String],
+    limits: &Limits,
+    shelf: &mut H,
+    input: &mut S,
+    out: &mut K,
+    err: &mut E,
+) -> ExitCode
+    requires name { blank.name ≡ L.name }
+    requires parts { blank.parts ≡ L.parts }
+    requires some { 0 < blank.parts }
+    ensures { IsRun (map string_bytes words.now) limits.now
+        (seen (H.files shelf.old) (H.faults shelf.old) (H.misses shelf.old) (H.loads shelf.old) (H.lost shelf.old) (S.left input.old) (S.faults input.old)
+        (K.taken out.old) (K.flushed out.old) (K.faults out.old) (E.taken err.old) (E.faults err.old))
+        (seen (H.files shelf.new) (H.faults shelf.new) (H.misses shelf.new) (H.loads shelf.new) (H.lost shelf.new) (S.left input.new) (S.faults input.new)
+        (K.taken out.new) (K.flushed out.new) (K.faults out.new) (E.taken err.new) (E.faults err.new))
+        (exit_status result) }
+{
+    ExitCode::from(run_uncounted::<L, H, S, K, E>(
+        alloc, blank, words, limits, shelf, input, out, err,
+    ))
+}
+
+/// The end of a process that had no memory for its words.
+pub fn end_starved<E: Sink>(err: &mut E) -> ExitCode
+    ensures status { exit_status result ≡ 8 }
+    ensures text { Tells (E.taken err.old) (E.taken err.new) (E.faults err.old) (E.faults err.new) out_of_memory }
+{
+    ExitCode::from(tell(Ending::OutOfMemory, err))
 }

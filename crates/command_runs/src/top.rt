@@ -26,9 +26,9 @@ fn run_line<H: Shelf, S: Source, K: Sink, E: Sink, L: Ledger>(
 ) -> u8
     requires { IsNamed (option_map line_view line) }
     ensures { IsLineRun (option_map line_view line.entry) limits.now
-        (seen (H.files shelf.old) (H.faults shelf.old) (H.misses shelf.old) (S.left input.old) (S.faults input.old)
+        (seen (H.files shelf.old) (H.faults shelf.old) (H.misses shelf.old) (H.loads shelf.old) (H.lost shelf.old) (S.left input.old) (S.faults input.old)
         (K.taken out.old) (K.flushed out.old) (K.faults out.old) (E.taken err.old) (E.faults err.old))
-        (seen (H.files shelf.new) (H.faults shelf.new) (H.misses shelf.new) (S.left input.new) (S.faults input.new)
+        (seen (H.files shelf.new) (H.faults shelf.new) (H.misses shelf.new) (H.loads shelf.new) (H.lost shelf.new) (S.left input.new) (S.faults input.new)
         (K.taken out.new) (K.flushed out.new) (K.faults out.new) (E.taken err.new) (E.faults err.new))
         result }
 {
@@ -50,9 +50,9 @@ pub fn run<H: Shelf, S: Source, K: Sink, E: Sink, L: Ledger>(
     steps: &mut Steps<L>,
 ) -> u8
     ensures { IsRun (map string_bytes words.now) limits.now
-        (seen (H.files shelf.old) (H.faults shelf.old) (H.misses shelf.old) (S.left input.old) (S.faults input.old)
+        (seen (H.files shelf.old) (H.faults shelf.old) (H.misses shelf.old) (H.loads shelf.old) (H.lost shelf.old) (S.left input.old) (S.faults input.old)
         (K.taken out.old) (K.flushed out.old) (K.faults out.old) (E.taken err.old) (E.faults err.old))
-        (seen (H.files shelf.new) (H.faults shelf.new) (H.misses shelf.new) (S.left input.new) (S.faults input.new)
+        (seen (H.files shelf.new) (H.faults shelf.new) (H.misses shelf.new) (H.loads shelf.new) (H.lost shelf.new) (S.left input.new) (S.faults input.new)
         (K.taken out.new) (K.flushed out.new) (K.faults out.new) (E.taken err.new) (E.faults err.new))
         result }
 {

@@ -26,7 +26,7 @@ use Rattle.ew_model.proofs.FileReading.{file_take, file_again, file_is}
 use Rattle.ew_model.proofs.LimitsKept.{arrivals_keep}
 use Rattle.ew_model.proofs.WritableLaws.{good_is_writable}
 use Rattle.ew_outside.specs.Files.{Files}
-use Rattle.replica.specs.Receiving.{accepted_in, refused_in}
+use Rattle.history_words.specs.Tallies.{accepted_in, refused_in}
 use Rattle.command_table.specs.Loads.{too_long, whole, whole_of}
 use Rattle.command_table.specs.MergeLaws.{HoldsBytes}
 use Rattle.command_table.specs.Table.{Text, Reply, prints, stores, refuses, Opened, opened, Answer, answer_of, judged, read_as, opened_as, open_file, over_events, over_both, is_clash, is_graph_full, unless_clash, received_reply, outcome_text, merge_reply}

@@ -13,7 +13,7 @@ use Rattle.ew_model.specs.Verdicts.Ruling.{Repeat, Clash, SelfParent, TooManyPar
 use Rattle.ew_model.specs.Arrival.{Answer, arrive}
 use Rattle.ew_model.specs.MergeLaw.{is_taken}
 use Rattle.ew_model.proofs.AppendSteps.{arrivals_append}
-use Rattle.replica.specs.Receiving.{refusal_in, is_repeat, accepted_in, repeats_in, refused_in}
+use Rattle.history_words.specs.Tallies.{refusal_in, is_repeat, accepted_in, repeats_in, refused_in}
 use Rattle.command_table.specs.Table.{is_clash, is_graph_full}
 use Rattle.ew_model.specs.MergeLaw.{is_clash_or_full, NoneClashes}
 

@@ -1,5 +1,5 @@
 -- What a run is, seen from its objects before and after.
-use Rattle.std.specs.Prelude.{◌≡◌, ◌≤◌, ◌<◌, ◌⊎◌, ℕ, true, false, List, [], Option, None, Some}
+use Rattle.std.specs.Prelude.{◌≡◌, ◌≤◌, ◌<◌, ◌+◌, ◌⊎◌, ℕ, true, false, List, [], Option, None, Some}
 use Rattle.std.specs.Io.KnownBytes.{Appends}
 use Rattle.ew_model.specs.Limits.{LimitNumbers}
 use Rattle.ew_outside.specs.Files.{Files}
@@ -7,9 +7,11 @@ use Rattle.ew_outside.specs.Counts.{Rose, IsQuiet}
 use Rattle.ew_outside.specs.Bytes.{IsFlushed}
 use Rattle.command_table.specs.Outputs.{GrowsByFront}
 use Rattle.command_table.specs.Outputs.{Tells}
-use Rattle.command_table.specs.Text.{shelf_failed, source_failed, sink_failed, out_of_memory}
+use Rattle.command_table.specs.Text.{usage as usage_text, shelf_failed, source_failed, sink_failed, out_of_memory}
 use Rattle.command_table.specs.Scripts.{Reading, Means}
-use Rattle.command_table.specs.Table.{Text, Command, Answer, answer_of, reply_of, line_of, reads_input, needs_file}
+use Rattle.command_table.specs.Reads.{files_of, loads_of, after_loads, LoadsFront, TakesAtMost, LeavesInput, IfEditRefused}
+use Rattle.command_table.specs.Possible.{MayReply}
+use Rattle.command_table.specs.Table.{Text, Command, Reply, prints, stores, refuses, Answer, answer_of, reply_of, line_of, reads_input, needs_file}
 
 -- what the objects tell at one moment, and their counts
 pub record Seen : Type 0 where
@@ -20,12 +22,14 @@ pub record Seen : Type 0 where
   pub err : Option (List ℕ)
   pub shelf_faults : ℕ
   pub misses : ℕ
+  pub loads : ℕ
+  pub lost : ℕ
   pub source_faults : ℕ
   pub out_faults : ℕ
   pub err_faults : ℕ
 
-abbrev pub seen : Option Files → ℕ → ℕ → Option (List ℕ) → ℕ → Option (List ℕ) → Option ℕ → ℕ → Option (List ℕ) → ℕ → Seen
-seen files shelf_faults misses left source_faults out flushed out_faults err err_faults = record {
+abbrev pub seen : Option Files → ℕ → ℕ → ℕ → ℕ → Option (List ℕ) → ℕ → Option (List ℕ) → Option ℕ → ℕ → Option (List ℕ) → ℕ → Seen
+seen files shelf_faults misses loads lost left source_faults out flushed out_faults err err_faults = record {
   files = files;
   left = left;
   out = out;
@@ -33,6 +37,8 @@ seen files shelf_faults misses left source_faults out flushed out_faults err err
   err = err;
   shelf_faults = shelf_faults;
   misses = misses;
+  loads = loads;
+  lost = lost;
   source_faults = source_faults;
   out_faults = out_faults;
   err_faults = err_faults;
@@ -85,17 +91,49 @@ pub record IsTableRun (t : Answer) (old new : Seen) (status : ℕ) : Type 0 wher
   -- where no count rose, it is the table's status, or want of memory
   pub complete : ((object : Object) → IsQuiet (faults_of object old) (faults_of object new)) → (status ≡ t.status) ⊎ (status ≡ 8)
 
+-- nothing was stored, and nothing printed
+abbrev pub KeepsAll : Seen → Seen → Type 0
+KeepsAll old new = (new.files ≡ old.files) × (new.out ≡ old.out)
+
+-- How far a run came that met a fault of an object. A fault of a load leaves all as it was, the input too. One of the input stores and prints nothing. One of a store prints nothing.
+abbrev pub FaultLeaves : Object → Seen → Seen → Type 0
+FaultLeaves shelf old new =
+    (Rose old.lost new.lost × KeepsAll old new × LeavesInput old.left new.left old.source_faults new.source_faults) ⊎ ((new.lost ≡ old.lost) × (new.out ≡ old.out))
+FaultLeaves source old new = (new.lost ≡ old.lost) × KeepsAll old new
+FaultLeaves sink old new = new.lost ≡ old.lost
+
 -- an object failed, and the text names it
 pub record NamesFault (old new : Seen) : Type 0 where
   pub object : Object
   pub rose : Rose (faults_of object old) (faults_of object new)
+  -- no other object failed
+  pub others : (other : Object) → (other ≡ object → ⊥) → faults_of other new ≡ faults_of other old
+  pub leaves : FaultLeaves object old new
   pub text : TellsErr old new (failed_text object)
+
+-- the status, what is printed and what is said are those of a reply
+abbrev pub IsSaid : Reply → Seen → Seen → ℕ → Type 0
+IsSaid (prints out) old new status = (status ≡ 0) × Appends old.out new.out out × TellsErr old new []
+IsSaid (stores out name bytes) old new status = (status ≡ 0) × Appends old.out new.out out × TellsErr old new []
+IsSaid (refuses refusal text) old new status = (status ≡ refusal) × (new.out ≡ old.out) × TellsErr old new text
+
+-- the statuses of runs: 0, and 2 to 8
+abbrev pub IsStatus : ℕ → Type 0
+IsStatus n = (n ≡ 0) ⊎ ((2 ≤ n) × (n ≤ 8))
 
 -- A run of a line; none where the words aren't taken.
 pub record IsLineRun (line : Option Command) (limits : LimitNumbers) (old new : Seen) (status : ℕ) : Type 0 where
   -- where shelf and source tell what they hold
   pub told : (files : Files) (input : List ℕ) (reading : Reading) → old.files ≡ Some files → old.left ≡ Some input → Means input reading
       → IsTableRun (answer_of (reply_of line limits files input reading) files) old new status
+  -- a command that reads no input owes its answer whatever the source tells
+  pub alone : reads_input line ≡ false → (files : Files) (input : List ℕ) (reading : Reading) → old.files ≡ Some files
+      → IsTableRun (answer_of (reply_of line limits files input reading) files) old new status
+  -- whatever they tell: what is said is a reply of the line to some files and some input
+  pub said : (status ≡ 6 → ⊥) → (status ≡ 8 → ⊥) → (reply : Reply) × MayReply line limits reply × IsSaid reply old new status
+  pub among : IsStatus status
+  -- and the error output is left alone at status 0
+  pub silent : status ≡ 0 → (new.err ≡ old.err) × (new.err_faults ≡ old.err_faults)
   -- a fault is never told without a cause, and always where there is one
   pub fault : status ≡ 6 → NamesFault old new
   pub always : (object : Object) → faults_of object old < faults_of object new → status ≡ 6
@@ -105,12 +143,19 @@ pub record IsLineRun (line : Option Command) (limits : LimitNumbers) (old new : 
   pub nothing : (status ≡ 0 → ⊥) → (status ≡ 6 → ⊥) → (new.files ≡ old.files) × (new.out ≡ old.out)
   pub flushed : status ≡ 0 → IsFlushed new.out new.flushed
   -- the words alone decide on the usage
-  pub usage : status ≡ 2 → line ≡ None
+  pub usage : status ≡ 2 → (line ≡ None) × TellsErr old new usage_text
   pub only_usage : line ≡ None → (status ≡ 2) ⊎ (status ≡ 8)
   pub missing : needs_file line ≡ true → status ≡ 3 → Rose old.misses new.misses
+  pub found : needs_file line ≡ true → (status ≡ 3 → ⊥) → (status ≡ 6 → ⊥) → (status ≡ 8 → ⊥) → new.misses ≡ old.misses
   -- the input is read to its end, or not at all
   pub read : reads_input line ≡ true → status ≡ 0 → (input : List ℕ) → old.left ≡ Some input → new.left ≡ Some []
-  pub unread : reads_input line ≡ false → (new.left ≡ old.left) × (new.source_faults ≡ old.source_faults)
+  pub unread : reads_input line ≡ false → LeavesInput old.left new.left old.source_faults new.source_faults
+  -- no more than one byte behind the limit is taken
+  pub few : TakesAtMost (limits.input + 1) old.left new.left
+  pub untouched : (files : Files) → old.files ≡ Some files → IfEditRefused line limits files (LeavesInput old.left new.left old.source_faults new.source_faults)
+  -- never more loads than the line has files, and as many as it has up to the first that is refused
+  pub front : LoadsFront (files_of line) old.loads new.loads
+  pub loads : (files : Files) → old.files ≡ Some files → (status ≡ 6 → ⊥) → (status ≡ 8 → ⊥) → new.loads ≡ after_loads (loads_of line limits files) old.loads
 
 -- A run of a command line.
 abbrev pub IsRun : List Text → LimitNumbers → Seen → Seen → ℕ → Type 0

@@ -4,6 +4,8 @@ pub mod Headline
 pub mod Loads
 pub mod MergeLaws
 pub mod Outputs
+pub mod Possible
+pub mod Reads
 pub mod Scripts
 pub mod Sequences
 pub mod Table

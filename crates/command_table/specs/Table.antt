@@ -21,8 +21,8 @@ use Rattle.ew_model.specs.File.{file_of}
 use Rattle.ew_model.specs.FileFaults.{FileFinding, file_finding}
 use Rattle.ew_model.specs.FileFaults.FileFinding.{IsFile, Short, BadMagic, BadVersion, BadDigest, BadRecord, TooMany}
 use Rattle.ew_outside.specs.Files.{Files}
-use Rattle.history_view.specs.Listings.{check_text, heads_text, log_text}
-use Rattle.replica.specs.Receiving.{accepted_in, repeats_in, refused_in}
+use Rattle.history_words.specs.Listings.{check_text, heads_text, log_text}
+use Rattle.history_words.specs.Tallies.{accepted_in, repeats_in, refused_in}
 use Rattle.command_table.specs.Cli.{egw_app}
 use Rattle.command_table.specs.Loads.{File, missing, too_long, whole, whole_of}
 use Rattle.command_table.specs.Scripts.{Reading, script, bad_line, Edited, ran, stopped_at, edited_by}

@@ -1,8 +1,7 @@
 //! `egw`: collaborative plain text in event files.
 #![tactic(auto)]
 
-use command_runs::ending::{Ending, tell};
-use command_runs::start::run_uncounted;
+use command_runs::start::{end_starved, run_process};
 use ew_model::limits::Limits;
 use ew_outside::{DirShelf, StdSink, StdSource};
 use std::alloc::AllocError;
@@ -27,17 +26,17 @@ fn read_arguments(rt: &HostRuntime) -> Result<Vec<String>, AllocError> {
     Ok(words)
 }
 
-/// Makes the shelf and the streams of the process, and ends with the status of the run.
+/// Makes the shelf and the streams of the process, and runs its words over them.
 fn main(rt: HostRuntime) -> ExitCode {
     let alloc = rt.alloc();
     let mut err = StdSink::new(rt.stderr());
     let Ok(words) = read_arguments(&rt) else {
-        return ExitCode::from(tell(Ending::OutOfMemory, &mut err));
+        return end_starved(&mut err);
     };
     let mut shelf = DirShelf::new(alloc, &rt);
     let mut input = StdSource::new(rt.stdin());
     let mut out = StdSink::new(rt.stdout());
-    let status = run_uncounted::<Brand, _, _, _, _>(
+    run_process::<Brand, _, _, _, _>(
         alloc,
         Blank::new(1),
         &words,
@@ -46,6 +45,5 @@ fn main(rt: HostRuntime) -> ExitCode {
         &mut input,
         &mut out,
         &mut err,
-    );
-    ExitCode::from(status)
+    )
 }

@@ -1,8 +1,10 @@
 use Rattle.std.specs.FinMap.{get}
 use Rattle.command_table.specs.Loads.{whole_of}
-use Rattle.command_table.specs.Table.{create_reply, merge_reply, open_file, over_both, over_events, show_reply}
+use Rattle.command_table.specs.Table.{create, merge, show, create_reply, merge_reply, open_file, over_both, over_events, show_reply}
 use Rattle.command_words.specs.Words.{listing_view}
 use Rattle.command_plans.proofs.Lines.{plans_alone}
+use Rattle.command_plans.proofs.Reading.{loads_one, one_front}
+use Rattle.command_plans.proofs.Replies.{may_plan}
 use Rattle.command_plans.proofs.plan.plan_unread.Goals as goal
 
 pub returns-in-New-clause-told : goal.returns-in-New-clause-told
@@ -20,3 +22,30 @@ returns-in-Merge-clause-told g c =
     let name = c.in-Merge.file.now in
     let other = c.in-Merge.other.now in
     rw c.in-Merge.is (plans_alone (λ m. over_both (merge_reply name c.args.limits.now) (open_file name c.args.limits.now m) (open_file other c.args.limits.now m)) (g.H.Shelf.files c.args.shelf.now) c.merge.result c.merge.ensures.told)
+
+pub returns-in-New-clause-front : goal.returns-in-New-clause-front
+returns-in-New-clause-front g c = rw c.in-New.is (one_front c.in-New.name.now _ _ c.create.ensures.loads)
+
+pub returns-in-New-clause-loads : goal.returns-in-New-clause-loads
+returns-in-New-clause-loads g c = rw c.in-New.is (loads_one c.in-New.name.now (g.H.Shelf.files c.args.shelf.now) _ _ c.create.result c.create.ensures.loads)
+
+pub returns-in-Show-clause-front : goal.returns-in-Show-clause-front
+returns-in-Show-clause-front g c = rw c.in-Show.is (one_front c.in-Show.file.now _ _ c.show.ensures.loads)
+
+pub returns-in-Show-clause-loads : goal.returns-in-Show-clause-loads
+returns-in-Show-clause-loads g c = rw c.in-Show.is (loads_one c.in-Show.file.now (g.H.Shelf.files c.args.shelf.now) _ _ c.show.result c.show.ensures.loads)
+
+pub returns-in-Merge-clause-front : goal.returns-in-Merge-clause-front
+returns-in-Merge-clause-front g c = rw c.in-Merge.is c.merge.ensures.front
+
+pub returns-in-Merge-clause-loads : goal.returns-in-Merge-clause-loads
+returns-in-Merge-clause-loads g c = rw c.in-Merge.is c.merge.ensures.loads
+
+pub returns-in-New-clause-some : goal.returns-in-New-clause-some
+returns-in-New-clause-some g c = rw c.in-New.is (may_plan (create c.in-New.name.now) c.args.limits.now c.create.result c.create.ensures.some)
+
+pub returns-in-Show-clause-some : goal.returns-in-Show-clause-some
+returns-in-Show-clause-some g c = rw c.in-Show.is (may_plan (show (listing_view c.in-Show.listing) c.in-Show.file.now) c.args.limits.now c.show.result c.show.ensures.some)
+
+pub returns-in-Merge-clause-some : goal.returns-in-Merge-clause-some
+returns-in-Merge-clause-some g c = rw c.in-Merge.is (may_plan (merge c.in-Merge.file.now c.in-Merge.other.now) c.args.limits.now c.merge.result c.merge.ensures.some)

@@ -1,0 +1,29 @@
+-- What a line may answer, over some bytes of each file and some input.
+use Rattle.std.specs.Prelude.{◌≡◌, ◌≤◌, ◌⊎◌, ℕ, List, length, Option, None, Some}
+use Rattle.ew_model.specs.Limits.{LimitNumbers}
+use Rattle.command_table.specs.Loads.{File}
+use Rattle.command_table.specs.Scripts.{Reading, Means}
+use Rattle.command_table.specs.Text.{usage, input_too_long}
+use Rattle.command_table.specs.Table.{Text, Command, create, edit, show, merge, Reply, refuses, Opened, opened, refused, opened_as, create_reply, show_reply, merge_reply, over_events, over_both, script_reply}
+
+-- a file that some bytes are
+abbrev pub MayOpen : Text → LimitNumbers → Opened → Type 0
+MayOpen name limits o = (file : File) × (o ≡ opened_as name limits file)
+
+-- an edit is refused as its file is, or for an input that is too long, or answers by the meaning of an input
+abbrev pub MayEdit : Text → Text → LimitNumbers → Opened → Reply → Type 0
+MayEdit name agent limits (refused status text) reply = reply ≡ refuses status text
+MayEdit name agent limits (opened events) reply =
+    (reply ≡ refuses 7 (input_too_long limits.input))
+    ⊎ ((input : List ℕ) × (reading : Reading) × (length input ≤ limits.input) × Means input reading × (reply ≡ script_reply name agent limits events reading))
+
+abbrev pub MayReplyTo : Command → LimitNumbers → Reply → Type 0
+MayReplyTo (create name) limits reply = (file : File) × (reply ≡ create_reply name file)
+MayReplyTo (edit name agent) limits reply = (file : File) × MayEdit name agent limits (opened_as name limits file) reply
+MayReplyTo (show listing name) limits reply = (file : File) × (reply ≡ over_events (show_reply listing) (opened_as name limits file))
+MayReplyTo (merge name other) limits reply = (file : File) × (second : File) × (reply ≡ over_both (merge_reply name limits) (opened_as name limits file) (opened_as other limits second))
+
+-- the replies of a line
+abbrev pub MayReply : Option Command → LimitNumbers → Reply → Type 0
+MayReply None limits reply = reply ≡ refuses 2 usage
+MayReply (Some command) limits reply = MayReplyTo command limits reply
