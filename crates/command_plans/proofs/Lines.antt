@@ -1,12 +1,19 @@
 -- From the plan of a command to the plan of its line.
-use Rattle.std.proofs.Common.{◌≡◌, ℕ, List, Option, Some, None, Result, Ok, Err, IfOk, IfSome}
+use Rattle.std.proofs.Common.{◌≡◌, ℕ, List, [], ◌∷◌, Option, Some, None, Result, Ok, Err, IfOk, IfSome}
+use Rattle.ew_model.specs.Limits.{LimitNumbers}
+use Rattle.ew_outside.specs.Counts.{next}
 use Rattle.ew_outside.specs.Files.{Files}
+use Rattle.command_table.specs.Possible.{MayReplyTo}
+use Rattle.command_table.specs.Reads.{LoadsFront}
 use Rattle.command_table.specs.Scripts.{Reading}
-use Rattle.command_table.specs.Table.{Reply}
-use Rattle.command_plans.specs.declared.reply.Plan.{Plan}
-use Rattle.command_plans.specs.declared.reply.Stop.{Stop}
-use Rattle.command_plans.specs.Views.{plan_view, PlansAlone, PlansBy, Causes, ShelfCauses}
-use Rattle.command_plans.specs.declared.reply.Stop.TheVariants.{ShelfFailed, SourceFailed, OutOfMemory}
+use Rattle.command_table.specs.Table.{Text, Command, Reply}
+use Rattle.opened_files.specs.declared.reply.Plan.{Plan}
+use Rattle.opened_files.specs.declared.reply.Stop.{Stop}
+use Rattle.opened_files.specs.declared.reply.Stop.TheVariants.{ShelfFailed, SourceFailed, OutOfMemory}
+use Rattle.opened_files.specs.Views.{ShelfCauses, plan_view}
+use Rattle.edit_plans.specs.Sources.{Causes, PlansBy}
+use Rattle.merge_plans.specs.Merging.{LoadsAll}
+use Rattle.command_plans.specs.Lines.{MayPlan, PlansAlone}
 
 -- a plan in which the input has no part
 pub plans_alone : (reply : Files → Reply) (files : Option Files) (result : Result Plan Stop) → IfSome files (λ m. IfOk result (λ p. plan_view p ≡ reply m)) → PlansAlone (λ m _ _. reply m) files result
@@ -28,3 +35,18 @@ causes_of_shelf before now source source' (Ok p) same cause = (cause, same)
 causes_of_shelf before now source source' (Err ShelfFailed) same cause = (cause, same)
 causes_of_shelf before now source source' (Err SourceFailed) same cause = absurd cause
 causes_of_shelf before now source source' (Err OutOfMemory) same cause = (cause, same)
+
+-- a plan that is one of the replies of a command is one of its line
+pub may_plan : (command : Command) (limits : LimitNumbers) (result : Result Plan Stop) → IfOk result (λ p. MayReplyTo command limits (plan_view p)) → MayPlan (Some command) limits result
+may_plan command limits (Ok p) some = some
+may_plan command limits (Err e) some = tt
+
+-- ---- the one file of a line that loads one
+
+pub one_front : (name : Text) (before now : ℕ) → now ≡ next before → LoadsFront (name ∷ []) before now
+one_front name before now one = (1, one)
+
+pub loads_one : (name : Text) (files : Option Files) (before now : ℕ) (result : Result Plan Stop) → now ≡ next before → LoadsAll (λ m. name ∷ []) files before now result
+loads_one name (Some m) before now (Ok p) one = one
+loads_one name files before now (Err e) one = tt
+loads_one name None before now (Ok p) one = tt

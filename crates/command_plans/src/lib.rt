@@ -2,11 +2,4 @@
 #![tactic(auto)]
 
 mod commands;
-mod edit;
-mod input;
-mod load;
-mod merge;
-mod open;
 pub mod plan;
-pub mod reply;
-mod store;

@@ -4,19 +4,22 @@ ghost use Rattle.std.specs.Option.{option_map};
 ghost use Rattle.ew_model.specs.Names.{is_name};
 ghost use Rattle.command_table.specs.Reads.{IfEditRefused, LeavesInput, LoadsFront, TakesAtMost, files_of, loads_of};
 ghost use Rattle.command_table.specs.Table.{needs_file, reads_input, reply_of, reply_to};
-ghost use Rattle.command_plans.specs.Views.{Causes, IsCommandPlan, KeepsInput, LoadsAll, LostBy, MayPlan, MissesFor, PlansAlone, PlansBy, PlansLine, ReadsFor, ShelfCauses};
+ghost use Rattle.opened_files.specs.Views.{IsCommandPlan, LostBy, ShelfCauses};
+ghost use Rattle.edit_plans.specs.Sources.{Causes, KeepsInput, PlansBy};
+ghost use Rattle.merge_plans.specs.Merging.{LoadsAll};
+ghost use Rattle.command_plans.specs.Lines.{MayPlan, MissesFor, PlansAlone, PlansLine, ReadsFor};
 ghost use Rattle.command_words.specs.Words.{IsNamed, line_view};
 
 use crate::commands::{create, show};
-use crate::edit::edit;
-use crate::merge::merge;
-use crate::reply::{Plan, Stop};
 use command_texts::texts::usage_text;
 use command_words::words::Taken;
+use edit_plans::edit::edit;
 use ew_model::limits::Limits;
 use ew_model::name::Name;
 use ew_model::steps::Steps;
 use ew_outside::{Shelf, Source};
+use merge_plans::merge::merge;
+use opened_files::reply::{Plan, Stop};
 use std::alloc::Global;
 use std::sync::ledger::Ledger;
 

@@ -12,15 +12,18 @@ use Rattle.command_table.specs.Outputs.{GrowsByFront}
 use Rattle.command_table.specs.Text.{usage as usage_text, out_of_memory}
 use Rattle.command_table.specs.Scripts.{Reading, Means}
 use Rattle.command_table.specs.Table.{Text, Command, Reply, Answer, reply_of, answer_of, reads_input, needs_file}
-use Rattle.command_plans.specs.Views.{plan_view, status_of, Causes, KeepsInput, MayPlan, LoadsAll, LostBy, MissesFor, MissesBy, PlansAlone, PlansBy, PlansLine, ReadsFor, ReadsAll, IsRefusal}
+use Rattle.opened_files.specs.Views.{plan_view, status_of, LostBy, MissesBy, IsRefusal}
+use Rattle.edit_plans.specs.Sources.{Causes, KeepsInput, PlansBy, ReadsAll}
+use Rattle.merge_plans.specs.Merging.{LoadsAll}
+use Rattle.command_plans.specs.Lines.{MayPlan, MissesFor, PlansAlone, PlansLine, ReadsFor}
 use Rattle.command_runs.specs.Endings.{EndFiles, EndOut, EndShelfCount, EndSinkCount, EndsPlan, SaysNone, end_of_stop, end_status, end_text, FilesAfter, files_after, out_of}
 use Rattle.command_table.specs.Reads.{files_of, loads_of, LoadsFront, TakesAtMost, LeavesInput, IfEditRefused}
 use Rattle.command_table.specs.Headline.{Seen, Object, shelf, source, sink, faults_of, failed_text, TellsErr, IsAnswered, IsFailed, IsOutOfMemory, IsSaid, IsTableRun, FaultLeaves, NamesFault, IsStatus, IsLineRun, IsRun}
-use Rattle.command_plans.proofs.Reading.{holds_edit_refused, takes_none}
-use Rattle.command_plans.specs.declared.reply.Plan.{Plan}
-use Rattle.command_plans.specs.declared.reply.Plan.TheVariants as plan
-use Rattle.command_plans.specs.declared.reply.Stop.{Stop}
-use Rattle.command_plans.specs.declared.reply.Stop.TheVariants as stop
+use Rattle.edit_plans.proofs.Reading.{holds_edit_refused, takes_none}
+use Rattle.opened_files.specs.declared.reply.Plan.{Plan}
+use Rattle.opened_files.specs.declared.reply.Plan.TheVariants as plan
+use Rattle.opened_files.specs.declared.reply.Stop.{Stop}
+use Rattle.opened_files.specs.declared.reply.Stop.TheVariants as stop
 use Rattle.command_runs.specs.declared.ending.Ending.{Ending}
 use Rattle.command_runs.specs.declared.ending.Ending.TheVariants as e
 

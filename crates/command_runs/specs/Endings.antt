@@ -7,10 +7,10 @@ use Rattle.ew_outside.specs.Counts.{Rose}
 use Rattle.ew_outside.specs.Bytes.{IsFlushed}
 use Rattle.command_table.specs.Outputs.{GrowsByFront}
 use Rattle.command_table.specs.Text.{shelf_failed, source_failed, sink_failed, out_of_memory}
-use Rattle.command_plans.specs.declared.reply.Plan.{Plan}
-use Rattle.command_plans.specs.declared.reply.Plan.TheVariants as plan
-use Rattle.command_plans.specs.declared.reply.Stop.{Stop}
-use Rattle.command_plans.specs.declared.reply.Stop.TheVariants as stop
+use Rattle.opened_files.specs.declared.reply.Plan.{Plan}
+use Rattle.opened_files.specs.declared.reply.Plan.TheVariants as plan
+use Rattle.opened_files.specs.declared.reply.Stop.{Stop}
+use Rattle.opened_files.specs.declared.reply.Stop.TheVariants as stop
 use Rattle.command_runs.specs.declared.ending.Ending.{Ending}
 use Rattle.command_runs.specs.declared.ending.Ending.TheVariants.{Done, Refused, ShelfFailed, SourceFailed, SinkFailed, OutOfMemory}
 

@@ -4,8 +4,8 @@ ghost use Rattle.command_runs.specs.Endings.{IsDoneOrSinkFailed, PrintLeaves, En
 ghost use Rattle.command_table.specs.Outputs.{Tells};
 
 use crate::output::{write_all, write_and_flush};
-use command_plans::reply::{Plan, Stop};
 use ew_outside::{Failed, Shelf, ShelfFault, Sink};
+use opened_files::reply::{Plan, Stop};
 
 /// How a run ends.
 #[derive(Debug, Drop)]

@@ -1,8 +1,7 @@
 use Rattle.command_table.specs.Table.{show_reply}
-use Rattle.command_plans.specs.Views.{plan_view}
+use Rattle.opened_files.specs.Views.{plan_view}
 use Rattle.command_words.specs.Words.{listing_view}
-use Rattle.command_plans.proofs.Readings.{shown_opened}
-use Rattle.command_plans.proofs.Replies.{opened_shows, refused_shows}
+use Rattle.opened_files.proofs.Shown.{shown_opened, opened_shows, refused_shows}
 use Rattle.command_plans.proofs.commands.show.Goals as goal
 
 pub returns-in_ok-plan-in-Open-clause-told : goal.returns-in_ok-plan-in-Open-clause-told

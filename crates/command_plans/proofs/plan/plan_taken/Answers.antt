@@ -1,10 +1,11 @@
 use Rattle.command_table.specs.Table.{edit, reply_to}
 use Rattle.command_words.specs.Words.{line_view}
-use Rattle.command_plans.proofs.Lines.{causes_of_shelf, plans_by}
+use Rattle.command_plans.proofs.Lines.{causes_of_shelf, plans_by, loads_one, one_front, may_plan}
 use Rattle.std.proofs.Common.{ℕ, List, subst, refl, Some}
-use Rattle.command_plans.proofs.Reading.{holds_edit_refused, loads_one, one_front, takes_none}
-use Rattle.command_plans.proofs.Replies.{keeps_same, may_plan}
-use Rattle.command_plans.specs.Views.{MayPlan, PlansBy}
+use Rattle.edit_plans.proofs.Reading.{holds_edit_refused, takes_none}
+use Rattle.edit_plans.proofs.Replies.{keeps_same}
+use Rattle.edit_plans.specs.Sources.{PlansBy}
+use Rattle.command_plans.specs.Lines.{MayPlan}
 use Rattle.command_plans.proofs.plan.plan_taken.Goals as goal
 
 pub returns-in_default-clause-told : goal.returns-in_default-clause-told

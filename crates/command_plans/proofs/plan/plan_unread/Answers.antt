@@ -2,9 +2,7 @@ use Rattle.std.specs.FinMap.{get}
 use Rattle.command_table.specs.Loads.{whole_of}
 use Rattle.command_table.specs.Table.{create, merge, show, create_reply, merge_reply, open_file, over_both, over_events, show_reply}
 use Rattle.command_words.specs.Words.{listing_view}
-use Rattle.command_plans.proofs.Lines.{plans_alone}
-use Rattle.command_plans.proofs.Reading.{loads_one, one_front}
-use Rattle.command_plans.proofs.Replies.{may_plan}
+use Rattle.command_plans.proofs.Lines.{plans_alone, loads_one, one_front, may_plan}
 use Rattle.command_plans.proofs.plan.plan_unread.Goals as goal
 
 pub returns-in-New-clause-told : goal.returns-in-New-clause-told

@@ -1,0 +1,4 @@
+pub mod Reading
+pub mod Readings
+pub mod Replies
+pub mod Stops

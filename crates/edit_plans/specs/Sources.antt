@@ -1,0 +1,39 @@
+-- What a command that reads its input answers and leaves.
+use Rattle.std.specs.Prelude.{◌≡◌, ◌≤◌, ⊤, ℕ, List, [], Option, Some, Result, Ok, Err}
+use Rattle.ew_outside.specs.Files.{Files}
+use Rattle.ew_outside.specs.Counts.{Rose}
+use Rattle.command_table.specs.Scripts.{Reading, Means}
+use Rattle.command_table.specs.Table.{Reply}
+use Rattle.opened_files.specs.declared.reply.Plan.{Plan}
+use Rattle.opened_files.specs.declared.reply.Stop.{Stop}
+use Rattle.opened_files.specs.declared.reply.Stop.TheVariants.{ShelfFailed, SourceFailed, OutOfMemory}
+use Rattle.opened_files.specs.Views.{plan_view, status_of}
+
+-- which count moved of a step that reaches the source alone
+abbrev pub SourceCauses : {T : Type 0} → ℕ → ℕ → Result T Stop → Type 0
+SourceCauses before now (Ok _) = now ≡ before
+SourceCauses before now (Err OutOfMemory) = now ≡ before
+SourceCauses before now (Err ShelfFailed) = ⊥
+SourceCauses before now (Err SourceFailed) = (before ≤ now) × Rose before now
+
+-- which counts moved: none, but that of the object that is named
+abbrev pub Causes : {T : Type 0} → ℕ → ℕ → ℕ → ℕ → Result T Stop → Type 0
+Causes shelf shelf' source source' (Ok _) = (shelf' ≡ shelf) × (source' ≡ source)
+Causes shelf shelf' source source' (Err OutOfMemory) = (shelf' ≡ shelf) × (source' ≡ source)
+Causes shelf shelf' source source' (Err ShelfFailed) = ((shelf ≤ shelf') × Rose shelf shelf') × (source' ≡ source)
+Causes shelf shelf' source source' (Err SourceFailed) = (shelf' ≡ shelf) × ((source ≤ source') × Rose source source')
+
+-- the plan is this reply, where shelf and source told what they hold
+abbrev pub PlansBy : (Files → List ℕ → Reading → Reply) → Option Files → Option (List ℕ) → Result Plan Stop → Type 0
+PlansBy reply (Some m) (Some input) (Ok p) = (reading : Reading) → Means input reading → plan_view p ≡ reply m input reading
+PlansBy reply _ _ _ = ⊤
+
+-- at status 0 nothing is left of an input that was told
+abbrev pub ReadsAll : Option (List ℕ) → Option (List ℕ) → Result Plan Stop → Type 0
+ReadsAll (Some input) new (Ok p) = status_of p ≡ 0 → new ≡ Some []
+ReadsAll _ new _ = ⊤
+
+-- where a load failed, the input is as before
+abbrev pub KeepsInput : Option (List ℕ) → Option (List ℕ) → Result Plan Stop → Type 0
+KeepsInput old new (Err ShelfFailed) = new ≡ old
+KeepsInput old new _ = ⊤

@@ -1,0 +1,2 @@
+-- What the parts of the command `merge` answer.
+pub mod Merging

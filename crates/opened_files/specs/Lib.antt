@@ -1,0 +1,4 @@
+-- What a file is opened as, and what a plan stands for.
+pub mod Faults
+pub mod Loading
+pub mod Views

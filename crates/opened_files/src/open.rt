@@ -1,0 +1,141 @@
+//! Opening an event file: its bytes, its grammar, its events.
+ghost use Rattle.std.specs.Prelude.{◌≡◌, ◌≤◌, ◌<◌, ◌^◌, length, IfOk, IfSome, IsSomeAnd};
+ghost use Rattle.ew_model.specs.FileFaults.{file_finding};
+ghost use Rattle.ew_model.specs.Limits.{most_file_bytes};
+ghost use Rattle.ew_model.specs.Verdicts.{first_bad};
+ghost use Rattle.opened_files.specs.Faults.{finding_of};
+ghost use Rattle.command_table.specs.Possible.{MayOpen};
+ghost use Rattle.command_table.specs.Table.{judged, open_file, read_as, refused};
+ghost use Rattle.opened_files.specs.Views.{IsFileStatus, IsFresh, IsJudged, IsOpenable, IsRead, LostBy, OpenMisses, ShelfCauses, opened_view};
+ghost use Rattle.ew_outside.specs.Counts.{next};
+
+use crate::load::{Loaded, load_whole};
+use crate::reply::Stop;
+use command_texts::texts::{
+    bad_digest_text, bad_event_text, bad_field_text, file_too_long_text, file_too_many_text,
+    no_event_file_text, no_file_text, short_file_text, unknown_version_text,
+};
+use event_file::{FileFault, decode};
+use ew_model::event::Event;
+use ew_model::limits::Limits;
+use ew_model::steps::Steps;
+use ew_outside::Shelf;
+use replica::{LoadFault, Replica};
+use std::alloc::{AllocError, Global};
+use std::sync::ledger::Ledger;
+
+/// A file as it was found: open, or refused.
+#[derive(Drop)]
+pub enum Found {
+    Open(Replica),
+    Refused { status: u8, text: Vec<u8> },
+}
+
+/// The replica of events, or why they aren't good.
+fn judge<L: Ledger>(
+    alloc: Global,
+    name: &str,
+    limits: Limits,
+    events: Vec<Event>,
+    steps: &mut Steps<L>,
+) -> Result<Found, AllocError>
+    requires { length events.items ≤ limits.events }
+    ensures told { IfOk result (λ f. opened_view f ≡ judged name.now events.items (first_bad events.items)) }
+    ensures status { IfOk result IsJudged }
+    ensures fresh { IfOk result (λ f. IsFresh limits f) }
+{
+    match Replica::from_events(alloc, events, limits, steps) {
+        Ok(replica) => Ok(Found::Open(replica)),
+        Err(LoadFault::OutOfMemory) => Err(AllocError),
+        Err(LoadFault::BadEvent { position, verdict }) => Ok(Found::Refused {
+            status: 4,
+            text: bad_event_text(alloc, name, position, verdict)?,
+        }),
+    }
+}
+
+/// The text of a fault of a file.
+fn fault_text(
+    alloc: Global,
+    name: &str,
+    limits: &Limits,
+    fault: FileFault,
+) -> Result<(u8, Vec<u8>), AllocError>
+    ensures told { IfOk result (λ p. IsSomeAnd (finding_of fault) (λ x. read_as name.now limits.now x ≡ refused p.0 p.1.items)) }
+    ensures status { IfOk result (λ p. IsFileStatus p.0) }
+{
+    match fault {
+        FileFault::OutOfMemory => Err(AllocError),
+        FileFault::Short { len } => Ok((4, short_file_text(alloc, name, len)?)),
+        FileFault::BadMagic => Ok((4, no_event_file_text(alloc, name)?)),
+        FileFault::BadVersion(version) => Ok((4, unknown_version_text(alloc, name, version)?)),
+        FileFault::BadDigest { stored, found } => {
+            Ok((4, bad_digest_text(alloc, name, &stored, &found)?))
+        }
+        FileFault::BadRecord { offset, kind } => {
+            Ok((4, bad_field_text(alloc, name, offset, kind)?))
+        }
+        FileFault::TooMany { .. } => Ok((7, file_too_many_text(alloc, name, limits.events())?)),
+    }
+}
+
+/// What the bytes of a file say.
+fn read<L: Ledger>(
+    alloc: Global,
+    name: &str,
+    limits: &Limits,
+    bytes: &[u8],
+    steps: &mut Steps<L>,
+) -> Result<Found, AllocError>
+    ensures told { IfOk result (λ f. opened_view f ≡ read_as name.now limits.now (file_finding limits.now.events bytes.now)) }
+    ensures status { IfOk result IsRead }
+    ensures fresh { IfOk result (λ f. IsFresh limits.now f) }
+{
+    match decode(alloc, bytes, limits.events()) {
+        Ok(events) => judge(alloc, name, *limits, events, steps),
+        Err(fault) => {
+            let (status, text) = fault_text(alloc, name, limits, fault)?;
+            Ok(Found::Refused { status, text })
+        }
+    }
+}
+
+/// Opens the file of a name. The shelf is left as it was.
+pub fn open<H: Shelf, L: Ledger>(
+    alloc: Global,
+    name: &str,
+    limits: &Limits,
+    shelf: &mut H,
+    steps: &mut Steps<L>,
+) -> Result<Found, Stop>
+    ensures told { IfSome (H.files shelf.old) (λ m. IfOk result (λ f. opened_view f ≡ open_file name.now limits.now m)) }
+    ensures some { IfOk result (λ f. MayOpen name.now limits.now (opened_view f)) }
+    ensures status { IfOk result IsOpenable }
+    ensures fresh { IfOk result (λ f. IsFresh limits.now f) }
+    ensures same { H.files shelf.new ≡ H.files shelf.old }
+    ensures cause { ShelfCauses (H.faults shelf.old) (H.faults shelf.new) result }
+    ensures misses { OpenMisses (H.misses shelf.old) (H.misses shelf.new) result }
+    ensures loads { H.loads shelf.new ≡ next (H.loads shelf.old) }
+    ensures lost { LostBy (H.lost shelf.old) (H.lost shelf.new) result }
+{
+    let most = most_bytes(limits);
+    match load_whole(shelf, name, most)? {
+        Loaded::Missing => Ok(Found::Refused {
+            status: 3,
+            text: no_file_text(alloc, name)?,
+        }),
+        Loaded::TooLong => Ok(Found::Refused {
+            status: 7,
+            text: file_too_long_text(alloc, name, most)?,
+        }),
+        Loaded::Whole(bytes) => Ok(read(alloc, name, limits, &bytes, steps)?),
+    }
+}
+
+/// No file of a history within the limits has more bytes.
+fn most_bytes(limits: &Limits) -> u64
+    ensures value { result ≡ most_file_bytes limits.now.events }
+    ensures small { result < 2 ^ 62 }
+{
+    48 + 115 * u64::from(limits.events())
+}

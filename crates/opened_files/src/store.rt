@@ -1,0 +1,33 @@
+//! Plans that store the events of a replica.
+ghost use Rattle.std.specs.Prelude.{◌≡◌, ◌≢◌, IfOk};
+ghost use Rattle.ew_model.specs.File.{file_of};
+ghost use Rattle.command_table.specs.Table.{stores};
+ghost use Rattle.opened_files.specs.Views.{IsCommandPlan, plan_view, status_of};
+
+use crate::reply::Plan;
+use event_file::encode;
+use replica::Replica;
+use std::alloc::{AllocError, Global};
+
+/// The file of a replica's events.
+fn file_bytes(alloc: Global, replica: &Replica) -> Result<Vec<u8>, AllocError>
+    ensures { IfOk result (λ bytes. bytes.items ≡ file_of replica.now.held) }
+{
+    let events = replica.events()?;
+    encode(alloc, &events)
+}
+
+/// Stores a replica's events and prints a text.
+pub fn store_plan<'a>(
+    alloc: Global,
+    name: &'a str,
+    replica: &Replica,
+    out: Vec<u8>,
+) -> Result<Plan<'a>, AllocError>
+    ensures told { IfOk result (λ p. plan_view p ≡ stores out.items name.now (file_of replica.now.held)) }
+    ensures plan { IfOk result IsCommandPlan }
+    ensures found { IfOk result (λ p. status_of p ≢ 3) }
+{
+    let bytes = file_bytes(alloc, replica)?;
+    Ok(Plan::Stores { out, name, bytes })
+}
