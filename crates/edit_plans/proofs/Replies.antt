@@ -12,9 +12,9 @@ use Rattle.command_table.specs.Table.{Text, edit, refuses, opened, refused, scri
 use Rattle.opened_files.specs.declared.reply.Plan.{Plan}
 use Rattle.opened_files.specs.declared.reply.Stop.{Stop}
 use Rattle.opened_files.specs.declared.reply.Stop.TheVariants.{ShelfFailed, SourceFailed, OutOfMemory}
-use Rattle.opened_files.specs.Views.{plan_view}
+use Rattle.opened_files.specs.Views.{LostBy, plan_view}
 use Rattle.edit_plans.specs.Edits.{MayScript, edits_reply}
-use Rattle.edit_plans.specs.Sources.{KeepsInput, SourceCauses}
+use Rattle.edit_plans.specs.Sources.{Causes, KeepsInput, SourceCauses}
 
 module _ (name : Text) (limits : LimitNumbers) where
   -- an edit of a file that is refused, or open
@@ -53,3 +53,17 @@ source_keeps old new before now (Ok p) cause = tt
 source_keeps old new before now (Err ShelfFailed) cause = absurd cause
 source_keeps old new before now (Err SourceFailed) cause = tt
 source_keeps old new before now (Err OutOfMemory) cause = tt
+
+-- ---- the counts, where the file is open and the source alone is read from then on
+
+pub causes_of_source : (before now source source' : ℕ) (result : Result Plan Stop) → now ≡ before → SourceCauses source source' result → Causes before now source source' result
+causes_of_source before now source source' (Ok p) same cause = (same, cause)
+causes_of_source before now source source' (Err ShelfFailed) same cause = absurd cause
+causes_of_source before now source source' (Err SourceFailed) same cause = (same, cause)
+causes_of_source before now source source' (Err OutOfMemory) same cause = (same, cause)
+
+pub lost_of_source : (before now source source' : ℕ) (result : Result Plan Stop) → now ≡ before → SourceCauses source source' result → LostBy before now result
+lost_of_source before now source source' (Ok p) same cause = same
+lost_of_source before now source source' (Err ShelfFailed) same cause = absurd cause
+lost_of_source before now source source' (Err SourceFailed) same cause = same
+lost_of_source before now source source' (Err OutOfMemory) same cause = same

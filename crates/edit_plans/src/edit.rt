@@ -117,19 +117,19 @@ fn run_edits<'a, L: Ledger>(
     alloc: Global,
     name: &'a str,
     agent: Name,
-    mut replica: Replica,
+    replica: &mut Replica,
     edits: &[(u32, Edit)],
     steps: &mut Steps<L>,
 ) -> Result<Plan<'a>, AllocError>
-    requires { replica.waiting ≡ [] }
-    ensures told { IfOk result (λ p. plan_view p ≡ edits_reply name.now agent replica (numbered_edits edits.now)) }
+    requires { replica.old.waiting ≡ [] }
+    ensures told { IfOk result (λ p. plan_view p ≡ edits_reply name.now agent replica.old (numbered_edits edits.now)) }
     ensures plan { IfOk result IsCommandPlan }
     ensures found { IfOk result (λ p. status_of p ≢ 3) }
 {
     let before = replica.count();
-    match do_edits(alloc, &mut replica, agent, edits, steps)? {
+    match do_edits(alloc, replica, agent, edits, steps)? {
         Some(refusal) => Ok(refusal),
-        None => made_plan(alloc, name, &replica, before),
+        None => made_plan(alloc, name, replica, before),
     }
 }
 
@@ -138,14 +138,14 @@ fn run_script<'a, L: Ledger>(
     alloc: Global,
     name: &'a str,
     agent: Name,
-    replica: Replica,
+    replica: &mut Replica,
     script: &[u8],
     steps: &mut Steps<L>,
 ) -> Result<Plan<'a>, AllocError>
     requires short { length script.now < 2 ^ 32 }
-    requires none_waits { replica.waiting ≡ [] }
-    ensures told { PlansScript name.now agent replica script.now result }
-    ensures some { MayScript name.now agent replica script.now result }
+    requires none_waits { replica.old.waiting ≡ [] }
+    ensures told { PlansScript name.now agent replica.old script.now result }
+    ensures some { MayScript name.now agent replica.old script.now result }
     ensures plan { IfOk result IsCommandPlan }
     ensures found { IfOk result (λ p. status_of p ≢ 3) }
 {
@@ -168,14 +168,14 @@ fn take_input<'a, S: Source, L: Ledger>(
     name: &'a str,
     agent: Name,
     limits: &Limits,
-    replica: Replica,
+    replica: &mut Replica,
     input: &mut S,
     steps: &mut Steps<L>,
 ) -> Result<Plan<'a>, Stop>
-    requires limits { replica.limits ≡ limits.now }
-    requires none_waits { replica.waiting ≡ [] }
-    ensures told { IfSome (S.left input.old) (λ xs. PlansInput name.now agent replica xs result) }
-    ensures some { IfOk result (λ p. MayEdit name.now agent limits.now (opened replica.held) (plan_view p)) }
+    requires limits { replica.old.limits ≡ limits.now }
+    requires none_waits { replica.old.waiting ≡ [] }
+    ensures told { IfSome (S.left input.old) (λ xs. PlansInput name.now agent replica.old xs result) }
+    ensures some { IfOk result (λ p. MayEdit name.now agent limits.now (opened replica.old.held) (plan_view p)) }
     ensures end { ReadsAll (S.left input.old) (S.left input.new) result }
     ensures few { TakesAtMost (limits.now.input + 1) (S.left input.old) (S.left input.new) }
     ensures cause { SourceCauses (S.faults input.old) (S.faults input.new) result }
@@ -217,6 +217,8 @@ pub fn edit<'a, H: Shelf, S: Source, L: Ledger>(
 {
     match open(alloc, name, limits, shelf, steps)? {
         Found::Refused { status, text } => Ok(Plan::Refuses { status, text }),
-        Found::Open(replica) => { take_input(alloc, name, agent, limits, replica, input, steps) }
+        Found::Open(mut replica) => {
+            take_input(alloc, name, agent, limits, &mut replica, input, steps)
+        }
     }
 }

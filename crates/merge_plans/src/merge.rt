@@ -99,9 +99,9 @@ fn took_plan<'a>(
     received_plan(alloc, name, replica, took)
 }
 
-/// The events of a replica.
-fn events_of(replica: &Replica) -> Result<Vec<Event>, NoMem>
-    ensures events { IfOk result (λ v. v.items ≡ replica.now.held) }
+/// The events of a replica that isn't needed any more.
+fn events_of(replica: Replica) -> Result<Vec<Event>, NoMem>
+    ensures events { IfOk result (λ v. v.items ≡ replica.held) }
     ensures few { IfOk result (λ v. length v.items < 2 ^ 32) }
 {
     let _count = replica.count();
@@ -113,18 +113,19 @@ fn receive<'a, L: Ledger>(
     alloc: Global,
     name: &'a str,
     limits: &Limits,
-    mut replica: Replica,
-    other: Replica,
+    replica: &mut Replica,
+    events: Vec<Event>,
     steps: &mut Steps<L>,
 ) -> Result<Plan<'a>, AllocError>
-    requires limits { replica.limits ≡ limits.now }
-    requires none_waits { replica.waiting ≡ [] }
-    ensures told { IfOk result (λ p. plan_view p ≡ merge_reply name.now limits.now replica.held other.held) }
+    requires limits { replica.old.limits ≡ limits.now }
+    requires none_waits { replica.old.waiting ≡ [] }
+    requires few { length events.items < 2 ^ 32 }
+    ensures told { IfOk result (λ p. plan_view p ≡ merge_reply name.now limits.now replica.old.held events.items) }
     ensures plan { IfOk result IsCommandPlan }
     ensures found { IfOk result (λ p. status_of p ≢ 3) }
 {
-    match replica.receive(events_of(&other)?, steps) {
-        Ok(took) => took_plan(alloc, name, limits, &replica, &took),
+    match replica.receive(events, steps) {
+        Ok(took) => took_plan(alloc, name, limits, replica, &took),
         Err(_) => Err(AllocError),
     }
 }
@@ -135,14 +136,14 @@ fn take_other<'a, H: Shelf, L: Ledger>(
     name: &'a str,
     other: &str,
     limits: &Limits,
-    replica: Replica,
+    replica: &mut Replica,
     shelf: &mut H,
     steps: &mut Steps<L>,
 ) -> Result<Plan<'a>, Stop>
-    requires limits { replica.limits ≡ limits.now }
-    requires none_waits { replica.waiting ≡ [] }
-    ensures told { IfSome (H.files shelf.old) (λ m. IfOk result (λ p. plan_view p ≡ over_events (merge_reply name.now limits.now replica.held) (open_file other.now limits.now m))) }
-    ensures some { IfOk result (λ p. (file : File) × (plan_view p ≡ over_events (merge_reply name.now limits.now replica.held) (opened_as other.now limits.now file))) }
+    requires limits { replica.old.limits ≡ limits.now }
+    requires none_waits { replica.old.waiting ≡ [] }
+    ensures told { IfSome (H.files shelf.old) (λ m. IfOk result (λ p. plan_view p ≡ over_events (merge_reply name.now limits.now replica.old.held) (open_file other.now limits.now m))) }
+    ensures some { IfOk result (λ p. (file : File) × (plan_view p ≡ over_events (merge_reply name.now limits.now replica.old.held) (opened_as other.now limits.now file))) }
     ensures plan { IfOk result IsCommandPlan }
     ensures same { H.files shelf.new ≡ H.files shelf.old }
     ensures cause { ShelfCauses (H.faults shelf.old) (H.faults shelf.new) result }
@@ -153,7 +154,8 @@ fn take_other<'a, H: Shelf, L: Ledger>(
     match open(alloc, other, limits, shelf, steps)? {
         Found::Refused { status, text } => Ok(Plan::Refuses { status, text }),
         Found::Open(other) => {
-            let plan = receive(alloc, name, limits, replica, other, steps)?;
+            let events = events_of(other)?;
+            let plan = receive(alloc, name, limits, replica, events, steps)?;
             Ok(plan)
         }
     }
@@ -180,6 +182,8 @@ pub fn merge<'a, H: Shelf, L: Ledger>(
 {
     match open(alloc, name, limits, shelf, steps)? {
         Found::Refused { status, text } => Ok(Plan::Refuses { status, text }),
-        Found::Open(replica) => { take_other(alloc, name, other, limits, replica, shelf, steps) }
+        Found::Open(mut replica) => {
+            take_other(alloc, name, other, limits, &mut replica, shelf, steps)
+        }
     }
 }

@@ -1,7 +1,7 @@
 use Rattle.std.proofs.Common.{refl}
 use Rattle.edit_plans.proofs.Reading.{holds_refused, open_not_refused, takes_none}
 use Rattle.edit_plans.proofs.Readings.{plans_opened}
-use Rattle.edit_plans.proofs.Replies.{keeps_same, opened_edits, refused_edits, source_keeps}
+use Rattle.edit_plans.proofs.Replies.{causes_of_source, keeps_same, lost_of_source, opened_edits, refused_edits, source_keeps}
 use Rattle.edit_plans.proofs.edit.edit.Goals as goal
 
 pub take_input-requires-clause-limits : goal.take_input-requires-clause-limits
@@ -40,3 +40,9 @@ returns-in-Refused-clause-some g c =
 pub returns-in-Open-clause-some : goal.returns-in-Open-clause-some
 returns-in-Open-clause-some g c =
     opened_edits c.args.name.now c.args.limits.now c.args.agent c.in-Open.replica.held c.take_input.result (rw c.in-Open.is at c.in_ok-status.ensures.some) c.take_input.ensures.some
+
+pub returns-in-Open-clause-cause : goal.returns-in-Open-clause-cause
+returns-in-Open-clause-cause g c = causes_of_source _ _ _ _ c.take_input.result c.in_ok-status.ensures.cause c.take_input.ensures.cause
+
+pub returns-in-Open-clause-lost : goal.returns-in-Open-clause-lost
+returns-in-Open-clause-lost g c = lost_of_source _ _ _ _ c.take_input.result c.in_ok-status.ensures.lost c.take_input.ensures.cause
