@@ -1,4 +1,5 @@
 pub mod CutsKept
+pub mod FrontCuts
 pub mod InnerCuts
 pub mod LastHeads
 pub mod Ranges

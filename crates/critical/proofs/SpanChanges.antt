@@ -8,13 +8,13 @@ use Rattle.std.proofs.lemmas.List.FromFn.{length-range_with_len}
 use Rattle.std.specs.List.{AllByRecursion}
 use Rattle.ew_model.specs.Sets.{Among}
 use Rattle.ew_model.proofs.RisingLists.{Rise}
-use Rattle.ew_model.proofs.SetLaws.{among_joined}
-use Rattle.ew_model.proofs.SortingLaws.{all_from}
+use Rattle.ew_model.proofs.SetLaws.{among_joined, joined_left, joined_right}
+use Rattle.ew_model.proofs.SortingLaws.{all_at, all_from}
 use Rattle.critical.specs.declared.spans.CutSpan.{CutSpan}
 use Rattle.critical.specs.CutRuns.{span_count}
 use Rattle.critical.specs.Spans.{cuts_in, heads_in, RiseFrom, EndBelow, ends_before, with_last, shortened}
 use Rattle.critical.proofs.Ranges.{single, among_range, range_more, range_inside, range_outside, range_part, take_singles, take_over}
-use Rattle.critical.proofs.SpanSearches.{block, held_by_one, begins_high}
+use Rattle.critical.proofs.SpanSearches.{block, block_among, held_by_one, begins_high}
 
 -- spans with one cut more
 pub record Grown (spans new : List CutSpan) (given more : List (List ℕ)) (low cut : ℕ) (last : List ℕ) : Type 0 where
@@ -228,6 +228,14 @@ few_spans (s ∷ spans) low n r b l = let ih = few_spans spans (suc (suc s.last)
 pub end_more : (spans : List CutSpan) (n : ℕ) → EndBelow n spans → EndBelow (n + 1) spans
 end_more [] n b = tt
 end_more (s ∷ spans) n b = (let first = b.0 in omega (arith, first), end_more spans n b.1)
+
+-- the spans end where their cuts do
+pub ends_under : (spans : List CutSpan) (low n : ℕ) → RiseFrom low spans → AllByRecursion (λ k. k < n) (cuts_in spans) → EndBelow n spans
+ends_under [] low n r h = tt
+ends_under (s ∷ spans) low n r h = (
+  all_at (λ k. k < n) (cuts_in (s ∷ spans)) s.last h (joined_left (block s) (cuts_in spans) s.last (block_among s s.last r.1 (omega arith))),
+  ends_under spans (suc (suc s.last)) n r.2 (all_from (λ k. k < n) (cuts_in spans) (λ k m. all_at (λ j. j < n) (cuts_in (s ∷ spans)) k h (joined_right (block s) (cuts_in spans) k m))),
+)
 
 -- the cuts rise, so those below a number are the first ones
 rise_range : (a n : ℕ) (ys : List ℕ) → ((y : ℕ) → Among y ys → a + n ≤ y) → Rise ys → Rise (range_with_len a n ++ ys)

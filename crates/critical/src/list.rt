@@ -1,6 +1,6 @@
 //! The list of the critical cuts.
 
-ghost use Rattle.std.specs.Prelude.{◌≡◌, ◌≢◌, ℕ, suc, ◌+◌, ◌<◌, ◌≤◌, ◌^◌, Bool, true, List, [], ◌∷◌, ◌++◌, filter, length, nat_lt, IfOk, IsOkAnd, OnOk, OnErr};
+ghost use Rattle.std.specs.Prelude.{◌≡◌, ◌≢◌, ℕ, suc, ◌+◌, ◌<◌, ◌≤◌, ◌^◌, Bool, true, List, [], ◌∷◌, ◌++◌, filter, take, length, nat_lt, IfOk, IsOkAnd, OnOk, OnErr};
 ghost use Rattle.ew_model.specs.Sets.{Among};
 ghost use Rattle.ew_model.specs.CutChange.{stays_behind};
 ghost use Rattle.ew_model.specs.Positions.{AreParents, IsHistoryOfParents, frontier_of, is_reduced_at, is_cut_at, latest_cut_at, cuts_at};
@@ -83,6 +83,15 @@ impl Cuts {
         ensures count { self.new.count ≡ self.old.count + 1 }
     {
         self.stop_cuts(parents);
+    }
+
+    /// Takes out the events from a critical cut on. It takes no memory.
+    pub fn truncate(&mut self, cut: u32)
+        // Where these were the cuts of a history, they are those of the events below the cut.
+        ensures { (history : List (List ℕ)) → IsHistoryOfParents history → self.old ≡ kept_for history → is_cut_at history cut ≡ true → self.new ≡ kept_for (take cut history) }
+    {
+        keep_below(&mut self.spans, &mut self.heads, cut);
+        self.count = cut;
     }
 
     /// Takes in an event that keeps the cuts up to its last parent, perhaps the one right behind that, and no others.

@@ -1,5 +1,6 @@
 -- What an admitted history is known to be.
-use Rattle.std.proofs.Common.{◌≡◌, ◌≤◌, nat_lt, Bool, true, false, not, List, [], ◌∷◌, ◌++◌, find, length, Option, Some, None, option_map, refl, sym, ap, ◌∙◌, append-nil, append_assoc}
+use Rattle.std.proofs.Common.{◌≡◌, ℕ, zero, suc, ◌≤◌, nat_lt, Bool, true, false, not, List, [], ◌∷◌, ◌++◌, find, take, length, Option, Some, None, option_map, refl, sym, ap, ◌∙◌, subst, append-nil, append_assoc}
+use Rattle.std.specs.Prelude.{slice_get}
 use Rattle.std.specs.List.{list_any, AllByRecursion}
 use Rattle.std.specs.Bool.{then_some}
 use Rattle.std.proofs.lemmas.Bool.{not-false, ltb-false}
@@ -102,3 +103,13 @@ more_after before (f ∷ events) e h v = (h.0, more_after (before ++ f ∷ []) e
 
 pub more : (history : List Event) (e : Event) → IsAdmitted history → graph_verdict history e ≡ Good → IsAdmitted (history ++ e ∷ [])
 more history e h v = more_after [] history e h v
+
+-- the event at a place, behind those before it
+admitted_after : (before history : List Event) (n : ℕ) (e : Event) → AreAdmittedAfter before history → slice_get history n ≡ Some e → graph_verdict (before ++ take n history) e ≡ Good
+admitted_after before [] n e h at = let no : ⊥ = cc in absurd no
+admitted_after before (f ∷ history) zero e h at =
+    let here : f ≡ e = cc in subst (λ (g : Event). graph_verdict (before ++ []) g ≡ Good) here (ap (λ (w : List Event). graph_verdict w f) (append-nil before) ∙ h.0)
+admitted_after before (f ∷ history) (suc n) e h at = ap (λ (w : List Event). graph_verdict w e) (sym (append_assoc before (f ∷ []) (take n history))) ∙ admitted_after (before ++ f ∷ []) history n e h.1 at
+
+pub admitted_at : (history : List Event) (n : ℕ) (e : Event) → IsAdmitted history → slice_get history n ≡ Some e → graph_verdict (take n history) e ≡ Good
+admitted_at history n e h at = admitted_after [] history n e h at

@@ -1,5 +1,6 @@
 pub mod Admitted
 pub mod Ascending
+mod CutBack
 pub mod Places
 pub mod Found
 pub mod Rebuilt

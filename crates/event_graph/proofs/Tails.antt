@@ -4,20 +4,21 @@ use Rattle.std.proofs.Math.Seq.{take-append_seam}
 use Rattle.std.proofs.lemmas.List.{length-map, take-map, take-append-drop}
 use Rattle.ew_model.specs.declared.event.Event.{Event}
 use Rattle.ew_model.specs.declared.id.Id.{Id}
-use Rattle.ew_model.specs.Positions.{positions_in}
-use Rattle.critical.specs.KeptCuts.{KeptCuts}
-use Rattle.event_runs.specs.BareEvents.{BareEvent, bare}
+use Rattle.ew_model.specs.Ancestors.{ids_of}
+use Rattle.ew_model.specs.Positions.{frontier_of, positions_in, parent_positions}
+use Rattle.critical.specs.KeptCuts.{KeptCuts, kept_for}
+use Rattle.event_runs.specs.BareEvents.{BareEvent, bare, parents_in}
 use Rattle.event_graph.specs.Keeping.{AreAdmittedAfter, IsAdmitted, bare_events, IsKeptOf}
 use Rattle.event_graph.specs.Tails.{TailMark, mark_of}
 use Rattle.event_graph.proofs.Admitted.{laid}
-use Rattle.event_graph.proofs.Grown.{bare_grown}
+use Rattle.event_graph.proofs.Grown.{bare_grown, parents_kept}
 
-front_after : (before front later : List Event) → AreAdmittedAfter before (front ++ later) → AreAdmittedAfter before front
+pub front_after : (before front later : List Event) → AreAdmittedAfter before (front ++ later) → AreAdmittedAfter before front
 front_after before [] later h = tt
 front_after before (e ∷ front) later h = (h.0, front_after (before ++ e ∷ []) front later h.1)
 
 -- later events add to the events without their ids, and change none
-bare_more : (front later : List Event) → IsAdmitted (front ++ later) → (rest : List BareEvent) × (bare_events (front ++ later) ≡ bare_events front ++ rest)
+pub bare_more : (front later : List Event) → IsAdmitted (front ++ later) → (rest : List BareEvent) × (bare_events (front ++ later) ≡ bare_events front ++ rest)
 bare_more front [] h = ([], ap bare_events (append-nil front) ∙ sym (append-nil (bare_events front)))
 bare_more front (e ∷ later) h =
     let b : BareEvent = bare e.op (positions_in front e.parents) in
@@ -34,21 +35,39 @@ bare_front front later h =
     let more = bare_more front later h in
     (λ i. take (sym (length-map front (λ (e : Event). bare e.op (positions_in front e.parents))) i) (more.1 i)) ∙ take-append_seam (bare_events front) more.0
 
--- what is kept of the first n events
+module _ (now : List Event) (n : ℕ) (admitted : IsAdmitted now) (reach : n ≡ length (take n now)) where
+  abbrev front : List Event
+  front = take n now
+
+  whole : front ++ drop n now ≡ now
+  whole = take-append-drop n now
+
+  pub front_admitted : IsAdmitted front
+  front_admitted = front_after [] front (drop n now) (subst IsAdmitted (sym whole) admitted)
+
+  front_bare : take n (bare_events now) ≡ bare_events front
+  front_bare = (λ i. take (reach i) (bare_events (sym whole i))) ∙ bare_front front (drop n now) (subst IsAdmitted (sym whole) admitted)
+
+  -- the parents' positions of the first n events
+  pub front_positions : parent_positions front ≡ take n (parent_positions now)
+  front_positions = sym (parents_kept front) ∙ ap parents_in (sym front_bare) ∙ sym (take-map (λ (b : BareEvent). b.parents) n (bare_events now)) ∙ ap (take n) (parents_kept now)
+
+  -- what is kept of them
+  pub front_kept : (ids : List Id) (events : List BareEvent) (heads : List ℕ) (cuts : KeptCuts) → ids ≡ ids_of now → events ≡ bare_events now → heads ≡ frontier_of (parent_positions front) → cuts ≡ kept_for (parent_positions front)
+      → IsKeptOf front (take n ids) (take n events) heads cuts
+  front_kept ids events heads cuts ids_are events_are heads_are cuts_are = record {
+    admitted = front_admitted;
+    ids_are = ap (take n) ids_are ∙ take-map (λ (e : Event). e.id) n now;
+    events_are = ap (take n) events_are ∙ front_bare;
+    heads_are = heads_are;
+    cuts_are = cuts_are;
+  }
+
+-- what is kept of the events that were marked
 pub kept_front : (now : List Event) (ids : List Id) (events : List BareEvent) (heads : List ℕ) (cuts : KeptCuts) (tail : TailMark) → IsKeptOf now ids events heads cuts → tail ≡ mark_of (take tail.count now)
     → IsKeptOf (take tail.count now) (take tail.count ids) (take tail.count events) tail.heads tail.cuts
 kept_front now ids events heads cuts tail kept marked =
-    let n = tail.count in
-    let front = take n now in
-    let whole : front ++ drop n now ≡ now = take-append-drop n now in
-    let admitted : IsAdmitted (front ++ drop n now) = subst IsAdmitted (sym whole) kept.admitted in
-    record {
-      admitted = front_after [] front (drop n now) admitted;
-      ids_are = ap (take n) kept.ids_are ∙ take-map (λ (e : Event). e.id) n now;
-      events_are = ap (take n) (kept.events_are ∙ ap bare_events (sym whole)) ∙ ap (λ k. take k (bare_events (front ++ drop n now))) (ap (λ (t : TailMark). t.count) marked) ∙ bare_front front (drop n now) admitted;
-      heads_are = ap (λ (t : TailMark). t.heads) marked;
-      cuts_are = ap (λ (t : TailMark). t.cuts) marked;
-    }
+    front_kept now tail.count kept.admitted (ap (λ (t : TailMark). t.count) marked) ids events tail.heads tail.cuts kept.ids_are kept.events_are (ap (λ (t : TailMark). t.heads) marked) (ap (λ (t : TailMark). t.cuts) marked)
 
 -- the parts of a graph that came back
 pub cut_back : (now : List Event) (ids : List Id) (events : List BareEvent) (heads : List ℕ) (cuts : KeptCuts) (tail inside : TailMark) (new_ids : List Id) (new_events : List BareEvent) → IsKeptOf now ids events heads cuts → inside ≡ tail

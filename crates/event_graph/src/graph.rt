@@ -420,6 +420,20 @@ impl Graph {
         self.ids.count_of(agent)
     }
 
+    /// Takes out all events from a critical cut on. The event right behind it has all heads below it as its parents. It takes
+    /// no memory.
+    pub fn truncate(&mut self, cut: u32)
+        requires { is_critical self.old cut ≡ true }
+        ensures { self.new ≡ take cut self.old }
+    {
+        if cut < self.events.count() {
+            self.heads = Frontier::from_rising(self.events.parents_at(cut));
+            self.ids.truncate(cut);
+            self.events.truncate(cut);
+            self.cuts.truncate(cut);
+        }
+    }
+
     /// Remembers where the graph stands, so that it can come back.
     pub fn mark(&self) -> Result<Tail, NoMem>
         ensures { IfOk result (λ t. t ≡ mark_of self.now) }

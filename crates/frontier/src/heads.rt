@@ -39,6 +39,14 @@ impl Frontier {
         })
     }
 
+    /// The frontier of these heads. It takes no memory.
+    pub fn from_rising(heads: SmallVec<u32, 16>) -> Frontier
+        requires { IsStrictlyIncreasing heads.items }
+        ensures { result ≡ heads.items }
+    {
+        Frontier { heads }
+    }
+
     /// Puts in an event that stands behind all others: its parents are no heads any more, and it is one.
     pub fn insert_event(&mut self, lv: u32, parents: &[u32]) -> Result<(), NoMem>
         requires next { All (λ h. h < lv) self.old }

@@ -1,5 +1,5 @@
 -- What an apply answers is what a turn answers.
-use Rattle.std.proofs.Common.{◌≡◌, ◌↔◌, ℕ, ◌<◌, ◌≤◌, nat_eq, Bool, true, false, List, [], ◌∷◌, ◌++◌, length, map, take, zero, suc, Some, option_map, Result, Ok, Err, IfOk, OnOk, OnErr, refl, sym, ap, ◌∙◌, subst, append-nil, append_assoc}
+use Rattle.std.proofs.Common.{◌≡◌, ◌↔◌, ℕ, ◌<◌, ◌≤◌, nat_eq, Bool, true, false, List, [], ◌∷◌, ◌++◌, length, map, take, Some, option_map, Result, Ok, Err, IfOk, OnOk, OnErr, refl, sym, ap, ◌∙◌, subst}
 use Rattle.std.specs.Prelude.{slice_get}
 use Rattle.std.specs.List.{AllByRecursion}
 use Rattle.std.proofs.lemmas.Bool.{ltb-true, lt-ltb, leb-true, le-leb}
@@ -29,8 +29,8 @@ use Rattle.advance_retreat.specs.Kept.{Kept}
 use Rattle.advance_retreat.specs.Standing.{StandsFor}
 use Rattle.advance_retreat.specs.declared.fault.ApplyFault.{ApplyFault}
 use Rattle.advance_retreat.specs.declared.fault.ApplyFault.TheVariants.{OutOfRange, OutOfMemory}
-use Rattle.event_graph.specs.Keeping.{AreAdmittedAfter, IsAdmitted}
-use Rattle.event_graph.proofs.Admitted.{let_in}
+use Rattle.event_graph.specs.Keeping.{IsAdmitted}
+use Rattle.event_graph.proofs.Admitted.{admitted_at, let_in}
 use Rattle.transform.specs.Answering.{turn_by}
 use Rattle.transform.specs.Reaching.{IsReady, Turned, over_of}
 use Rattle.transform.proofs.Judging.{in_range, out_of_range}
@@ -80,16 +80,6 @@ turned front e old new (Err (OutOfRange len)) ready sound a =
       (over_of front e, subst (λ (s : Kept). StandsFor s 0 (walked_from front 0) (over_of front e)) (sym a.err) ready.stands),
     )
 turned front e old new (Err OutOfMemory) ready sound a = tt
-
--- the event at a place, behind those before it
-admitted_after : (before history : List Event) (n : ℕ) (e : Event) → AreAdmittedAfter before history → slice_get history n ≡ Some e → graph_verdict (before ++ take n history) e ≡ Good
-admitted_after before [] n e h at = let no : ⊥ = cc in absurd no
-admitted_after before (f ∷ history) zero e h at =
-    let here : f ≡ e = cc in subst (λ (g : Event). graph_verdict (before ++ []) g ≡ Good) here (ap (λ (w : List Event). graph_verdict w f) (append-nil before) ∙ h.0)
-admitted_after before (f ∷ history) (suc n) e h at = ap (λ (w : List Event). graph_verdict w e) (sym (append_assoc before (f ∷ []) (take n history))) ∙ admitted_after (before ++ f ∷ []) history n e h.1 at
-
-pub admitted_at : (history : List Event) (n : ℕ) (e : Event) → IsAdmitted history → slice_get history n ≡ Some e → graph_verdict (take n history) e ≡ Good
-admitted_at history n e h at = admitted_after [] history n e h at
 
 pub id_is : (history : List Event) (n : ℕ) (e : Event) (x : Id) → slice_get history n ≡ Some e → slice_get (ids_of history) n ≡ Some x → e.id ≡ x
 id_is history n e x at id =
