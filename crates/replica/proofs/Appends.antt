@@ -21,6 +21,7 @@ use Rattle.waiting_pool.proofs.Behind.{behind_more}
 use Rattle.replica.specs.Appending.{CanAppend}
 use Rattle.replica.specs.Keeping.{IsUpToDate}
 use Rattle.replica.specs.Lengths.{prefix_lengths, lengths_through}
+use Rattle.replica.proofs.EditCuts.{edit_cut}
 use Rattle.replica.proofs.EditLengths.{edit_lengths}
 use Rattle.replica.proofs.Fronts.{made_admitted}
 use Rattle.replica.proofs.LengthLaws.{prefix_lengths-append}
@@ -50,6 +51,7 @@ can_append limits held waiting agent edit kept awaited few none =
     record {
       kept = after;
       admitted = made_admitted held made after.orderly.good;
+      cut = edit_cut held agent (ops_of edit) after.orderly.good;
       fit = edit_fits edit (text_of held) inside;
       short = stay_short (text_of held) (map own_change (ops_of edit)) (omega (arith, length-map (ops_of edit) own_change, edit_long edit, text_is_short held good, changed.1, (edits_are_good limits held agent edit good kept.few none).1, few));
       lengths = edit_lengths limits held agent edit good none inside;

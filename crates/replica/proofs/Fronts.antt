@@ -6,9 +6,13 @@ use Rattle.std.proofs.lemmas.List.{take_more, drop_more, take-append-drop}
 use Rattle.ew_model.specs.declared.event.Event.{Event}
 use Rattle.ew_model.specs.Verdicts.{Ruling, BadEvent, first_row, id_rows, parent_rows, range_rows, graph_verdict, next_verdict, is_verdict_good, IsGood, IsGoodAfter, first_bad, first_bad_after}
 use Rattle.ew_model.specs.Verdicts.Ruling.{Good}
+use Rattle.ew_model.specs.Cuts.{is_critical}
+use Rattle.ew_model.proofs.CutLaws.{critical_front}
+use Rattle.ew_model.proofs.EntryLaws.{LaidOut}
 use Rattle.ew_model.proofs.FirstBadLaws.{good_has_no_bad}
-use Rattle.event_graph.specs.Keeping.{AreAdmittedAfter}
+use Rattle.event_graph.specs.Keeping.{AreAdmittedAfter, IsAdmitted}
 use Rattle.event_graph.specs.Tails.{TailMark, mark_of}
+use Rattle.event_graph.proofs.Admitted.{laid}
 use Rattle.replica.specs.Answers.{TellsBad}
 use Rattle.replica.specs.declared.fault.LoadFault.{LoadFault}
 use Rattle.replica.specs.declared.fault.LoadFault.TheVariants as load
@@ -66,8 +70,21 @@ pub front_of : (front : List Event) (r : Option Ruling) (events : List Event) �
 front_of front None events h = ([], h ∙ sym (append-nil front))
 front_of front (Some ruling) events h = (h.0 ∷ h.1, h.2)
 
-front_takes : (front events : List Event) → IsFront front events → take (length front) events ≡ front
+pub front_takes : (front events : List Event) → IsFront front events → take (length front) events ≡ front
 front_takes front events h = ap (take (length front)) h.1 ∙ take-append_seam front h.0
+
+admitted_joined : (before held made : List Event) → AreAdmittedAfter before held → AreAdmittedAfter (before ++ held) made → AreAdmittedAfter before (held ++ made)
+admitted_joined before [] made h k = subst (λ (l : List Event). AreAdmittedAfter l made) (append-nil before) k
+admitted_joined before (e ∷ held) made h k = (h.0, admitted_joined (before ++ e ∷ []) held made h.1 (subst (λ (l : List Event). AreAdmittedAfter l made) (sym (append_assoc before (e ∷ []) held)) k))
+
+-- a critical cut below events that are admitted stays one while they come
+pub stays_cut : (held made : List Event) (i : ℕ) (graph : List Event) → IsAdmitted held → AreAdmittedAfter held made → is_critical (held ++ made) (length held) ≡ true → graph ≡ held ++ take i made → is_critical graph (length held) ≡ true
+stays_cut held made i graph before after cut grown =
+    let parts : held ++ (take i made ++ drop i made) ≡ held ++ made = ap (λ (l : List Event). held ++ l) (take-append-drop i made) in
+    ap (λ (g : List Event). is_critical g (length held)) grown
+    ∙ critical_front held (take i made) (drop i made)
+    (subst (LaidOut []) (sym parts) (laid (held ++ made) (admitted_joined [] held made before after)))
+    (ap (λ (l : List Event). is_critical l (length held)) parts ∙ cut)
 
 -- the mark of a front is that of the front taken again
 pub tail_marks : (tail : TailMark) (old new : List Event) → tail ≡ mark_of old → IsFront old new → tail ≡ mark_of (take tail.count new)

@@ -3,6 +3,7 @@ pub mod Appends
 pub mod Beginnings
 pub mod Chains
 pub mod EditAnswers
+pub mod EditCuts
 pub mod EditLengths
 pub mod EditOps
 pub mod Fronts

@@ -1,7 +1,8 @@
 -- What a replica may append to its events.
-use Rattle.std.specs.Prelude.{◌≡◌, List, ◌++◌}
+use Rattle.std.specs.Prelude.{◌≡◌, true, List, ◌++◌, length}
 use Rattle.ew_model.specs.declared.event.Event.{Event}
 use Rattle.ew_model.specs.declared.text_op.TextOp.{TextOp}
+use Rattle.ew_model.specs.Cuts.{is_critical}
 use Rattle.ew_model.specs.Limits.{LimitNumbers}
 use Rattle.ew_model.specs.Operations.{changed_by_all}
 use Rattle.ew_model.specs.Texts.{text_of}
@@ -11,10 +12,12 @@ use Rattle.event_graph.specs.Keeping.{AreAdmittedAfter}
 use Rattle.rope.specs.Lengths.{AllStayShort}
 use Rattle.replica.specs.Lengths.{lengths_after, lengths_through}
 
--- the events made may be held behind the others while these wait, and the changes make their text, of the same length after each
+-- the events made may be held behind the others while these wait, they know all the others, and the changes make their text, of
+-- the same length after each
 pub record CanAppend (limits : LimitNumbers) (held waiting made : List Event) (changes : List TextOp) : Type 0 where
   pub kept : IsKept limits (held ++ made) waiting
   pub admitted : AreAdmittedAfter held made
+  pub cut : is_critical (held ++ made) (length held) ≡ true
   pub fit : AllFit (text_of held) changes
   pub short : AllStayShort (text_of held) changes
   pub lengths : lengths_through (text_of held) changes ≡ lengths_after held made

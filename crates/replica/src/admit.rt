@@ -1,7 +1,8 @@
 //! Events that come into a graph.
 
-ghost use Rattle.std.specs.Prelude.{◌≡◌, ◌+◌, ◌<◌, ◌^◌, [], ◌++◌, length, take, option_map, IfOk, OnOk, OnErr};
+ghost use Rattle.std.specs.Prelude.{◌≡◌, ◌+◌, ◌<◌, ◌^◌, [], ◌++◌, length, take, true, option_map, IfOk, OnOk, OnErr};
 ghost use Rattle.ew_model.specs.Answers.{ruling_of};
+ghost use Rattle.ew_model.specs.Cuts.{is_critical};
 ghost use Rattle.ew_model.specs.Operations.{changed_by_all};
 ghost use Rattle.ew_model.specs.TextLaws.{AllFit};
 ghost use Rattle.ew_model.specs.Verdicts as model;
@@ -43,8 +44,8 @@ fn is_good(verdict: &Verdict) -> bool
     }
 }
 
-/// Puts events behind the others, changes the text, and puts how long it is after each behind the other lengths: all of it or
-/// nothing.
+/// Puts events behind the others, which know all of these, changes the text, and puts how long it is after each behind the other
+/// lengths: all of it or nothing.
 pub fn extend(
     graph: &mut Graph,
     text: &mut Rope,
@@ -54,6 +55,7 @@ pub fn extend(
 ) -> Result<(), NoMem>
     requires admitted { AreAdmittedAfter graph.old made.now }
     requires room { length graph.old + length made.now < 2 ^ 32 }
+    requires cut { is_critical (graph.old ++ made.now) (length graph.old) ≡ true }
     requires fit { AllFit text.old changes.now }
     requires short { AllStayShort text.old changes.now }
     ensures graph { OnOk result (graph.new ≡ graph.old ++ made.now) }
@@ -63,10 +65,10 @@ pub fn extend(
     ensures same_text { OnErr result (text.new ≡ text.old) }
     ensures same_lengths { OnErr result (lengths.new.items ≡ lengths.old.items) }
 {
-    let tail = graph.mark()?;
+    let held = graph.count();
     let count = lengths.len();
     if let Err(fault) = grow(graph, text, lengths, made, changes) {
-        graph.drop_tail(tail);
+        graph.truncate(held);
         lengths.truncate(count);
         return Err(fault);
     }
@@ -83,12 +85,14 @@ fn grow(
 ) -> Result<(), NoMem>
     requires admitted { AreAdmittedAfter graph.old made.now }
     requires room { length graph.old + length made.now < 2 ^ 32 }
+    requires cut { is_critical (graph.old ++ made.now) (length graph.old) ≡ true }
     requires fit { AllFit text.old changes.now }
     requires short { AllStayShort text.old changes.now }
     ensures graph { OnOk result (graph.new ≡ graph.old ++ made.now) }
     ensures text { OnOk result (text.new ≡ changed_by_all changes.now text.old) }
     ensures lengths { OnOk result (lengths.new.items ≡ lengths.old.items ++ lengths_through text.old changes.now) }
     ensures front { OnErr result (IsFront graph.old graph.new) }
+    ensures still_cut { OnErr result (is_critical graph.new (length graph.old) ≡ true) }
     ensures same_text { OnErr result (text.new ≡ text.old) }
     ensures length_front { OnErr result (take (length lengths.old.items) lengths.new.items ≡ lengths.old.items) }
 {
@@ -100,9 +104,12 @@ fn grow(
 fn admit_all(graph: &mut Graph, made: &[Event]) -> Result<(), NoMem>
     requires admitted { AreAdmittedAfter graph.old made.now }
     requires room { length graph.old + length made.now < 2 ^ 32 }
+    requires cut { is_critical (graph.old ++ made.now) (length graph.old) ≡ true }
     ensures all { OnOk result (graph.new ≡ graph.old ++ made.now) }
     ensures front { OnErr result (IsFront graph.old graph.new) }
+    ensures still_cut { OnErr result (is_critical graph.new (length graph.old) ≡ true) }
 {
+    let _held = graph.count();
     for e in made {
         graph.admit(e)?;
     }
