@@ -1,5 +1,7 @@
 pub mod Escapes
 pub mod Faults
+pub mod IdReading
+pub mod IdTexts
 pub mod LineParts
 pub mod Lines
 pub mod Numbers

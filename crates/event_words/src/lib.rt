@@ -1,5 +1,5 @@
-//! The words of the editor as bytes: edit scripts are read, and ids, versions and characters are printed. What the bytes
-//! mean is said in `specs/Scripts.antt` of `ew_model`.
+//! The words of the editor as bytes: edit scripts and versions are read, and ids, versions and characters are printed. What
+//! the bytes mean is said in `specs/Scripts.antt` of `ew_model`, and in `specs/Versions.antt` of `history_words`.
 #![tactic(auto)]
 
 pub mod edit;
@@ -7,4 +7,5 @@ mod line;
 pub mod print;
 pub mod script;
 pub mod text;
+pub mod version;
 mod words;

@@ -1,8 +1,10 @@
-//! Rows of the words of the editor: scripts are read, and ids, versions and characters are printed. Names and limits too.
+//! Rows of the words of the editor: scripts and versions are read, and ids, versions and characters are printed. Names and
+//! limits too.
 
 use event_words::edit::Edit;
 use event_words::print::{print_char, print_id, print_version};
 use event_words::script::{ScriptFault, read_script};
+use event_words::version::{VersionTextFault, read_version};
 use ew_model::event::{Event, Op};
 use ew_model::limits::Limits;
 use ew_model::name::Name;
@@ -27,6 +29,7 @@ fn answer(alloc: Global, asked: &str) -> Result<String, Fault> {
     let (verb, rest) = first_word(asked);
     match verb {
         "script" => script(alloc, rest),
+        "read" => read(alloc, rest),
         "id" => Ok(show::bytes(alloc, &print_id(alloc, &id(rest)?)?)?),
         "version" => Ok(show::bytes(alloc, &print_version(alloc, &ids(alloc, rest)?)?)?),
         "character" => Ok(show::bytes(alloc, &print_char(alloc, scalar(rest)?)?)?),
@@ -67,6 +70,15 @@ fn script(alloc: Global, rest: &str) -> Result<String, Fault> {
         Ok(edits) => edits_shown(alloc, &edits),
         Err(ScriptFault::BadLine(line)) => Ok(format!(in alloc; "bad line {line}")?),
         Err(ScriptFault::OutOfMemory) => Err(Fault::OutOfMemory),
+    }
+}
+
+/// The ids of a version, or that the bytes are none.
+fn read(alloc: Global, rest: &str) -> Result<String, Fault> {
+    match read_version(alloc, &unescaped(alloc, rest)?) {
+        Ok(ids) => Ok(show::ids(alloc, &ids)?),
+        Err(VersionTextFault::Unreadable) => Ok(show::text(alloc, "unreadable")?),
+        Err(VersionTextFault::OutOfMemory) => Err(Fault::OutOfMemory),
     }
 }
 

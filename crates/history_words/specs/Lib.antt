@@ -1,2 +1,4 @@
 pub mod Listings
+pub mod Replays
 pub mod Tallies
+pub mod Versions
