@@ -40,7 +40,7 @@ option_in None q e = let no : ⊥ = cc in absurd no
 option_in (Some p) q e = let same : q ≡ p = cc in inl same
 
 -- a position that is found is of one of the ids
-found_one : (history : List Event) (ids : List Id) (q : ℕ) → Among q (found_in history ids) → (f : Event) × Among f.id ids × (slice_get history q ≡ Some f)
+pub found_one : (history : List Event) (ids : List Id) (q : ℕ) → Among q (found_in history ids) → (f : Event) × Among f.id ids × (slice_get history q ≡ Some f)
 found_one history ids q m =
     let y = among_flat (place_list history) ids q m in
     let f = found_event history y.0 q (in_option (position (id_eq y.0) (ids_of history)) q y.2) in
@@ -68,14 +68,14 @@ found_ties : (history : List Event) (ids : List Id) → NoTies id_cmp ids → No
 found_ties history [] n = tt
 found_ties history (x ∷ ids) n = ties_with history x ids (position (id_eq x) (ids_of history)) refl n.0 (found_ties history ids n.1)
 
-found_named : (history : List Event) (ids : List Id) (q : ℕ) → Among q (found_in history ids) → Among q (positions_in history ids)
+pub found_named : (history : List Event) (ids : List Id) (q : ℕ) → Among q (found_in history ids) → Among q (positions_in history ids)
 found_named history ids q m =
     let f = found_one history ids q m in
     let same : 0 + q ≡ q = omega arith in
     let named = position_named ids 0 history (0 + q, f.0) (numbered_get 0 history q f.0 f.2) in
     subst (λ p. Among p (positions_in history ids)) same (number_among (positions_in history ids) (0 + q) (named ∙ among_here ids f.0.id f.1))
 
-named_found : (history : List Event) (ids : List Id) → LaidOut [] history → (q : ℕ) → Among q (positions_in history ids) → Among q (found_in history ids)
+pub named_found : (history : List Event) (ids : List Id) → LaidOut [] history → (q : ℕ) → Among q (positions_in history ids) → Among q (found_in history ids)
 named_found history ids there q m =
     let passes = λ (z : ℕ × Event). is_among ids z.1.id in
     let z = among_map (λ (z : ℕ × Event). z.0) (filter passes (numbered 0 history)) q (subst (Among q) (positions_filtered ids 0 history) m) in

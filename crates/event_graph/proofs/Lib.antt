@@ -12,3 +12,5 @@ pub mod Kept
 pub mod RowLaws
 pub mod Summing
 mod Tails
+pub mod Subgraphs
+pub mod SpanEvents

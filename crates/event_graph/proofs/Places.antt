@@ -76,6 +76,12 @@ pub numbered_event : (events : List Event) (z : ℕ × Event) → Among z (numbe
 numbered_event events z m =
     let at = numbered_place 0 events z m in let same : z.0 ≡ at.0 = (let far = at.1 in omega (arith, far)) in ap (slice_get events) same ∙ at.2
 
+-- an event at a place is there
+pub slice_within : (xs : List Event) (k : ℕ) (x : Event) → slice_get xs k ≡ Some x → k < length xs
+slice_within [] k x h = let no : ⊥ = cc in absurd no
+slice_within (y ∷ xs) zero x h = omega arith
+slice_within (y ∷ xs) (suc k) x h = let less = slice_within xs k x h in omega (arith, less)
+
 -- positions of ids are those of events
 pub positions_within : (history : List Event) (ids : List Id) → All (λ p. p < length history) (positions_in history ids)
 positions_within history ids =
@@ -84,11 +90,6 @@ positions_within history ids =
     let z = among_map (λ (z : ℕ × Event). z.0) (filter (λ (z : ℕ × Event). is_among ids z.1.id) (numbered 0 history)) p (subst (Among p) (positions_filtered ids 0 history) m) in
     let at = numbered_event history z.0 (among_filter (λ (z : ℕ × Event). is_among ids z.1.id) (numbered 0 history) z.0 z.1).0 in
     let within = slice_within history z.0.0 z.0.1 at in let same = z.2 in omega (arith, within, same)))
-  where
-    slice_within : (xs : List Event) (k : ℕ) (x : Event) → slice_get xs k ≡ Some x → k < length xs
-    slice_within [] k x h = let no : ⊥ = cc in absurd no
-    slice_within (y ∷ xs) zero x h = omega arith
-    slice_within (y ∷ xs) (suc k) x h = let less = slice_within xs k x h in omega (arith, less)
 
 pub positions_increase : (history : List Event) (ids : List Id) → IsStrictlyIncreasing (positions_in history ids)
 positions_increase history ids = increasing_of (positions_in history ids) (positions_rising ids 0 history)

@@ -74,6 +74,11 @@ impl Graph {
         })
     }
 
+    /// What it takes its memory from.
+    pub(crate) fn alloc(&self) -> Global {
+        self.alloc
+    }
+
     /// How many events there are.
     pub fn count(&self) -> u32
         ensures count { result ≡ length self.now }
@@ -161,7 +166,7 @@ impl Graph {
     }
 
     /// The positions of those of the ids that are held, in the order of the ids.
-    fn find_all(&self, ids: &[Id]) -> Result<Vec<u32>, NoMem>
+    pub(crate) fn find_all(&self, ids: &[Id]) -> Result<Vec<u32>, NoMem>
         ensures { IfOk result (λ v. v.items ≡ found_in self.now ids.now) }
     {
         let mut positions = Vec::new(self.alloc);

@@ -1,8 +1,9 @@
-//! The history of a replica as a graph of events: found by id and by position, judged, and made longer.
+//! The history of a replica as a graph of events: found by id and by position, judged, made longer, and cut to a version.
 #![tactic(auto)]
 
 pub mod graph;
 mod ids;
 mod parts;
+mod subgraph;
 
 pub use graph::{Graph, Tail};

@@ -49,6 +49,7 @@ fn ask(alloc: Global, graph: &Graph, verb: &str, rest: &str) -> Result<String, F
         "judge" => judge(alloc, graph, rest),
         "find" => find(alloc, graph, rest),
         "missing" => missing(alloc, graph, rest),
+        "part" => part(alloc, graph, rest),
         "agents" => agents(alloc, graph),
         "heads" => Ok(show::numbers(alloc, graph.frontier().as_slice())?),
         "cuts" => cuts(alloc, graph),
@@ -141,6 +142,33 @@ fn missing(alloc: Global, graph: &Graph, rest: &str) -> Result<String, Fault> {
         Some(id) => Ok(format!(in alloc; "{id}")?),
         None => Ok(show::text(alloc, "none")?),
     }
+}
+
+/// What a version holds, or the first of its ids that isn't held.
+fn part(alloc: Global, graph: &Graph, rest: &str) -> Result<String, Fault> {
+    let version = ids(alloc, rest)?;
+    if let Some(id) = graph.has(version.as_slice()) {
+        return Ok(format!(in alloc; "unknown {id}")?);
+    }
+    let part = graph.subgraph(version.as_slice())?;
+    part_shown(alloc, &part)
+}
+
+/// The ids of the events, the positions of the heads, and the critical cuts.
+fn part_shown(alloc: Global, part: &Graph) -> Result<String, Fault> {
+    let held = show::ids(alloc, &ids_of(alloc, part)?)?;
+    let heads = show::numbers(alloc, part.frontier().as_slice())?;
+    let cuts = cuts(alloc, part)?;
+    Ok(format!(in alloc; "{held} | {heads} | {cuts}")?)
+}
+
+/// The ids of the events, in order.
+fn ids_of(alloc: Global, graph: &Graph) -> Result<Vec<Id>, Fault> {
+    let mut ids = Vec::new(alloc);
+    for lv in 0..graph.count() {
+        ids.push(graph.id_at(lv))?;
+    }
+    Ok(ids)
 }
 
 /// The agents, and how many events each has.

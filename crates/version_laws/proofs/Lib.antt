@@ -1,4 +1,4 @@
 mod VersionTexts
-mod VersionHistories
+pub mod VersionHistories
 mod HeldVersions
 mod SeenRows
