@@ -4,6 +4,7 @@ pub mod Differences
 pub mod Fronts
 pub mod Judging
 pub mod Loops
+pub mod Replays
 pub mod Sides
 pub mod SpanLists
 pub mod Standings

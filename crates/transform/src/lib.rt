@@ -4,9 +4,11 @@
 pub mod answer;
 mod apply;
 mod moves;
+pub mod replaying;
 mod turn;
 pub mod walking;
 
 pub use advance_retreat::State;
 pub use answer::Walk;
+pub use replaying::replay;
 pub use walking::walk;

@@ -72,6 +72,7 @@ fn run_rows<'a, L: Ledger>(
     let (kind, words) = first_word(about);
     match kind {
         "walk" => walk_rows::run(alloc, rows, report, steps),
+        "replay" => walk_rows::run_replays(alloc, rows, report, steps),
         "drawn" => walk_rows::run_drawn(alloc, words, rows, report, steps),
         _ => Err(Fault::Unreadable),
     }

@@ -1,7 +1,9 @@
 //! Rows of walks over whole histories, and walks over histories drawn at random beside the plain program.
 
-ghost use Rattle.std.specs.Prelude.{◌<◌, ◌≤◌, ◌^◌, [], length};
+ghost use Rattle.std.specs.Prelude.{◌≡◌, ◌<◌, ◌≤◌, ◌^◌, [], length, option_map, IfOk};
+ghost use Rattle.ew_model.specs.Verdicts.{first_bad};
 ghost use Rattle.advance_retreat.specs.Standing.{StandsFor};
+ghost use Rattle.transform.specs.Walking.{bad_at};
 
 use crate::histories::{Drawn, Draws, Shape, draw};
 use event_graph::Graph;
@@ -14,7 +16,7 @@ use plain_history::{first_bad, heads, operations, text_of};
 use std::alloc::Global;
 use std::fmt::Write;
 use std::sync::ledger::Ledger;
-use transform::{State, Walk, walk};
+use transform::{State, Walk, replay, walk};
 use trial_rows::fault::Fault;
 use trial_rows::report::Report;
 use trial_rows::show;
@@ -35,6 +37,36 @@ pub fn run<'a, L: Ledger>(
         report.compare(answer.as_str())?;
     }
     Ok(())
+}
+
+/// Each row is the replay of a history, of which each event is good.
+pub fn run_replays<'a, L: Ledger>(
+    alloc: Global,
+    rows: &'a str,
+    report: &mut Report<'a>,
+    steps: &mut Steps<L>,
+) -> Result<(), Fault> {
+    for row in rows.split('\n') {
+        let asked = report.ask(row)?;
+        let graph = graph_of(alloc, asked)?;
+        let answer = replayed(alloc, &graph, steps)?;
+        report.compare(answer.as_str())?;
+    }
+    Ok(())
+}
+
+fn replayed<L: Ledger>(
+    alloc: Global,
+    graph: &Graph,
+    steps: &mut Steps<L>,
+) -> Result<String, Fault> {
+    let mut state = State::base(alloc, 0)?;
+    let walk = walk_over(alloc, graph, &mut state, 0, steps)?;
+    if walk.stopped.is_some() {
+        return Err(Fault::Unreadable);
+    }
+    let ops = replay(alloc, graph, steps)?;
+    Ok(show::operations(alloc, &ops)?)
 }
 
 /// More events never come.
@@ -86,6 +118,7 @@ fn walk_over<L: Ledger>(
     steps: &mut Steps<L>,
 ) -> Result<Walk, NoMem>
     requires { StandsFor state.old 0 [] [] }
+    ensures { IfOk result (λ w. option_map bad_at w.stopped ≡ first_bad graph.now) }
 {
     walk(alloc, graph, state, 0, from, steps)
 }
