@@ -14,6 +14,7 @@ pub mod LengthLaws
 pub mod LengthSteps
 pub mod Loading
 pub mod NotOut
+pub mod PastTexts
 pub mod Received
 pub mod RoundParts
 pub mod RoundTexts

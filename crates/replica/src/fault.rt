@@ -3,7 +3,9 @@
 ghost use Rattle.std.specs.Prelude.{◌≡◌};
 ghost use Rattle.replica.specs.declared.fault.LoadFault.TheVariants as load;
 ghost use Rattle.replica.specs.declared.fault.EditFault.TheVariants as edit;
+ghost use Rattle.replica.specs.declared.fault.VersionFault.TheVariants as version;
 
+use ew_model::id::Id;
 use ew_model::verdict::Verdict;
 use std::alloc::AllocError;
 use thiserror::Error;
@@ -47,5 +49,23 @@ impl From<AllocError> for EditFault {
 
     fn from(_e: AllocError) -> EditFault {
         EditFault::OutOfMemory
+    }
+}
+
+/// Why there is no text of a version.
+#[derive(Clone, Copy, Debug, PartialEq, Eq, Error)]
+pub enum VersionFault {
+    /// The first of its ids, in the order given, that isn't held.
+    #[error("unknown {0}")]
+    Unknown(Id),
+    #[error("out of memory")]
+    OutOfMemory,
+}
+
+impl From<AllocError> for VersionFault {
+    ghost from_gives = { λ _ e. e ≡ version.OutOfMemory };
+
+    fn from(_e: AllocError) -> VersionFault {
+        VersionFault::OutOfMemory
     }
 }

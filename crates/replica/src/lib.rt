@@ -15,10 +15,11 @@ mod lengths;
 mod listed;
 mod load;
 mod made;
+mod past;
 mod rounds;
 mod state;
 mod took;
 
-pub use fault::{EditFault, LoadFault};
+pub use fault::{EditFault, LoadFault, VersionFault};
 pub use state::Replica;
 pub use took::{Stopped, Took};

@@ -1,21 +1,22 @@
 //! The replica itself.
 
-ghost use Rattle.std.specs.Prelude.{◌≡◌, ◌+◌, ◌≤◌, ◌<◌, ◌^◌, [], ◌++◌, drop, length, take, None, true, false, IfOk, IfErr, OnOk, OnErr, encode_utf8_all, ◌↔◌, IsTrue};
+ghost use Rattle.std.specs.Prelude.{◌≡◌, ◌+◌, ◌≤◌, ◌<◌, ◌^◌, [], ◌++◌, drop, length, take, None, Some, true, false, IfOk, IfErr, OnOk, OnErr, encode_utf8_all, ◌↔◌, IsTrue};
 ghost use Rattle.std.specs.Option.{option_and_then};
 ghost use Rattle.std.specs.Str.{chars};
-ghost use Rattle.ew_model.specs.Ancestors.{heads};
+ghost use Rattle.ew_model.specs.Ancestors.{heads, version_events};
 ghost use Rattle.ew_model.specs.Arrival.{most_judgements, next_judgement};
 ghost use Rattle.ew_model.specs.Cuts.{latest_cut};
 ghost use Rattle.ew_model.specs.EditLaws.{edited, size_of};
 ghost use Rattle.ew_model.specs.Edits as model;
+ghost use Rattle.ew_model.specs.declared.id.Id.{Id};
 ghost use Rattle.ew_model.specs.Ids.{id_cmp};
 ghost use Rattle.ew_model.specs.File.{IsWritable};
 ghost use Rattle.ew_model.specs.Kept.{IsKept, is_awaited};
 ghost use Rattle.ew_model.specs.Sets.{SameElements};
 ghost use Rattle.ew_model.specs.Sorting.{sort_by};
-ghost use Rattle.ew_model.specs.Texts.{text_of};
+ghost use Rattle.ew_model.specs.Texts.{text_at, text_of};
 ghost use Rattle.ew_model.specs.Touches.{touches};
-ghost use Rattle.ew_model.specs.Verdicts.{IsGood};
+ghost use Rattle.ew_model.specs.Verdicts.{IsGood, first_unknown};
 ghost use Rattle.replica.specs.Answers.{EditsBy, Loads, refusal_of};
 ghost use Rattle.replica.specs.Appending.{CanAppend};
 ghost use Rattle.replica.specs.Counting.{Counted};
@@ -31,11 +32,12 @@ use crate::admit::extend;
 use crate::awaiting::awaits;
 use crate::desk::Progress;
 use crate::edit::{Edit, changes, characters};
-use crate::fault::{EditFault, LoadFault};
+use crate::fault::{EditFault, LoadFault, VersionFault};
 use crate::heads::head_ids;
 use crate::listed::listed;
 use crate::load::load;
 use crate::made::events_by;
+use crate::past::text_at;
 use crate::rounds::round;
 use crate::took::{Stopped, Took};
 use agreement::agrees;
@@ -236,6 +238,21 @@ impl Replica {
         let mut bytes = Vec::new(self.alloc);
         self.text.write_to(&mut bytes)?;
         Ok(bytes)
+    }
+
+    /// The text of a version, in UTF-8, or the first of its ids, in the order given, that isn't held. The steps taken are at
+    /// most the touches of the version's events.
+    pub fn text_at<L: Ledger>(
+        &self,
+        version: &[Id],
+        steps: &mut Steps<L>,
+    ) -> Result<Vec<u8>, VersionFault>
+        ensures text { IfOk result (λ bytes. bytes.items ≡ encode_utf8_all (text_at self.now.held version.now)) }
+        ensures unknown { (x : Id) → result ≡ Err (VersionFault.Unknown x) ↔ (first_unknown self.now.held version.now ≡ Some x) }
+        ensures touches { steps.new ≤ steps.old + touches (version_events self.now.held version.now) 0 }
+    {
+        let _most = self.limits.events();
+        text_at(self.alloc, self.graph(), version, steps)
     }
 
     /// How many characters the text has.

@@ -11,14 +11,14 @@ use ew_model::name::Name;
 use ew_model::parents::Parents;
 use ew_model::steps::Steps;
 use ew_model::verdict::Refusal;
-use replica::{EditFault, LoadFault, Replica};
+use replica::{EditFault, LoadFault, Replica, VersionFault};
 use std::alloc::Global;
 use std::fmt::Write;
 use std::sync::ledger::Ledger;
 use trial_rows::fault::Fault;
 use trial_rows::report::Report;
 use trial_rows::show;
-use trial_rows::words::{first_word, history, id, number, two_numbers};
+use trial_rows::words::{first_word, history, id, ids, number, two_numbers};
 
 /// The limits of the program, or so many events and so many that wait.
 fn limits(words: &str) -> Result<Limits, Fault> {
@@ -102,6 +102,7 @@ fn change<L: Ledger>(
         "ins" => insert(alloc, replica, rest, steps),
         "del" => delete(alloc, replica, rest, steps),
         "load" => load(alloc, replica, rest, steps),
+        "at" => text_at(alloc, replica, rest, steps),
         "back" => Ok(show::yes_or_no(alloc, is_read_back(alloc, replica, steps)?)?),
         _ => ask(alloc, replica, verb, rest),
     }
@@ -270,6 +271,20 @@ fn loaded(alloc: Global, answer: Result<(), LoadFault>) -> Result<String, Fault>
 
 fn text(alloc: Global, replica: &Replica) -> Result<String, Fault> {
     Ok(show::bytes(alloc, &replica.text()?)?)
+}
+
+/// The text of a version, or the first of its ids that isn't held.
+fn text_at<L: Ledger>(
+    alloc: Global,
+    replica: &Replica,
+    rest: &str,
+    steps: &mut Steps<L>,
+) -> Result<String, Fault> {
+    match replica.text_at(&ids(alloc, rest)?, steps) {
+        Ok(text) => Ok(show::bytes(alloc, &text)?),
+        Err(VersionFault::Unknown(id)) => Ok(format!(in alloc; "unknown {id}")?),
+        Err(VersionFault::OutOfMemory) => Err(Fault::OutOfMemory),
+    }
 }
 
 /// The text, how long it is after each event, the positions of the heads, and their ids.
