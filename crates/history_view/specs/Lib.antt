@@ -1,1 +1,2 @@
 pub mod LogLaw
+pub mod ReplayLaw

@@ -1,8 +1,10 @@
-//! The listings of a history: its log, its heads, and its numbers.
+//! The listings of a history: its log, its heads, its numbers, and its replay.
 #![tactic(auto)]
 
 pub mod laws;
 mod lines;
 pub mod listings;
+pub mod replays;
 
 pub use listings::{check_text, heads_text, log_text};
+pub use replays::replay_text;

@@ -3,11 +3,13 @@
 ghost use Rattle.std.specs.Prelude.{◌≡◌, [], ◌++◌, ◌∷◌, OnOk, codes, decimal};
 ghost use Rattle.ew_model.specs.Scripts.{escaped_char, id_text, spaced, version_text};
 ghost use Rattle.history_words.specs.Listings.{event_line, id_line, number_line, op_words};
+ghost use Rattle.history_words.specs.Replays.{change_line, change_words};
 
 use event_words::print::{print_char, print_id, print_version};
 use ew_model::NoMem;
 use ew_model::event::{Event, Op};
 use ew_model::id::Id;
+use ew_model::text_op::TextOp;
 use itoa::Buffer;
 
 /// Writes the line of an event: its id, its parents, its operation.
@@ -58,6 +60,25 @@ fn push_word_and_number(out: &mut Vec<u8>, word: &[u8], n: u32) -> Result<(), No
     out.extend_from_slice(word)?;
     out.push(b' ')?;
     out.extend_from_slice(Buffer::new().format(n).as_bytes())
+}
+
+/// Writes what an event does to the text, and a newline.
+pub fn push_change(out: &mut Vec<u8>, op: &TextOp) -> Result<(), NoMem>
+    ensures { OnOk result (out.new.items ≡ out.old.items ++ change_line op.now) }
+{
+    push_change_words(out, op)?;
+    out.push(b'\n')?;
+    Ok(())
+}
+
+fn push_change_words(out: &mut Vec<u8>, op: &TextOp) -> Result<(), NoMem>
+    ensures { OnOk result (out.new.items ≡ out.old.items ++ spaced (change_words op.now)) }
+{
+    match *op {
+        TextOp::Ins { at, ch } => push_insertion(out, at, ch),
+        TextOp::Del { at } => push_word_and_number(out, b"del", at),
+        TextOp::Nothing => out.extend_from_slice(b"nothing"),
+    }
 }
 
 /// Writes an id and a newline.
