@@ -1,2 +1,3 @@
 -- What a command line plans.
 pub mod Lines
+pub mod Listings

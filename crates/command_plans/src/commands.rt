@@ -4,48 +4,90 @@ ghost use Rattle.std.specs.FinMap.{get};
 ghost use Rattle.command_table.specs.Loads.{File, whole_of};
 ghost use Rattle.command_table.specs.Possible.{MayReplyTo};
 ghost use Rattle.command_table.specs.Table as table;
-ghost use Rattle.command_table.specs.Table.{create_reply, listing_text, open_file, over_events, show_reply};
+ghost use Rattle.command_table.specs.Table.{create_reply, open_file, over_events, past, show_reply};
 ghost use Rattle.opened_files.specs.Views.{IsCommandPlan, LostBy, MissesBy, ShelfCauses, plan_view, status_of};
 ghost use Rattle.ew_outside.specs.Counts.{next};
 ghost use Rattle.command_words.specs.Words.{listing_view};
+ghost use Rattle.command_plans.specs.Listings.{Shows};
 
-use command_texts::texts::file_there_text;
+use command_texts::texts::{file_there_text, unknown_text};
 use command_words::words::Listing;
 use event_file::encode;
 use ew_model::NoMem;
+use ew_model::id::Id;
 use ew_model::limits::Limits;
 use ew_model::steps::Steps;
 use ew_outside::Shelf;
-use history_view::{check_text, heads_text, log_text};
+use history_view::{check_text, heads_text, log_text, replay_text};
 use opened_files::load::{Loaded, load_whole};
 use opened_files::open::{Found, open};
 use opened_files::reply::{Plan, Stop};
-use replica::Replica;
+use replica::{Replica, VersionFault};
 use std::alloc::Global;
 use std::sync::ledger::Ledger;
 
-/// What is shown of a replica.
-fn list(alloc: Global, listing: Listing, replica: &Replica) -> Result<Vec<u8>, NoMem>
-    ensures { IfOk result (λ text. text.items ≡ listing_text (listing_view listing) replica.now.held) }
+/// The text of a version, or its first id that isn't held.
+fn past_text<L: Ledger>(
+    version: &[Id],
+    replica: &Replica,
+    steps: &mut Steps<L>,
+) -> Result<Vec<u8>, VersionFault>
+    ensures { Shows (show_reply (past version.now) replica.now.held) result }
+{
+    replica.text_at(version, steps)
+}
+
+/// What is shown of a replica, or the first id of a version that isn't held.
+fn list<L: Ledger>(
+    alloc: Global,
+    listing: &Listing,
+    replica: &Replica,
+    steps: &mut Steps<L>,
+) -> Result<Vec<u8>, VersionFault>
+    ensures { Shows (show_reply (listing_view listing.now) replica.now.held) result }
 {
     match listing {
-        Listing::Content => replica.text(),
-        Listing::Heads => heads_text(alloc, replica),
-        Listing::Log => log_text(alloc, replica),
-        Listing::Numbers => check_text(alloc, replica),
+        Listing::Content => Ok(replica.text()?),
+        Listing::Past(version) => past_text(version, replica, steps),
+        Listing::Heads => Ok(heads_text(alloc, replica)?),
+        Listing::Log => Ok(log_text(alloc, replica)?),
+        Listing::Replay => Ok(replay_text(alloc, replica, steps)?),
+        Listing::Numbers => Ok(check_text(alloc, replica)?),
+    }
+}
+
+/// The plan that prints what was listed, or tells the id that isn't held.
+fn plan_of<'a>(alloc: Global, listed: Result<Vec<u8>, VersionFault>) -> Result<Plan<'a>, NoMem>
+    ensures told { (reply : table.Reply) → Shows reply listed → IfOk result (λ p. plan_view p ≡ reply) }
+    ensures found { IfOk result (λ p. status_of p ≢ 3) }
+    ensures plan { IfOk result IsCommandPlan }
+{
+    match listed {
+        Ok(text) => Ok(Plan::Prints(text)),
+        Err(VersionFault::Unknown(id)) => Ok(Plan::Refuses {
+            status: 5,
+            text: unknown_text(alloc, &id)?,
+        }),
+        Err(VersionFault::OutOfMemory) => Err(NoMem),
     }
 }
 
 /// The plan that prints what is shown of a replica.
-fn shown<'a>(alloc: Global, listing: Listing, replica: Replica) -> Result<Plan<'a>, NoMem>
+fn shown<'a, L: Ledger>(
+    alloc: Global,
+    listing: Listing,
+    replica: Replica,
+    steps: &mut Steps<L>,
+) -> Result<Plan<'a>, NoMem>
     ensures told { IfOk result (λ p. plan_view p ≡ show_reply (listing_view listing) replica.held) }
     ensures found { IfOk result (λ p. status_of p ≢ 3) }
     ensures plan { IfOk result IsCommandPlan }
 {
-    Ok(Plan::Prints(list(alloc, listing, &replica)?))
+    let listed = list(alloc, &listing, &replica, steps);
+    plan_of(alloc, listed)
 }
 
-/// Shows a file: its text, its heads, its events or its numbers.
+/// Shows a file: its text now or at a version, its heads, its events, its replay or its numbers.
 pub fn show<'a, H: Shelf, L: Ledger>(
     alloc: Global,
     listing: Listing,
@@ -66,7 +108,7 @@ pub fn show<'a, H: Shelf, L: Ledger>(
     match open(alloc, name, limits, shelf, steps)? {
         Found::Refused { status, text } => Ok(Plan::Refuses { status, text }),
         Found::Open(replica) => {
-            let plan = shown(alloc, listing, replica)?;
+            let plan = shown(alloc, listing, replica, steps)?;
             Ok(plan)
         }
     }

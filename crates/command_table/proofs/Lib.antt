@@ -3,3 +3,5 @@ pub mod FileSizes
 pub mod Joined
 pub mod MergedFiles
 pub mod Merges
+pub mod Pasts
+pub mod VersionReading

@@ -26,6 +26,13 @@ merge_app = with_rule (with_rule (new_app (codes "merge")) file_rule) other_rule
 unfoldable pub edit_app : App
 edit_app = with_rule (with_rule (new_app (codes "edit")) file_rule) agent_rule
 
+-- the version, which may be given
+abbrev pub at_rule : Rule
+at_rule = record (new_rule (codes "at")) { long = Some (codes "at") }
+
+unfoldable pub cat_app : App
+cat_app = with_rule (with_rule (new_app (codes "cat")) file_rule) at_rule
+
 -- the command without its subcommands
 abbrev pub bare_app : App
 bare_app = on_top (λ s. record s { no_binary_name = true; subcommand_required = true }) (new_app (codes "egw"))
@@ -36,5 +43,5 @@ then_app app more = with_subcommand app more.top
 
 unfoldable pub egw_app : App
 egw_app =
-    then_app (then_app (then_app (then_app (then_app (then_app (then_app bare_app
-    (file_app (codes "new"))) edit_app) (file_app (codes "cat"))) (file_app (codes "heads"))) (file_app (codes "log"))) (file_app (codes "check"))) merge_app
+    then_app (then_app (then_app (then_app (then_app (then_app (then_app (then_app bare_app
+    (file_app (codes "new"))) edit_app) cat_app) (file_app (codes "heads"))) (file_app (codes "log"))) (file_app (codes "replay"))) (file_app (codes "check"))) merge_app

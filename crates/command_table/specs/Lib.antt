@@ -4,9 +4,11 @@ pub mod Headline
 pub mod Loads
 pub mod MergeLaws
 pub mod Outputs
+pub mod PastLaws
 pub mod Possible
 pub mod Reads
 pub mod Scripts
 pub mod Sequences
 pub mod Table
 pub mod Text
+pub mod VersionWords

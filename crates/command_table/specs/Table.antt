@@ -11,10 +11,10 @@ use Rattle.ew_model.specs.declared.verdict.Refusal.{Refusal}
 use Rattle.ew_model.specs.declared.verdict.Refusal.TheVariants as why
 use Rattle.ew_model.specs.Limits.{LimitNumbers, most_file_bytes}
 use Rattle.ew_model.specs.Names.{is_name}
-use Rattle.ew_model.specs.Texts.{text_of}
+use Rattle.ew_model.specs.Texts.{text_at, text_of}
 use Rattle.ew_model.specs.Edits.{EditRefusal}
 use Rattle.ew_model.specs.Edits.EditRefusal.{OutOfRange, TooManyHeads, Full}
-use Rattle.ew_model.specs.Verdicts.{BadEvent, first_bad}
+use Rattle.ew_model.specs.Verdicts.{BadEvent, first_bad, first_unknown}
 use Rattle.ew_model.specs.Arrival.{Outcome, arrive}
 use Rattle.ew_model.specs.Cuts.{latest_cut}
 use Rattle.ew_model.specs.File.{file_of}
@@ -22,11 +22,13 @@ use Rattle.ew_model.specs.FileFaults.{FileFinding, file_finding}
 use Rattle.ew_model.specs.FileFaults.FileFinding.{IsFile, Short, BadMagic, BadVersion, BadDigest, BadRecord, TooMany}
 use Rattle.ew_outside.specs.Files.{Files}
 use Rattle.history_words.specs.Listings.{check_text, heads_text, log_text}
+use Rattle.history_words.specs.Replays.{replay_text}
 use Rattle.history_words.specs.Tallies.{accepted_in, repeats_in, refused_in}
 use Rattle.command_table.specs.Cli.{egw_app}
 use Rattle.command_table.specs.Loads.{File, missing, too_long, whole, whole_of}
+use Rattle.command_table.specs.VersionWords.{version_in}
 use Rattle.command_table.specs.Scripts.{Reading, script, bad_line, Edited, ran, stopped_at, edited_by}
-use Rattle.command_table.specs.Text.{bad_line as bad_line_text, line_out_of_range, too_many_heads, too_many_events, made_text, input_too_long, clash, received_text, usage, no_file, file_there, short_file, no_event_file, unknown_version, bad_digest, bad_field, bad_event, file_too_long, file_too_many}
+use Rattle.command_table.specs.Text.{bad_line as bad_line_text, line_out_of_range, too_many_heads, too_many_events, made_text, input_too_long, unknown, clash, received_text, usage, no_file, file_there, short_file, no_event_file, unknown_version, bad_digest, bad_field, bad_event, file_too_long, file_too_many}
 
 abbrev pub Text : Type 0
 Text = List ℕ
@@ -34,8 +36,10 @@ Text = List ℕ
 -- what is shown of a file
 pub data Listing : Type 0 where
   content : Listing
+  past : (version : List Id) → Listing
   head_ids : Listing
   log : Listing
+  replay : Listing
   numbers : Listing
 
 -- a command line that is taken
@@ -55,6 +59,15 @@ edit_line rows =
     (λ file. option_and_then (λ agent. if is_name agent then Some (edit file agent) else None) (first_of (codes "agent") rows))
     (first_of (codes "file") rows)
 
+-- the whole text, or that of a version, whose word has to be in the grammar
+abbrev pub content_at : Option Text → Option Listing
+content_at None = Some content
+content_at (Some word) = option_map past (version_in word)
+
+abbrev pub cat_line : List Row → Option Command
+cat_line rows =
+    option_and_then (λ file. option_map (λ listing. show listing file) (content_at (first_of (codes "at") rows))) (first_of (codes "file") rows)
+
 abbrev pub merge_line : List Row → Option Command
 merge_line rows =
     option_and_then (λ file. option_map (merge file) (first_of (codes "other") rows)) (first_of (codes "file") rows)
@@ -65,17 +78,18 @@ line_in None = None
 line_in (Some p) =
     if bytes_eq p.0 (codes "new") then file_line create p.1
     else (if bytes_eq p.0 (codes "edit") then edit_line p.1
-    else (if bytes_eq p.0 (codes "cat") then file_line (show content) p.1
+    else (if bytes_eq p.0 (codes "cat") then cat_line p.1
     else (if bytes_eq p.0 (codes "heads") then file_line (show head_ids) p.1
     else (if bytes_eq p.0 (codes "log") then file_line (show log) p.1
+    else (if bytes_eq p.0 (codes "replay") then file_line (show replay) p.1
     else (if bytes_eq p.0 (codes "check") then file_line (show numbers) p.1
-    else (if bytes_eq p.0 (codes "merge") then merge_line p.1 else None))))))
+    else (if bytes_eq p.0 (codes "merge") then merge_line p.1 else None)))))))
 
 abbrev pub where_none : Kinds → Option Command → Option Command
 where_none [] l = l
 where_none (k ∷ ks) l = None
 
--- the words are taken exactly where `clap` has no fault of them and the agent is a name
+-- the words are taken exactly where `clap` has no fault of them, the agent is a name and the version is in its grammar
 unfoldable pub line_of : List Text → Option Command
 line_of words = where_none (fault_of egw_app words) (line_in (subcommand_of egw_app words))
 
@@ -121,12 +135,23 @@ over_events reply (refused status text) = refuses status text
 -- what is shown of events
 abbrev pub listing_text : Listing → List Event → List ℕ
 listing_text content events = encode_utf8_all (text_of events)
+listing_text (past version) events = encode_utf8_all (text_at events version)
 listing_text head_ids events = heads_text events
 listing_text log events = log_text events
+listing_text replay events = replay_text events
 listing_text numbers events = check_text events
 
+-- the first id of a version, in the order written, that isn't held
+abbrev pub unknown_in : Listing → List Event → Option Id
+unknown_in (past version) events = first_unknown events version
+unknown_in listing events = None
+
+abbrev pub unless_unknown : Option Id → Reply → Reply
+unless_unknown None reply = reply
+unless_unknown (Some id) reply = refuses 5 (unknown id)
+
 abbrev pub show_reply : Listing → List Event → Reply
-show_reply listing events = prints (listing_text listing events)
+show_reply listing events = unless_unknown (unknown_in listing events) (prints (listing_text listing events))
 
 abbrev pub create_reply : Text → File → Reply
 create_reply name missing = stores [] name (file_of [])

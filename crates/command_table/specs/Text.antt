@@ -93,6 +93,10 @@ too_many_heads heads = codes "egw: " ++ (decimal heads ++ codes " heads, more th
 abbrev pub made_text : ℕ → List ℕ
 made_text made = codes "made " ++ (decimal made ++ codes "\n")
 
+-- an id of a version that no event has
+abbrev pub unknown : Id → List ℕ
+unknown id = codes "egw: unknown " ++ (id_text id ++ codes "\n")
+
 -- an id that two events have
 abbrev pub clash : Id → List ℕ
 clash id = codes "egw: clash " ++ (id_text id ++ codes "\n")

@@ -1,5 +1,6 @@
-//! What holds of every list of runs, and of merges.
+//! What holds of every list of runs, of merges, and of past versions and replays.
 ghost use Rattle.command_table.specs.MergeLaws.{MergesAgree, MergesHoldSame, MergesStore, MergesTakeAll};
+ghost use Rattle.command_table.specs.PastLaws.{HeadsAreAVersion, HeadsShowAll, ReplaysMakeContent, VersionsAreTaken};
 ghost use Rattle.command_table.specs.Sequences.{RunsFold};
 
 /// After a list of runs of which none met a fault or want of memory, the files are the fold of the
@@ -26,4 +27,25 @@ pub fn law_merge_files()
 /// Where two files are merged both ways, both hold the same events.
 pub fn law_merge_same_events()
     ensures { MergesHoldSame }
+{}
+
+/// A word is taken for a version exactly where it is in the grammar of versions.
+pub fn law_version_words()
+    ensures { VersionsAreTaken }
+{}
+
+/// Where a version names all heads of a file, and no id that the file doesn't hold, `cat --at` answers what `cat` answers.
+pub fn law_past_whole()
+    ensures { HeadsShowAll }
+{}
+
+/// The heads of a file, as `heads` prints them but with a comma between two (`root` where there is none), are a version that names
+/// them all.
+pub fn law_heads_version()
+    ensures { HeadsAreAVersion }
+{}
+
+/// What `replay` prints is read in one way, as operations, and doing these in order, from the empty text on, makes what `cat` prints.
+pub fn law_replays()
+    ensures { ReplaysMakeContent }
 {}

@@ -1,10 +1,11 @@
 //! The lines that the program prints, and those that it writes to its error output. Each ends with a newline; a name stands in it
 //! as it was given. The only error is want of memory.
-ghost use Rattle.std.specs.Prelude.{◌≡◌, IfOk, string_bytes};
+ghost use Rattle.std.specs.Prelude.{◌≡◌, ◌++◌, IfOk, codes, string_bytes};
 ghost use Rattle.ew_model.specs.Answers.{ruling_of};
+ghost use Rattle.ew_model.specs.Scripts.{id_text};
 ghost use Rattle.event_file.specs.Faults.{kind_of};
 ghost use Rattle.command_texts.specs.Told.{took_text};
-ghost use Rattle.command_table.specs.Text.{bad_digest, bad_event, bad_field, bad_line, clash, line_out_of_range, too_many_events, too_many_heads, field_words, file_there, file_too_long, file_too_many, input_too_long, no_event_file, no_file, short_file, unknown_version, usage, verdict_words};
+ghost use Rattle.command_table.specs.Text.{bad_digest, bad_event, bad_field, bad_line, clash, line_out_of_range, too_many_events, too_many_heads, field_words, file_there, file_too_long, file_too_many, input_too_long, no_event_file, no_file, short_file, unknown, unknown_version, usage, verdict_words};
 
 use event_file::RecordFault;
 use event_words::print::print_id;
@@ -212,7 +213,21 @@ pub fn made_text(alloc: Global, made: u64) -> Result<Vec<u8>, AllocError>
 pub fn clash_text(alloc: Global, id: &Id) -> Result<Vec<u8>, AllocError>
     ensures { IfOk result (λ t. t.items ≡ clash id.now) }
 {
-    let mut text = Vec::from_slice(alloc, b"egw: clash ")?;
+    id_line(alloc, b"egw: clash ", id)
+}
+
+/// That no event has this id of a version.
+pub fn unknown_text(alloc: Global, id: &Id) -> Result<Vec<u8>, AllocError>
+    ensures { IfOk result (λ t. t.items ≡ unknown id.now) }
+{
+    id_line(alloc, b"egw: unknown ", id)
+}
+
+/// An id behind these bytes, and a newline.
+fn id_line(alloc: Global, front: &[u8], id: &Id) -> Result<Vec<u8>, AllocError>
+    ensures { IfOk result (λ t. t.items ≡ front.now ++ (id_text id.now ++ codes "\n")) }
+{
+    let mut text = Vec::from_slice(alloc, front)?;
     text.extend_from_slice(&print_id(alloc, id)?)?;
     text.push(b'\n')?;
     Ok(text)

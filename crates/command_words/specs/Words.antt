@@ -1,7 +1,7 @@
 -- What the words of a command line were read as.
 use Rattle.std.specs.Prelude.{◌≡◌, ⊤, true, Option, Some}
 use Rattle.ew_model.specs.Names.{is_name}
-use Rattle.command_table.specs.Table.{Listing, content, head_ids, log, numbers, Command, create, edit, show, merge}
+use Rattle.command_table.specs.Table.{Listing, content, past, head_ids, log, replay, numbers, Command, create, edit, show, merge}
 use Rattle.command_words.specs.declared.words as words
 use Rattle.command_words.specs.declared.words.Listing.TheVariants as shown
 use Rattle.command_words.specs.declared.words.Taken.{Taken}
@@ -10,8 +10,10 @@ use Rattle.command_words.specs.declared.words.Taken.TheVariants as taken
 -- what is shown
 abbrev pub listing_view : words.Listing.Listing → Listing
 listing_view shown.Content = content
+listing_view (shown.Past version) = past version.items
 listing_view shown.Heads = head_ids
 listing_view shown.Log = log
+listing_view shown.Replay = replay
 listing_view shown.Numbers = numbers
 
 -- the command that the words were read as

@@ -2,7 +2,7 @@
 ghost use Rattle.std.specs.Prelude.{◌≡◌, false, IfOk};
 ghost use Rattle.clap.specs.Words.{app_of};
 ghost use Rattle.clap.specs.declared.builder.command.Command.TheViews.{out-Command};
-ghost use Rattle.command_table.specs.Cli.{bare_app, edit_app, egw_app, file_app, merge_app, then_app};
+ghost use Rattle.command_table.specs.Cli.{bare_app, cat_app, edit_app, egw_app, file_app, merge_app, then_app};
 ghost use Rattle.command_words.specs.Apps.{with_shows_app};
 
 use clap::{Arg, Command};
@@ -24,6 +24,16 @@ fn edit_command<'a>(alloc: Global) -> Result<Command<'a>, AllocError>
     let file = Arg::new(alloc, "file").required(true);
     let agent = Arg::new(alloc, "agent").long("agent").required(true);
     Command::new(alloc, "edit").arg(file)?.arg(agent)
+}
+
+/// The command that shows a text, as a whole or at a version.
+fn cat_command<'a>(alloc: Global) -> Result<Command<'a>, AllocError>
+    ensures app { IfOk result (λ c. app_of c ≡ cat_app) }
+    ensures local { IfOk result (λ c. (out-Command c).has_globals ≡ false) }
+{
+    let file = Arg::new(alloc, "file").required(true);
+    let at = Arg::new(alloc, "at").long("at");
+    Command::new(alloc, "cat").arg(file)?.arg(at)
 }
 
 /// The command of two files.
@@ -57,13 +67,21 @@ fn with_file_command<'a>(
     command.subcommand(file)
 }
 
-/// Adds the commands that show a file.
+/// Adds the command that shows a text.
+fn with_cat<'a>(alloc: Global, command: Command<'a>) -> Result<Command<'a>, AllocError>
+    ensures { IfOk result (λ c. app_of c ≡ then_app (app_of command.entry) cat_app) }
+{
+    let cat = cat_command(alloc)?;
+    command.subcommand(cat)
+}
+
+/// Adds the commands that show a history.
 fn with_shows<'a>(alloc: Global, command: Command<'a>) -> Result<Command<'a>, AllocError>
     ensures { IfOk result (λ c. app_of c ≡ with_shows_app (app_of command.entry)) }
 {
-    let command = with_file_command(alloc, command, "cat")?;
     let command = with_file_command(alloc, command, "heads")?;
     let command = with_file_command(alloc, command, "log")?;
+    let command = with_file_command(alloc, command, "replay")?;
     with_file_command(alloc, command, "check")
 }
 
@@ -89,6 +107,7 @@ pub fn egw_command<'a>(alloc: Global) -> Result<Command<'a>, AllocError>
 {
     let command = with_file_command(alloc, bare_command(alloc), "new")?;
     let command = with_edit(alloc, command)?;
+    let command = with_cat(alloc, command)?;
     let command = with_shows(alloc, command)?;
     with_merge(alloc, command)
 }

@@ -2,30 +2,37 @@
 ghost use Rattle.std.specs.Prelude.{◌≡◌, IfOk, map, string_bytes};
 ghost use Rattle.std.specs.Option.{option_map};
 ghost use Rattle.clap.specs.Words.{first_of, found_of, rows_of, subcommand_rows_of};
-ghost use Rattle.command_table.specs.Table.{create, edit_line, file_line, line_in, line_of, merge_line, show};
+ghost use Rattle.command_table.specs.Table.{cat_line, create, edit_line, file_line, line_in, line_of, merge_line, show};
+ghost use Rattle.command_table.specs.Table as table;
 ghost use Rattle.command_words.specs.Words.{IsNamed, line_view, listing_view};
 
 use crate::cli::egw_command;
 use clap::ArgMatches;
 use clap::error::ErrorKind;
+use event_words::version::{VersionTextFault, read_version};
+use ew_model::id::Id;
 use ew_model::name::Name;
 use std::alloc::{AllocError, Global};
 
 /// What is shown of a file.
-#[derive(Clone, Copy, Debug)]
+#[derive(Debug, Drop)]
 pub enum Listing {
     /// The text.
     Content,
+    /// The text of the version of these ids.
+    Past(Vec<Id>),
     /// The ids of the heads.
     Heads,
     /// The events.
     Log,
+    /// What each event does to the text of those before it.
+    Replay,
     /// How many events, agents, heads, cuts and characters there are.
     Numbers,
 }
 
 /// A command line that is taken.
-#[derive(Clone, Copy, Debug)]
+#[derive(Debug, Drop)]
 pub enum Taken<'a> {
     New(&'a str),
     /// The agent is a name.
@@ -61,6 +68,33 @@ fn read_edit<'a>(values: &ArgMatches<'a>) -> Option<Taken<'a>>
     }
 }
 
+/// The text as a whole, or that of a version, where the word is one.
+fn content_at(alloc: Global, word: Option<&str>) -> Result<Option<Listing>, AllocError>
+    ensures { IfOk result (λ listing. option_map listing_view listing ≡ table.content_at (option_map (λ w. w.now) word.entry)) }
+{
+    let Some(word) = word else {
+        return Ok(Some(Listing::Content));
+    };
+    match read_version(alloc, word.as_bytes()) {
+        Ok(version) => Ok(Some(Listing::Past(version))),
+        Err(VersionTextFault::Unreadable) => Ok(None),
+        Err(VersionTextFault::OutOfMemory) => Err(AllocError),
+    }
+}
+
+fn read_cat<'a>(alloc: Global, values: &ArgMatches<'a>) -> Result<Option<Taken<'a>>, AllocError>
+    ensures line { IfOk result (λ l. option_map line_view l ≡ cat_line (rows_of (found_of values.now))) }
+    ensures named { IfOk result (λ l. IsNamed (option_map line_view l)) }
+{
+    let Some(file) = value(values, "file") else {
+        return Ok(None);
+    };
+    let Some(listing) = content_at(alloc, value(values, "at"))? else {
+        return Ok(None);
+    };
+    Ok(Some(Taken::Show { listing, file }))
+}
+
 fn read_show<'a>(listing: Listing, values: &ArgMatches<'a>) -> Option<Taken<'a>>
     ensures line { option_map line_view result ≡ file_line (show (listing_view listing)) (rows_of (found_of values.now)) }
     ensures named { IsNamed (option_map line_view result) }
@@ -78,43 +112,51 @@ fn read_merge<'a>(values: &ArgMatches<'a>) -> Option<Taken<'a>>
     Some(Taken::Merge { file, other })
 }
 
-fn read_matches<'a>(matches: &ArgMatches<'a>) -> Option<Taken<'a>>
-    ensures line { option_map line_view result ≡ line_in (subcommand_rows_of matches.now) }
-    ensures named { IsNamed (option_map line_view result) }
+fn read_matches<'a>(
+    alloc: Global,
+    matches: &ArgMatches<'a>,
+) -> Result<Option<Taken<'a>>, AllocError>
+    ensures line { IfOk result (λ l. option_map line_view l ≡ line_in (subcommand_rows_of matches.now)) }
+    ensures named { IfOk result (λ l. IsNamed (option_map line_view l)) }
 {
-    let (name, values) = matches.subcommand()?;
+    let Some((name, values)) = matches.subcommand() else {
+        return Ok(None);
+    };
     if name == "new" {
-        return read_new(values);
+        return Ok(read_new(values));
     }
     if name == "edit" {
-        return read_edit(values);
+        return Ok(read_edit(values));
     }
     if name == "cat" {
-        return read_show(Listing::Content, values);
+        return read_cat(alloc, values);
     }
     if name == "heads" {
-        return read_show(Listing::Heads, values);
+        return Ok(read_show(Listing::Heads, values));
     }
     if name == "log" {
-        return read_show(Listing::Log, values);
+        return Ok(read_show(Listing::Log, values));
+    }
+    if name == "replay" {
+        return Ok(read_show(Listing::Replay, values));
     }
     if name == "check" {
-        return read_show(Listing::Numbers, values);
+        return Ok(read_show(Listing::Numbers, values));
     }
     if name == "merge" {
-        return read_merge(values);
+        return Ok(read_merge(values));
     }
-    None
+    Ok(None)
 }
 
-/// Takes the words, or `None` where `clap` doesn't or the agent is no name.
+/// Takes the words, or `None` where `clap` doesn't, the agent is no name or the version isn't in its grammar.
 pub fn read_words<'a>(alloc: Global, words: &'a [String]) -> Result<Option<Taken<'a>>, AllocError>
     ensures line { IfOk result (λ l. option_map line_view l ≡ line_of (map string_bytes words.now)) }
     ensures named { IfOk result (λ l. IsNamed (option_map line_view l)) }
 {
     let command = egw_command(alloc)?;
     match command.try_get_matches_from(words) {
-        Ok(matches) => Ok(read_matches(&matches)),
+        Ok(matches) => read_matches(alloc, &matches),
         Err(error) => match error.kind() {
             ErrorKind::OutOfMemory => Err(AllocError),
             _ => Ok(None),

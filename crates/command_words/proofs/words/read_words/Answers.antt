@@ -1,4 +1,5 @@
 use Rattle.std.proofs.Common.{◌≡◌, ◌⊎◌, ◌∙◌, sym, ap, subst, map, List, string_bytes}
+use Rattle.std.proofs.lemmas.Result.{IfOk-weaker}
 use Rattle.clap.specs.Words.{App, IsAmong, HasKind, app_of, fault_of, is_simple, is_simple_and_free, subcommand_of}
 use Rattle.clap.specs.declared.error.kind.ErrorKind.{ErrorKind}
 use Rattle.clap.specs.declared.error.kind.ErrorKind.TheVariants.{OutOfMemory}
@@ -13,7 +14,8 @@ returns-in-Ok-clause-line c =
     let app : app_of c.in_ok-command.command ≡ egw_app = c.in_ok-command.ensures in
     let none = c.in-Ok.ensures.kinds (ap is_simple_and_free app ∙ egw_is_free) in
     let rows = (c.in-Ok.ensures.matches (ap is_simple app ∙ egw_is_simple)).1 in
-    c.read_matches.ensures.line ∙ taken words _ (ap (λ (a : App). fault_of a words) (sym app) ∙ none) (rows ∙ ap (λ (a : App). subcommand_of a words) app)
+    let whole = taken words _ (ap (λ (a : App). fault_of a words) (sym app) ∙ none) (rows ∙ ap (λ (a : App). subcommand_of a words) app) in
+    IfOk-weaker c.read_matches.result _ _ (λ l h. h ∙ whole) c.read_matches.ensures.line
 
 pub returns-clause-line : goal.returns-clause-line
 returns-clause-line c =
