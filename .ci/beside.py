@@ -68,6 +68,7 @@ class Beside:
         self.part = ""
         self.failing = 0
         self.texts = Counter()
+        self.statuses = Counter()
 
     def fork_reader(self):
         """From now on the reader is run in forks of this process: the same text, read once."""
@@ -99,6 +100,7 @@ class Beside:
         self.parts[self.part] += 1
         status, output, text, _ = seen[0]
         self.texts[status, shape_of(text)] += 1
+        self.statuses[command_of(words), status] += 1
         if seen[0] != seen[1]:
             self.fail(words, input, seen)
         return status, output
@@ -150,15 +152,38 @@ def run_reader(words, folder, streams):
         os._exit(101)
 
 
+def command_of(words):
+    """The first word, and the option `--at` where it is there."""
+    texts = [os.fsencode(word) for word in words]
+    has_version = any(re.match(rb"--at(=|$)", text) for text in texts[1:])
+    return b" ".join(texts[:1] + [b"--at"] * has_version).decode(errors="replace")
+
+
 def shape_of(text):
     """An error text without its names and numbers."""
-    text = re.sub(rb"^egw: (?!line|input|file |no file|clash|more than|\d+ heads|shelf|source|sink)[^:]*: ", b"egw: F: ", text)
-    text = re.sub(rb"(no file|file|clash) [^\n]*?( is there)?\n", rb"\1 NAME\2\n", text)
+    text = re.sub(rb"^egw: (?!line|input|file |no file|clash|unknown|more than|\d+ heads|shelf|source|sink)[^:]*: ", b"egw: F: ", text)
+    text = re.sub(rb"(no file|file|clash|unknown) [^\n]*?( is there)?\n", rb"\1 NAME\2\n", text)
     return re.sub(rb"[0-9a-f]{64}|[0-9]+", b"N", text).decode(errors="replace").strip()
 
 
-LISTINGS = ("cat", "heads", "log", "check")
+LISTINGS = ("cat", "heads", "log", "check", "replay")
 
 
 def list_all(beside, name):
-    return [beside.run(listing, name) for listing in LISTINGS]
+    """All that tells of a file. Its changes, one after another, have to leave its text."""
+    answers = [beside.run(listing, name) for listing in LISTINGS]
+    if answers[4][0] == 0 and text_after(answers[4][1].decode()) != answers[0][1].decode():
+        beside.wrong(f"the changes of {name} don't leave its text")
+    return answers
+
+
+def text_after(changes):
+    """The text that changes, as `replay` prints them, leave."""
+    text = []
+    for change in changes.split("\n")[:-1]:
+        kind, at, ch = (change.split(" ", 2) + [None, None])[:3]
+        if kind == "ins":
+            text.insert(int(at), {"\\n": "\n", "\\\\": "\\"}.get(ch, ch))
+        elif kind == "del":
+            del text[int(at)]
+    return "".join(text)

@@ -19,12 +19,12 @@ SEED = 2718281828
 # The examples
 
 
-def examples(beside):
+def examples(beside, draws):
     beside.part = "examples"
     paths = sorted((ROOT / "examples").rglob("*.egw"))
     for path in paths:
         beside.file(path.name, path.read_bytes())
-        list_all(beside, path.name)
+        list_versions(beside, draws, path.name)
         beside.run("merge", path.name, path.name)
         beside.run("merge", path.name, "letter.egw")
         beside.file(path.name, path.read_bytes())
@@ -32,13 +32,97 @@ def examples(beside):
         one, other = (name + ".egw" for name in line.split()[:2])
         beside.copy(one, "whole")
         beside.run("merge", "whole", other)
-        list_all(beside, "whole")
+        list_versions(beside, draws, "whole")
+    for line in (ROOT / "examples" / "histories" / "past").read_text().splitlines():
+        name, version = line.split()[:2]
+        beside.run("cat", name + ".egw", "--at", version)
     for path in sorted((ROOT / "examples").rglob("*.script")):
         beside.run("new", path.stem)
         beside.run("edit", path.stem, "--agent", "ada", input=path.read_bytes())
-        list_all(beside, path.stem)
+        list_versions(beside, draws, path.stem)
     beside.clear()
     return len(paths)
+
+
+# Versions of a file
+
+
+NO_VERSIONS = ["", ",", "a", "a:", ":0", ":", "a:0,", ",a:0", "a:0,,a:1", "a:0, a:1", "a:0 ,a:1", " a:0", "a:0 ", "a:0\n", "\na:0", "root\n", "root ", "root,", ",root",
+               "root,root", "root,a:0", "a:0,root", "Root", "ROOT", "roots", "root:", "a:00", "a:01", "a:+1", "a:-0", "a:-1", "a: 0", "a :0", "a:4294967296", "a:9999999999",
+               "a:18446744073709551616", "a:" + "9" * 5000, "a:0x0", "a:1e0", "a:0.0", "a:1_0", "a:0:0", "a::0", "-a:0", "-", "a.b:0", "ä:0", "a:٣", "a:0;a:1", "a:0a:1", "0",
+               "a" * 33 + ":0", "a:0\r", "a:0\t", "a:0,a:1,a:", "b:0,a"]
+
+
+def concurrent(draws, lines):
+    """Two ids of what `log` prints, neither of them an ancestor of the other; none where there are no two."""
+    ids, known = [], []
+    for line in lines:
+        id, parents = line.split(" ")[:2]
+        above = 0
+        for parent in parents.split(",") if parents != "root" else ():
+            place = ids.index(parent)
+            above |= known[place] | 1 << place
+        ids.append(id)
+        known.append(above)
+    start = draws.below(len(ids))
+    for one in [*range(start, len(ids)), *range(start)]:
+        apart = [other for other in range(len(ids)) if other != one and not (known[one] >> other | known[other] >> one) & 1]
+        if apart:
+            return [ids[one], ids[draws.one_of(apart)]]
+    return []
+
+
+def list_versions(beside, draws, name):
+    """All that tells of a file, and the texts of several of its versions. It need not be a good file."""
+    answers = list_all(beside, name)
+    heads, lines = (answer[1].decode().split("\n")[:-1] for answer in answers[1:3])
+    ids = [line.split(" ")[0] for line in lines] or ["a:0"]
+    old, several = draws.one_of(ids), [draws.one_of(ids) for _ in range(2 + draws.below(3))]
+    agent = old.split(":")[0]
+    unknown = [f"{agent}:{len(ids) + draws.below(3)}", f"{agent}:4294967295", f"nobody:{draws.below(10)}"]
+
+    def at(*ids):
+        version = ",".join(ids) or "root"
+        option = draws.one_of([["--at", version], ["--at=" + version]])
+        return beside.run("cat", *draws.one_of([option + [name], [name] + option, option + ["--", name]]))
+
+    # Two versions that know the same events: all of them; an id that stands twice; ids in two orders; an id and an ancestor of it.
+    same = [(answers[0], at(*heads)), (answers[0], at(*reversed(heads), *several)), (at(old), at(old, old)), (at(*several), at(*reversed(several))), (at(old), at(f"{agent}:0", old))]
+    apart = concurrent(draws, lines) if lines else []
+    if apart:
+        same.append((at(*apart), at(*reversed(apart), apart[0])))
+    if lines and any(one != other for one, other in same):
+        beside.wrong(f"two versions of {name} that know the same events have two texts")
+    at()
+    at(draws.one_of(unknown))
+    at(old, draws.one_of(unknown), draws.one_of(unknown))
+    at(draws.one_of(unknown), old)
+    at(draws.one_of(NO_VERSIONS))
+    return answers
+
+
+def versions(beside, draws):
+    """Words that are a version or nearly one."""
+    beside.part = "versions"
+    beside.run("new", "F")
+    beside.run("edit", "F", "--agent", "a", input=b"ins 0 abc\ndel 1 1")
+    beside.run("edit", "F", "--agent", "root", input=b"ins 2 d")
+    beside.file("bad", b"")
+    good = ["root", "a:0", "a:1", "a:2", "a:3", "a:4", "a:0,a:3", "a:3,a:0", "a:2,a:2", "root:0", "root:1", "root:0,a:0", "a:3,root:0", "a:1,root:1,a:9", "b:0,a:9,a:0", "A:0",
+            "a:4294967295", "a" * 32 + ":0", "0:0", "_-:0", "root-:0", "a:10", "a:1000000000", ",".join(["a:0"] * 20), ",".join(["a:0"] * 30000), ",".join(["a:0"] * 30000) + ",b:7"]
+    tried = good + NO_VERSIONS
+    for _ in range(200):
+        version = list(draws.one_of(good[:-3]))
+        place = draws.below(len(version))
+        version[place : place + draws.below(2)] = draws.one_of("a:,-01r 9=")
+        tried.append("".join(version))
+    for version in tried:
+        for line in (["F", "--at", version], ["--at=" + version, "F"]):
+            beside.run("cat", *line)
+        for file in ("nowhere", "bad"):
+            beside.run("cat", file, "--at", version)
+    beside.clear()
+    return len(tried)
 
 
 # Histories of several agents who edit apart and merge
@@ -94,8 +178,10 @@ def people(beside, draws):
             beside.run("merge", "whole", agent)
         texts.add(beside.run("cat", "whole"))
         beside.run("check", "whole")
+        beside.run("replay", "whole")
     if len(texts) != 1:
         beside.wrong("the orders of merging came to several texts")
+    list_versions(beside, draws, "whole")
     beside.run("merge", agents[0], "whole")
     beside.run("merge", "whole", agents[0])
     beside.clear()
@@ -131,19 +217,24 @@ def draw_graph(draws, size):
 
 
 def graphs(beside, draws):
-    """Two parts of one graph, merged both ways."""
+    """Two parts of one graph, each the version of a few ids, merged both ways."""
     events = draw_graph(draws, 3 + draws.below(22))
     # A part is a set of events with all their ancestors, in the same order.
     history = History()
     for event in events:
         history.append(event)
-    parts = []
+    parts, asked = [], []
     for _ in range(2):
-        known = history.version({draws.one_of(events).id for _ in range(3)})
+        ids = [draws.one_of(events).id for _ in range(3)]
+        known = history.version(set(ids))
         parts.append([event for position, event in enumerate(events) if known >> position & 1])
+        asked.append(",".join(f"{id.agent.decode()}:{id.seq}" for id in ids))
     beside.files(graph=file_of(events), one=file_of(parts[0]), other=file_of(parts[1]))
-    for name in ("graph", "one", "other"):
-        list_all(beside, name)
+    list_versions(beside, draws, "graph")
+    for name, version in zip(("one", "other"), asked):
+        answers = list_versions(beside, draws, name)
+        if beside.run("cat", "graph", "--at", version) != answers[0]:
+            beside.wrong(f"the version {version} has another text than a file of its events alone")
     beside.copy("one", "kept")
     beside.run("merge", "one", "other")
     beside.run("merge", "other", "kept")
@@ -206,7 +297,7 @@ def damaged(beside, draws):
         changed = bad_events(draws, events)
         data = good if changed is None else file_of(changed)
     beside.files(good=good, bad=bytes(data))
-    list_all(beside, "bad")
+    list_versions(beside, draws, "bad")
     beside.run("edit", "bad", "--agent", "a", input=b"ins 0 x")
     beside.run("merge", "good", "bad")
     beside.run("merge", "bad", "good")
@@ -220,7 +311,7 @@ def record(agent, seq, parents, kind, at, ch=None):
     return spelled[0] + bytes([len(parents)]) + spelled[1] + bytes([kind]) + spelled[2]
 
 
-def by_hand(beside):
+def by_hand(beside, draws):
     """A file for each fault of a field, and the rows of docs/FORMATS.md."""
     beside.part = "files by hand"
 
@@ -271,30 +362,54 @@ def by_hand(beside):
     for number, data in enumerate(files):
         name = f"file{number}"
         beside.file(name, with_digest(data))
-        list_all(beside, name)
+        list_versions(beside, draws, name)
         beside.clear()
     good = with_digest(content([b"a"], [first, second]))
     for data in (b"", good[:47], good[:48], good[:-1], good + b"\0", b"EGWFILF" + good[7:], b"EGWFILE\x02" + good[8:]):
         beside.file("bytes", data)
-        list_all(beside, "bytes")
+        list_versions(beside, draws, "bytes")
     beside.clear()
-    return len(files) + 7 + page_rows(beside)
+    return len(files) + 7 + page_rows(beside, draws)
 
 
-def page_rows(beside):
-    """The rows of the page: what each says of the text and the cuts."""
+def page_rows(beside, draws):
+    """The rows of the page: what each says of the text and the cuts, and of versions and changes."""
     page = (ROOT / "docs" / "FORMATS.md").read_text()
     rows = re.findall(r"^\| (`.*) \| `(\w+)` \| ([0-9, ]+) \|$", page, re.MULTILINE)
     if not rows:
         beside.wrong("docs/FORMATS.md has no rows")
+    histories = []
     for lines, text, cuts in rows:
         events = [event_of(line) for line in re.findall(r"`([^`]*)`", lines)]
         beside.file("row", file_of(events))
-        answers = list_all(beside, "row")
+        answers = list_versions(beside, draws, "row")
         if answers[0] != (0, text.encode()) or f"cuts {len(cuts.split(', '))}\n" not in answers[3][1].decode():
             beside.wrong(f"the row with the text {text} of docs/FORMATS.md is another")
+        histories.append(events)
+    told = re.findall(r"^\| .* \| (`.*(?: `\w+`| nothing)) \| (`ins .*`) \|$", page, re.MULTILINE)
+    if len(told) != len(TOLD):
+        beside.wrong(f"docs/FORMATS.md has {len(told)} rows of versions and changes, not {len(TOLD)}")
+    for (texts, changes), (place, *orders) in zip(told, TOLD):
+        page_versions(beside, histories[place - 1], texts, changes, orders)
     beside.clear()
     return len(rows)
+
+
+# Which of the histories of the page each row of versions and changes is about, and the orders of its agents, one for each list of changes.
+TOLD = [(2, b"ab", b"ba"), (5, b"abcd"), (6, b"abc", b"acb")]
+
+
+def page_versions(beside, events, texts, changes, orders):
+    """One row of the page of versions and changes."""
+    beside.file("row", file_of(events))
+    for version, text in re.findall(r"`([^`]*)` (?:`([^`]*)`|nothing)", texts):
+        if beside.run("cat", "row", "--at", version) != (0, text.encode()):
+            beside.wrong(f"the text of {version} in docs/FORMATS.md is another")
+    for told, order in itertools.zip_longest(changes.split("; with "), orders):
+        beside.file("row", file_of(sorted(events, key=lambda event: order.index(event.id.agent))))
+        wanted = re.findall(r"`(ins [^`]*|del [^`]*|nothing)`", told)
+        if beside.run("replay", "row")[1].decode().splitlines()[-len(wanted) :] != wanted:
+            beside.wrong(f"the changes {told} of docs/FORMATS.md are others")
 
 
 def event_of(line):
@@ -344,7 +459,7 @@ def scripts(beside, draws):
 
 
 WORDS = ["new", "edit", "cat", "heads", "log", "check", "merge", "replay", "F", "F", "F", "G", "--agent", "--agent", "--agent=a", "--agent=", "--agent==a", "a",
-         "-", "--", "--", "", "-h", "--help", "help", "-V", "--version", "--at", "-F", "--agents", "--agen", "-agent", "---", "--=", "a" * 32, "a" * 33, "-1", "ä", "-ä", "=", "a b"]
+         "-", "--", "--", "", "-h", "--help", "help", "-V", "--version", "--at", "--at", "--at=", "--at=root", "--at=a:1", "root", "a:0", "a:2,a:0", "b:0", "-F", "--agents", "--agen", "-agent", "---", "--=", "a" * 32, "a" * 33, "-1", "ä", "-ä", "=", "a b"]
 TAKEN = [["edit", "F", "--agent", "a"], ["edit", "--agent", "a", "F"], ["edit", "--agent=a", "--", "F"], ["edit", "F", "--agent=a"], ["edit", "--agent", "a", "--", "-F"],
          ["edit", "F", "--", "--agent", "a"], ["edit", "F", "--agent", "--", "a"], ["edit", "F", "--agent", "a", "--agent", "a"], ["edit", "F", "--agent", "a", "--agent=a"],
          ["edit", "--agent", "--agent", "a", "F"], ["edit", "F", "--agent", "-"], ["edit", "F", "--agent", ""], ["edit", "F", "--agent", "a", "--"], ["edit", "--", "F"],
@@ -353,6 +468,20 @@ TAKEN = [["edit", "F", "--agent", "a"], ["edit", "--agent", "a", "F"], ["edit", 
          ["help"], ["help", "cat"], ["cat", "help"], ["cat", "--help"], ["cat", "F", "--help"], ["--help"], ["-h"], ["cat", "F", "-h"], ["edit", "F", "--agent", "-h"],
          ["edit", "F", "--agent", "a" * 32], ["edit", "F", "--agent", "a" * 33], ["edit", "F", "--agent", "a.b"], ["edit", "F", "--agent", "_-"], ["new", "G"], ["new", "F"],
          ["Cat", "F"], ["cat ", "F"], ["heads", "G"], ["log", "G"], ["check", "G"], ["merge", "F", "nothing"], ["merge", "nothing", "F"], ["cat", "F", "--at", "a:0"], ["replay", "F"],
+         ["cat", "F", "--at", "root"], ["cat", "--at", "root", "F"], ["cat", "F", "--at=a:0"], ["cat", "--at=a:0", "F"], ["cat", "--at=a:0", "--", "F"], ["cat", "--at", "a:0", "--", "F"],
+         ["cat", "F", "--at", "a:0", "--"], ["cat", "--at", "a:0", "--", "-F"], ["cat", "--at", "a:0", "-F"], ["cat", "F", "--", "--at", "a:0"], ["cat", "F", "--", "--at=a:0"],
+         ["cat", "--", "F", "--at", "a:0"], ["cat", "--", "--at"], ["cat", "--", "--at=a:0"], ["cat", "--at", "--", "F"], ["cat", "F", "--at"], ["cat", "--at", "F"], ["cat", "--at"],
+         ["cat", "F", "--at="], ["cat", "F", "--at", ""], ["cat", "F", "--at", "--", "a:0"], ["cat", "F", "--at", "--"], ["cat", "F", "--at", "-"], ["cat", "F", "--at", "-a:0"],
+         ["cat", "F", "--at=-a:0"], ["cat", "F", "--at==a:0"], ["cat", "F", "--at=a:0="], ["cat", "F", "--at", "=a:0"], ["cat", "F", "--at", "a:0", "--at", "a:0"],
+         ["cat", "F", "--at=a:0", "--at", "a:0"], ["cat", "F", "--at=a:0", "--at=a:0"], ["cat", "F", "--at", "--at", "a:0"], ["cat", "F", "--at", "--at=a:0"], ["cat", "F", "--at", "x", "--at", "a:0"],
+         ["cat", "F", "--at a:0"], ["cat", "F", "--at:a:0"], ["cat", "F", "-at", "a:0"], ["cat", "F", "-at=a:0"], ["cat", "F", "--a", "a:0"], ["cat", "F", "--att", "a:0"], ["cat", "F", "--AT", "a:0"],
+         ["cat", "F", "--agent", "a"], ["cat", "F", "--agent=a"], ["cat", "F", "--at", "a:0", "--agent", "a"], ["edit", "F", "--agent", "a", "--at", "a:0"], ["edit", "F", "--at", "a:0"],
+         ["heads", "F", "--at", "a:0"], ["log", "F", "--at", "a:0"], ["check", "F", "--at", "a:0"], ["replay", "F", "--at", "a:0"], ["replay", "F", "--at=a:0"], ["merge", "F", "G", "--at", "a:0"],
+         ["new", "H", "--at", "root"], ["cat", "F", "G", "--at", "a:0"], ["cat", "--at", "a:0"], ["cat", "--at=a:0"], ["cat", "nowhere", "--at", "a:0"], ["cat", "nowhere", "--at", "x"],
+         ["cat", "nowhere", "--at", "b:0"], ["cat", "", "--at", "a:0"], ["cat", "-", "--at", "a:0"], ["cat", "F", "--at", "a:0", "--help"], ["cat", "F", "--at", "--help"], ["cat", "F", "--at", "-h"],
+         ["cat", "F", "--at", "help"], ["cat", "F", b"--at=\xff"], ["cat", "F", "--at", b"a:0\xff"], ["cat", b"\xff", "--at", "a:0"], ["--at", "a:0", "cat", "F"],
+         ["replay"], ["replay", "F", "G"], ["replay", "--", "F"], ["replay", "F", "--"], ["replay", "--", "-F"], ["replay", "-F"], ["replay", "G"], ["replay", "nowhere"], ["replay", ""], ["replay", "-"],
+         ["replay", "F", "--agent", "a"], ["replay", "--agent=a", "F"], ["replay", "F", "--help"], ["Replay", "F"], ["replay ", "F"], ["replays", "F"], [b"replay", b"\xff"], ["help", "replay"],
          ["ask", "F"], ["serve", "F"], ["net"], ["make", "--seed", "1", "--count", "1"], [b"cat", b"\xff"], [b"\xff", b"F"]]
 
 
@@ -363,6 +492,7 @@ def words(beside, draws):
     beside.copy("F", "kept")
     lines = TAKEN + [[draws.one_of(WORDS[:8])] + [draws.one_of(WORDS) for _ in range(draws.below(6))] for _ in range(400)]
     lines += [["edit"] + [draws.one_of(["F", "--agent", "--agent=a", "a", "--", "-", "-x", ""]) for _ in range(1 + draws.below(5))] for _ in range(200)]
+    lines += [["cat"] + [draws.one_of(["F", "F", "--at", "--at=a:1", "a:0", "root", "b:0", "--", "-", "-x", ""]) for _ in range(1 + draws.below(5))] for _ in range(200)]
     for line in lines:
         beside.run(*line, input=b"ins 0 x")
     beside.clear()
@@ -380,6 +510,8 @@ def limits(beside):
         beside.file("heads", file_of(events))
         for script in (b"ins 0 x", b"ins 0 ", b"del 0 1", b"del 0 0", b"ins 99 x", b"ins 99 "):
             beside.run("edit", "heads", "--agent", "a", input=script)
+        beside.run("replay", "heads")
+        beside.run("cat", "heads", "--at", ",".join(f"p{n}:0" for n in reversed(range(agents))))
     beside.run("edit", "F", "--agent", "a", input=b"\n" * MOST_INPUT)
     beside.run("edit", "F", "--agent", "a", input=b"\n" * (MOST_INPUT + 1))
     beside.run("edit", "F", "--agent", "a", input=b"ins 0 " + b"x" * (MOST_EVENTS + 1))
@@ -388,6 +520,9 @@ def limits(beside):
             with open(folder / "large", "wb") as file:
                 file.truncate(size)
         beside.run("cat", "large")
+        beside.run("cat", "large", "--at", "a:0")
+        beside.run("cat", "large", "--at", "a:00")
+        beside.run("replay", "large")
         beside.run("new", "large")
     beside.clear()
 
@@ -403,6 +538,9 @@ def refusals(beside):
         (folder / "loop").symlink_to("loop")
     for name in ("folder", "F/x", "folder/x", "nowhere/x", "loop", "dangling", "link", "n" * 250, "n" * 255, "n" * 256, "."):
         beside.run("cat", name)
+        beside.run("cat", name, "--at", "a:0")
+        beside.run("cat", name, "--at", "b:0")
+        beside.run("replay", name)
         beside.run("edit", name, "--agent", "a", input=b"ins 0 x")
         beside.run("merge", name, "F")
         beside.run("merge", "F", name)
@@ -411,13 +549,20 @@ def refusals(beside):
     beside.run("edit", "F", "--agent", "a", input=b"ins 0 y")
     with open("/dev/full", "wb") as full:
         beside.run("cat", "F", out=full)
+        for version in ("a:2", "root", "b:0", "b"):
+            beside.run("cat", "F", "--at", version, out=full)
+        beside.run("replay", "F", out=full)
         beside.run("new", "unseen", out=full)
+        beside.run("replay", "unseen", out=full)
+        beside.run("cat", "F", "--at", "b:0", err=full)
         beside.run("edit", "F", "--agent", "a", input=b"ins 0 z", out=full)
         beside.run("cat", "nowhere", err=full)
         beside.run("cat", err=full)
     beside.run("edit", "F", "--agent", "a", input=FOLDER)
     beside.run("edit", "nowhere", "--agent", "a", input=FOLDER)
     beside.run("cat", "F", input=FOLDER)
+    beside.run("cat", "F", "--at", "a:0", input=FOLDER)
+    beside.run("replay", "F", input=FOLDER)
     beside.clear()
 
 
@@ -426,20 +571,23 @@ WANTED = [(0, "")] + [(2, USAGE.decode().strip())]
 WANTED += [(3, "egw: no file NAME"), (3, "egw: file NAME is there"), (4, "egw: F: short, N bytes"), (4, "egw: F: not an event file"), (4, "egw: F: version N"), (4, "egw: F: digest N, found N")]
 WANTED += [(4, f"egw: F: byte N: {fault}") for fault in ("cut", "bad name", "name twice", "agent number", "id twice", "parent count", "parent position", "parent order", "kind", "scalar", "trailing bytes", "unused agent")]
 WANTED += [(4, f"egw: F: event N: {fault}") for fault in ("not reduced", "skipped", "out of range, length N")]
-WANTED += [(5, "egw: line N: unreadable"), (5, "egw: line N: out of range, length N"), (5, "egw: clash NAME")]
+WANTED += [(5, "egw: line N: unreadable"), (5, "egw: line N: out of range, length N"), (5, "egw: clash NAME"), (5, "egw: unknown NAME")]
 WANTED += [(6, f"egw: {what} failed") for what in ("shelf", "source", "sink")]
 WANTED += [(7, "egw: F: more than N bytes"), (7, "egw: F: more than N events"), (7, "egw: input: more than N bytes"), (7, "egw: more than N events"), (7, "egw: N heads, more than N")]
+# And each status that a command may come to, but for memory.
+STATUSES = {"cat --at": (0, 2, 3, 4, 5, 6, 7), "replay": (0, 2, 3, 4, 6, 7)}
 
 
 def main():
     beside = Beside()
     draws = Draws(SEED)
-    files = examples(beside)
+    files = examples(beside, draws)
     beside.fork_reader()
     for part, make, count in (("people", people, 20), ("graphs", graphs, 40), ("damaged files", damaged, 160)):
         beside.part = part
         files += sum(make(beside, draws) for _ in range(count))
-    files += by_hand(beside)
+    files += by_hand(beside, draws)
+    asked = versions(beside, draws)
     scripts_run = scripts(beside, draws)
     lines = words(beside, draws)
     limits(beside)
@@ -448,8 +596,14 @@ def main():
     for wanted in WANTED:
         if not beside.texts[wanted]:
             beside.wrong(f"never seen: status {wanted[0]} with the text {wanted[1]!r}")
+    for command, statuses in STATUSES.items():
+        for status in statuses:
+            if not beside.statuses[command, status]:
+                beside.wrong(f"never seen: status {status} of {command}")
     parts = ", ".join(f"{part} {count}" for part, count in beside.parts.items())
-    print(f"the second reader: {sum(beside.parts.values())} runs compared ({parts}), over {files} files, {scripts_run} scripts and {lines} lines of words")
+    print(f"the second reader: {sum(beside.parts.values())} runs compared ({parts}), over {files} files, {asked} words for a version, {scripts_run} scripts and {lines} lines of words")
+    told = ", ".join(f"{command} {sum(beside.statuses[command, status] for status in statuses)}" for command, statuses in STATUSES.items())
+    print(f"the second reader: of these {told}")
     if beside.failing:
         print(f"the second reader: {beside.failing} comparisons fail")
     return 1 if beside.failing else 0

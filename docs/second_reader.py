@@ -1,7 +1,8 @@
 #!/usr/bin/env python3
-"""A second implementation of `egw`, written from docs/FORMATS.md alone: new, edit, cat, heads, log, check and merge.
+"""A second implementation of `egw`, written from docs/FORMATS.md alone.
 
-Its author had never seen the program. The sections follow those of the page. Python 3, nothing else.
+It has new, edit, cat, heads, log, replay, check and merge. Its authors had never seen the program.
+The sections follow those of the page. Python 3, nothing else.
 """
 
 import bisect
@@ -16,12 +17,14 @@ import struct
 import sys
 
 MAX_EVENTS, MAX_FILE, MAX_INPUT, MAX_PARENTS = 1000000, 115000048, 16777216, 16
+MAX_NUMBER = 4294967295
 ESCAPE = re.compile(r'\\(.?)', re.DOTALL)
 PLAIN = {'n': '\n', '\\': '\\'}
 INSERT, DELETE, LEFT, RIGHT = 0, 1, 0, 1
 NAME = re.compile('[a-zA-Z0-9_][a-zA-Z0-9_-]{0,31}')
-LINE = re.compile(r'ins (NUMBER) (.*)|del (NUMBER) (NUMBER)'.replace('NUMBER', '0|[1-9][0-9]{0,9}'),
-                  re.DOTALL)
+NUMBER = '(0|[1-9][0-9]{0,9})'
+IDENT = re.compile('(%s):%s' % (NAME.pattern, NUMBER))
+LINE = re.compile('ins %s (.*)|del %s %s' % (NUMBER, NUMBER, NUMBER), re.DOTALL)
 USAGE = 'usage: egw ' + '\n       egw '.join((
     'new FILE', 'edit FILE --agent NAME', 'cat FILE [--at VERSION]', 'heads FILE', 'log FILE',
     'replay FILE', 'check FILE', 'merge FILE OTHER', 'ask FILE', 'serve FILE', 'net',
@@ -40,6 +43,15 @@ class Refusal(Exception):
 def spell(ident):
     """An id as it is written."""
     return '%s:%d' % ident
+
+
+def spell_operation(kind, index, char):
+    """An operation or a change as it is written; a change without an index is nothing."""
+    if index is None:
+        return 'nothing'
+    if kind == DELETE:
+        return 'del %d' % index
+    return 'ins %d %s' % (index, {'\n': '\\n', '\\': '\\\\'}.get(char, char))
 
 
 # Events, histories, texts
@@ -89,25 +101,29 @@ class History:
     In a good history an agent's events are a chain, so a set of ancestors
     is told by a count for each agent: clocks[p] has those of the event at
     position p, with that event itself. reach[p] is the first position that
-    isn't one of its ancestors. shown has the nodes of the text, or None.
+    isn't one of its ancestors. touched[p] is the node that it inserts or
+    deletes. shown has the nodes of the text, or None.
     """
 
     def __init__(self, file):
         self.file = file
         self.events, self.where, self.by_agent, self.heads = [], {}, {}, set()
-        self.clocks, self.reach = [], []
+        self.clocks, self.reach, self.touched = [], [], []
         self.root, self.shown = Node(None, ''), []
+
+    def walk(self):
+        """All nodes but the root, which comes first, in the order of the walk."""
+        node = self.root.after
+        while node:
+            yield node
+            node = node.after
 
     def visible(self, known=None):
         """The nodes that are visible to one who knows these events; None knows all."""
         if known is None and self.shown is not None:
             return self.shown
-        seen, node = [], self.root.after
-        while node:
-            if knows(known, node.id) and not any(knows(known, by) for by in node.deleters):
-                seen.append(node)
-            node = node.after
-        return seen
+        return [node for node in self.walk()
+                if knows(known, node.id) and not any(knows(known, by) for by in node.deleters)]
 
     def not_good(self, words):
         """The refusal for the event that comes next."""
@@ -138,6 +154,11 @@ class History:
         for parent in event.parents:
             if sum(knows(clock, parent) for clock in clocks) > 1:
                 raise self.not_good('not reduced')
+        return self.version(event.parents)
+
+    def version(self, idents):
+        """How many events of each agent a version of these ids knows."""
+        clocks = [self.clocks[self.where[ident]] for ident in idents]
         known = dict(clocks[0]) if clocks else {}
         for clock in clocks[1:]:
             for name, count in clock.items():
@@ -150,7 +171,8 @@ class History:
         if event.index > len(seen) - event.kind:
             raise self.not_good('out of range, length %d' % len(seen))
         if event.kind == DELETE:
-            seen.pop(event.index).deleters.append(event.id)
+            node = seen.pop(event.index)
+            node.deleters.append(event.id)
         else:
             parent, side = seen[event.index - 1] if event.index else self.root, RIGHT
             if any(knows(known, child.id) for child in parent.children[RIGHT]):
@@ -160,7 +182,23 @@ class History:
             node = Node(event.id, event.char)
             node.hang(parent, side)
             seen.insert(event.index, node)
+        self.touched.append(node)
         self.shown = seen if known is None else None
+
+    def changes(self):
+        """What each event does to the text of all before it: kind, index or None, char."""
+        places = {node: place for place, node in enumerate(self.walk())}
+        text = []  # the places of its nodes, ascending: no node moves in the walk
+        for event, node in zip(self.events, self.touched):
+            place = places[node]
+            index = bisect.bisect_left(text, place)
+            if event.kind == INSERT:
+                text.insert(index, place)
+            elif place in text[index:index + 1]:
+                del text[index]
+            else:
+                index = None
+            yield event.kind, index, event.char
 
     def cuts(self):
         """The critical cuts, from the greatest to the least."""
@@ -291,7 +329,7 @@ def parse_line(line):
         text = words and ESCAPE.sub(lambda found: PLAIN[found[1]], words[2] or '')
     except (UnicodeDecodeError, KeyError):
         return None
-    if not words or any(int(number or 0) >= 1 << 32 for number in words.group(1, 3, 4)):
+    if not words or any(int(number or 0) > MAX_NUMBER for number in words.group(1, 3, 4)):
         return None
     if words[1] is None:
         return DELETE, int(words[3]), int(words[4]), ''
@@ -388,10 +426,10 @@ def store(file, events):
             raise
 
 
-# Commands: each takes the files and the agents, and gives what is printed
+# Commands: each takes the files and the values of its option, and gives what is printed
 
 
-def run_new(files, _agents):
+def run_new(files, _values):
     """Make the file of no events."""
     with using('shelf'), contextlib.suppress(FileNotFoundError), open(files[0].encode(), 'rb', buffering=0) as there:
         os.read(there.fileno(), 1)
@@ -400,42 +438,51 @@ def run_new(files, _agents):
     return ''
 
 
-def run_edit(files, agents):
+def run_edit(files, values):
     """Do the edits of a script."""
     history = load(files[0])
     before = len(history.events)
     with using('source'):
         script = read_all(0, MAX_INPUT, 'input')
     for number, edit in parse_script(script):
-        do_edit(history, agents[0], number, edit)
+        do_edit(history, values[0], number, edit)
     if len(history.events) > before:
         store(files[0], history.events)
     return 'made %d\n' % (len(history.events) - before)
 
 
-def run_cat(files, _agents):
-    """Print the text."""
-    return ''.join(node.char for node in load(files[0]).visible())
+def run_cat(files, values):
+    """Print the text, or that of a version."""
+    history, known = load(files[0]), None
+    for idents in values:
+        for ident in idents:
+            if ident not in history.where:
+                raise Refusal(5, 'unknown %s' % spell(ident))
+        known = history.version(idents)
+    return ''.join(node.char for node in history.visible(known))
 
 
-def run_heads(files, _agents):
+def run_heads(files, _values):
     """Print the heads."""
     return ''.join(spell(head) + '\n' for head in sorted(load(files[0]).heads))
 
 
-def run_log(files, _agents):
+def run_log(files, _values):
     """Print the events."""
     lines = []
     for event in load(files[0]).events:
-        words = [spell(event.id), ','.join(map(spell, event.parents)) or 'root']
-        words += ['del' if event.kind == DELETE else 'ins', str(event.index)]
-        if event.kind == INSERT:
-            words.append({'\n': '\\n', '\\': '\\\\'}.get(event.char, event.char))
-        lines.append(' '.join(words) + '\n')
+        parents = ','.join(map(spell, event.parents)) or 'root'
+        operation = spell_operation(event.kind, event.index, event.char)
+        lines.append('%s %s %s\n' % (spell(event.id), parents, operation))
     return ''.join(lines)
 
 
-def run_check(files, _agents):
+def run_replay(files, _values):
+    """Print the changes."""
+    return ''.join(spell_operation(*change) + '\n' for change in load(files[0]).changes())
+
+
+def run_check(files, _values):
     """Print the numbers of a history."""
     history = load(files[0])
     counted = {'events': history.events, 'agents': history.by_agent, 'heads': history.heads,
@@ -443,7 +490,7 @@ def run_check(files, _agents):
     return ''.join('%s %d\n' % (word, len(things)) for word, things in counted.items())
 
 
-def run_merge(files, _agents):
+def run_merge(files, _values):
     """Add the events of the other file that the first one lacks."""
     history, other = load(files[0]), load(files[1])
     before, accepted = len(history.events), []
@@ -462,39 +509,58 @@ def run_merge(files, _agents):
     return 'accepted %d waiting 0 repeats %d refused 0 cut %d\n' % (
         len(accepted), len(other.events) - len(accepted), cut)
 
-# The command, the number of its files, and how often it has --agent.
-COMMANDS = {'new': (run_new, 1, 0), 'edit': (run_edit, 1, 1), 'cat': (run_cat, 1, 0),
-            'heads': (run_heads, 1, 0), 'log': (run_log, 1, 0),
-            'check': (run_check, 1, 0), 'merge': (run_merge, 2, 0)}
+
+def parse_name(word):
+    """A name, or None where it is none."""
+    return word if NAME.fullmatch(word) else None
+
+
+def parse_version(word):
+    """The ids of a version, or None where it is none."""
+    if word == 'root':
+        return []
+    found = [IDENT.fullmatch(ident) for ident in word.split(',')]
+    if not all(found) or any(int(ident[2]) > MAX_NUMBER for ident in found):
+        return None
+    return [(ident[1], int(ident[2])) for ident in found]
+
+
+# The command, the number of its files, its option, how often that has to be there, and what reads its value.
+NO_OPTION = None, 0, None
+COMMANDS = {'new': (run_new, 1, *NO_OPTION), 'edit': (run_edit, 1, '--agent', 1, parse_name),
+            'cat': (run_cat, 1, '--at', 0, parse_version), 'heads': (run_heads, 1, *NO_OPTION),
+            'log': (run_log, 1, *NO_OPTION), 'replay': (run_replay, 1, *NO_OPTION),
+            'check': (run_check, 1, *NO_OPTION), 'merge': (run_merge, 2, *NO_OPTION)}
 
 
 def take(words):
-    """The command, the files and the agents of words that are taken."""
-    files, agents, rest = [], [], iter(words[1:])
+    """The command, the files and the option's values of words that are taken."""
+    if words[0] not in COMMANDS:
+        raise Refusal(2, USAGE)
+    command, count, option, least, parse = COMMANDS[words[0]]
+    files, values, rest = [], [], iter(words[1:])
     for word in rest:
+        name, equals, value = word.partition('=')
         if word == '--':
             files.extend(rest)
-        elif word == '--agent':
-            agents.append(next(rest, '-'))
-        elif word.startswith('--agent='):
-            agents.append(word[len('--agent='):])
+        elif name == option:
+            # A next word that begins with `-` is no name and no version, so it needs no rule of its own.
+            values.append(parse(value if equals else next(rest, '-')))
         elif word.startswith('-') and word != '-':
             raise Refusal(2, USAGE)
         else:
             files.append(word)
-    command, *counts = COMMANDS.get(words[0], (None,))
-    # A value that begins with `-` is no name, so it needs no rule of its own.
-    if [len(files), len(agents)] != counts or not all(map(NAME.fullmatch, agents)):
+    if len(files) != count or not least <= len(values) <= 1 or None in values:
         raise Refusal(2, USAGE)
-    return command, files, agents
+    return command, files, values
 
 
 def main():
     """Run one command; gives the status."""
     try:
         words = [os.fsencode(word).decode('utf-8') for word in sys.argv[1:]]
-        command, files, agents = take(words or [''])
-        text = command(files, agents)
+        command, files, values = take(words or [''])
+        text = command(files, values)
         with using('sink'):
             write_all(1, text.encode('utf-8'))
         return 0
