@@ -114,17 +114,16 @@ fn receive<'a, L: Ledger>(
     name: &'a str,
     limits: &Limits,
     replica: &mut Replica,
-    events: Vec<Event>,
+    other: Replica,
     steps: &mut Steps<L>,
 ) -> Result<Plan<'a>, AllocError>
     requires limits { replica.old.limits ≡ limits.now }
     requires none_waits { replica.old.waiting ≡ [] }
-    requires few { length events.items < 2 ^ 32 }
-    ensures told { IfOk result (λ p. plan_view p ≡ merge_reply name.now limits.now replica.old.held events.items) }
+    ensures told { IfOk result (λ p. plan_view p ≡ merge_reply name.now limits.now replica.old.held other.held) }
     ensures plan { IfOk result IsCommandPlan }
     ensures found { IfOk result (λ p. status_of p ≢ 3) }
 {
-    match replica.receive(events, steps) {
+    match replica.receive(events_of(other)?, steps) {
         Ok(took) => took_plan(alloc, name, limits, replica, &took),
         Err(_) => Err(AllocError),
     }
@@ -154,8 +153,7 @@ fn take_other<'a, H: Shelf, L: Ledger>(
     match open(alloc, other, limits, shelf, steps)? {
         Found::Refused { status, text } => Ok(Plan::Refuses { status, text }),
         Found::Open(other) => {
-            let events = events_of(other)?;
-            let plan = receive(alloc, name, limits, replica, events, steps)?;
+            let plan = receive(alloc, name, limits, replica, other, steps)?;
             Ok(plan)
         }
     }
