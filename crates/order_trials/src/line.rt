@@ -1,122 +1,81 @@
-//! One line: what is done with a tree, and what the tree then answers.
+//! One line: a trial, and what comes of it.
 
 ghost use Rattle.std.specs.Prelude.{◌≡◌, ◌<◌};
 
-use crate::typed::Typed;
+use crate::beside::Beside;
+use crate::typed::{Order, read_order};
+use crate::{cuts, drawn, script, typed};
 use ew_model::NoMem;
 use ew_model::steps::Steps;
 use std::alloc::Global;
 use std::marker::Brand;
 use std::sync::ledger::{Blank, Ledger};
 
-/// Where the next character goes.
-#[derive(Clone, Copy, PartialEq, Eq)]
-enum Order {
-    /// Behind the one before.
-    Behind,
-    /// Behind the first, each time.
-    BehindFirst,
-    /// Before all.
-    Before,
-    /// Behind one that is drawn.
-    Drawn,
+/// What is done with a tree.
+#[derive(Clone, Copy)]
+enum Trial<'a> {
+    /// So many characters are typed.
+    Typed(Order, u32),
+    /// So many full leaves are cut at each place.
+    Cuts(u32),
+    /// These calls are made.
+    Script(&'a str),
+    /// So many calls are drawn, from a seed.
+    Drawn { seed: u64, calls: u32 },
 }
 
 /// What a line comes to.
 pub fn tell(alloc: Global, line: &str) -> Result<String, NoMem> {
-    match read_line(line) {
-        Some((order, times)) => tell_by::<Brand>(alloc, order, times, Blank::new(1)),
+    match read_trial(line) {
+        Some(trial) => tell_by::<Brand>(alloc, trial, Blank::new(1)),
         None => format!(in alloc; "no trial"),
     }
 }
 
-fn read_line(line: &str) -> Option<(Order, u32)> {
-    let (word, times) = line.rsplit_once(' ')?;
-    let order = match word {
-        "behind" => Order::Behind,
-        "behind the first" => Order::BehindFirst,
-        "before" => Order::Before,
-        "drawn" => Order::Drawn,
-        _ => return None,
-    };
-    Some((order, times.parse::<u32>().ok()?))
+fn read_trial(line: &str) -> Option<Trial<'_>> {
+    let (name, rest) = line.split_once(": ")?;
+    match name {
+        "typed" => read_typed(rest),
+        "full leaves" => Some(Trial::Cuts(rest.parse::<u32>().ok()?)),
+        "calls" => Some(Trial::Script(rest)),
+        "drawn" => read_drawn(rest),
+        _ => None,
+    }
+}
+
+fn read_typed(text: &str) -> Option<Trial<'_>> {
+    let (order, times) = text.rsplit_once(' ')?;
+    Some(Trial::Typed(read_order(order)?, times.parse::<u32>().ok()?))
+}
+
+fn read_drawn(text: &str) -> Option<Trial<'_>> {
+    let (calls, seed) = text.split_once(" from ")?;
+    Some(Trial::Drawn {
+        seed: seed.parse::<u64>().ok()?,
+        calls: calls.parse::<u32>().ok()?,
+    })
 }
 
 /// Over a ledger.
-fn tell_by<L: Ledger>(
-    alloc: Global,
-    order: Order,
-    times: u32,
-    blank: Blank,
-) -> Result<String, NoMem>
+fn tell_by<L: Ledger>(alloc: Global, trial: Trial<'_>, blank: Blank) -> Result<String, NoMem>
     requires name { blank.name ≡ L.name }
     requires parts { blank.parts ≡ L.parts }
     requires some { 0 < blank.parts }
 {
-    let mut visits: Steps<L> = Steps::new(blank);
-    let mut typed = Typed::new(alloc)?;
-    put_all(&mut typed, order, times, &mut visits)?;
-    let relabels = typed.relabels();
-    let sound = count_sound(&typed, &mut visits);
-    let told = typed.relabel(&mut visits)?;
-    let again = count_sound(&typed, &mut visits);
-    let (count, depth) = (typed.count(), typed.depth());
-    let noted = if told { "noted" } else { "not noted" };
-    format!(in alloc;
-        "{count} runs, {depth} levels, {relabels} relabels, sound {sound}; new labels {noted}, sound {again}"
-    )
+    let visits: Steps<L> = Steps::new(blank);
+    let mut beside = Beside::new(alloc, visits)?;
+    tell_trial(alloc, &mut beside, trial)
 }
 
-/// Puts so many characters in.
-fn put_all<L: Ledger>(
-    typed: &mut Typed,
-    order: Order,
-    times: u32,
-    visits: &mut Steps<L>,
-) -> Result<(), NoMem> {
-    let mut drawn = 88_172_645u32;
-    for _ in 0..times {
-        drawn = drawn.wrapping_mul(1_664_525).wrapping_add(1_013_904_223);
-        put_one(typed, order, drawn, visits)?;
+fn tell_trial<L: Ledger>(
+    alloc: Global,
+    beside: &mut Beside<L>,
+    trial: Trial<'_>,
+) -> Result<String, NoMem> {
+    match trial {
+        Trial::Typed(order, times) => typed::tell(alloc, beside, order, times),
+        Trial::Cuts(leaves) => cuts::tell(alloc, beside, leaves),
+        Trial::Script(calls) => script::tell(alloc, beside, calls),
+        Trial::Drawn { seed, calls } => drawn::tell(alloc, beside, seed, calls),
     }
-    Ok(())
-}
-
-fn put_one<L: Ledger>(
-    typed: &mut Typed,
-    order: Order,
-    drawn: u32,
-    visits: &mut Steps<L>,
-) -> Result<(), NoMem> {
-    let at = label_for(typed, order, drawn, visits);
-    if typed.put(at, visits)?.is_none() {
-        let _ = typed.relabel(visits)?;
-        let at = label_for(typed, order, drawn, visits);
-        let _ = typed.put(at, visits)?;
-    }
-    Ok(())
-}
-
-/// The label behind which the next character goes.
-fn label_for<L: Ledger>(typed: &Typed, order: Order, drawn: u32, visits: &mut Steps<L>) -> u64 {
-    let count = typed.count();
-    if count == 0 {
-        return 0;
-    }
-    match order {
-        Order::Behind => typed.label_at(count - 1, visits),
-        Order::BehindFirst => typed.label_at(0, visits),
-        Order::Before => 0,
-        Order::Drawn => typed.label_at((drawn >> 8) % count, visits),
-    }
-}
-
-fn count_sound<L: Ledger>(typed: &Typed, visits: &mut Steps<L>) -> u32 {
-    let mut sound = 0u32;
-    for i in 0..typed.count() {
-        if typed.is_sound_at(i, visits) {
-            sound = sound.saturating_add(1);
-        }
-    }
-    sound
 }

@@ -1,7 +1,17 @@
-//! Reads lines as `behind 1000`, does on the counted tree what each asks, and prints what the tree answers.
+//! Reads lines as `typed: behind 1000`, makes what calls of the counted tree each asks for, and of a plain list beside it, and
+//! prints what they answer.
 #![tactic(auto)]
 
+mod beside;
+mod call;
+mod cuts;
+mod drawn;
+mod draws;
+mod guarded;
 mod line;
+mod plain;
+mod script;
+mod tally;
 mod typed;
 
 use std::io;

@@ -1,98 +1,124 @@
-//! A tree of runs of one character each, all visible.
+//! Characters that are typed in an order, each a run of its own.
 
-ghost use Rattle.std.specs.Prelude.{◌≡◌, ℕ, ◌<◌, ◌≤◌, IsOkAnd};
-ghost use Rattle.order_tree.specs.Pairs.{total};
-ghost use Rattle.walker_record.specs.Stretches.{known_of, prepared_of, effect_of};
-
+use crate::beside::Beside;
+use crate::call::{Call, States};
+use crate::draws::Draws;
 use ew_model::NoMem;
-use ew_model::node::Node;
-use ew_model::steps::Steps;
-use order_tree::OrderTree;
 use std::alloc::Global;
 use std::sync::ledger::Ledger;
 use walker_record::Record;
 
-/// The runs are numbered by events in the order in which they were put in.
-#[derive(Drop)]
-pub struct Typed {
-    tree: OrderTree<Record>,
-    count: u32,
-    relabels: u32,
-    ghost known: { total known_of tree.pairs ≡ count },
-    ghost prepared: { total prepared_of tree.pairs ≡ count },
-    ghost effect: { total effect_of tree.pairs ≡ count },
+/// Where the next character goes.
+#[derive(Clone, Copy, Debug, PartialEq, Eq)]
+pub enum Order {
+    /// Behind the one before.
+    Behind,
+    /// Behind the first, each time.
+    BehindFirst,
+    /// Before all.
+    Before,
+    /// Behind and before the one before, in turn.
+    InTurn,
+    /// Anywhere.
+    Drawn,
 }
 
-/// The most runs that are put in.
-const MOST: u32 = 1_000_000;
-
-impl Typed {
-    pub fn new(alloc: Global) -> Result<Typed, NoMem> {
-        Ok(Typed {
-            tree: OrderTree::new(alloc)?,
-            count: 0,
-            relabels: 0,
-        })
+pub fn read_order(word: &str) -> Option<Order> {
+    match word {
+        "behind" => Some(Order::Behind),
+        "behind the first" => Some(Order::BehindFirst),
+        "before" => Some(Order::Before),
+        "in turn" => Some(Order::InTurn),
+        "drawn" => Some(Order::Drawn),
+        _ => None,
     }
+}
 
-    pub fn count(&self) -> u32 {
-        self.count
-    }
+/// What was seen while characters were typed: the numbers of runs at which the tree grew by a level, and of the times when new
+/// labels were given.
+#[derive(Drop)]
+struct Growth {
+    levels: Vec<u32>,
+    relabels: u32,
+}
 
-    pub fn relabels(&self) -> u32 {
-        self.relabels
-    }
+/// Puts so many characters in, gives new labels at the end, and tells what came of it.
+pub fn tell<L: Ledger>(
+    alloc: Global,
+    beside: &mut Beside<L>,
+    order: Order,
+    times: u32,
+) -> Result<String, NoMem> {
+    let grown = type_all(alloc, beside, order, times)?;
+    let sound = beside.count_sound();
+    let new = tell_new_labels(alloc, beside)?;
+    let (levels, relabels) = (grown.levels.as_slice(), grown.relabels);
+    format!(in alloc; "levels from {levels:?}, {relabels} relabels, sound {sound}; {new}")
+}
 
-    pub fn depth(&self) -> u32 {
-        self.tree.depth()
-    }
-
-    /// The label of a character, and 0 where there is no such character.
-    pub fn label_at<L: Ledger>(&self, i: u32, visits: &mut Steps<L>) -> u64 {
-        if i >= self.count {
-            return 0;
-        }
-        self.tree.find_effect(i, visits).0
-    }
-
-    /// Whether the i-th character is found alone in its run, both ways, with i characters before it, and its run is followed by
-    /// that of the next.
-    pub fn is_sound_at<L: Ledger>(&self, i: u32, visits: &mut Steps<L>) -> bool {
-        if i >= self.count {
-            return false;
-        }
-        let (label, place) = self.tree.find_effect(i, visits);
-        let prepared = self.tree.find_prepared(i, visits);
-        let before = self.tree.effect_before(label, visits);
-        let next = self.tree.next_known(label, visits).unwrap_or(0);
-        place == 0
-            && prepared == (label, 0)
-            && before == i
-            && next == self.label_at(i.saturating_add(1), visits)
-    }
-
-    /// Gives new labels. Answers whether each stands beside the old one, in order.
-    pub fn relabel<L: Ledger>(&mut self, visits: &mut Steps<L>) -> Result<bool, NoMem> {
-        let first = self.label_at(0, visits);
-        let given = self.tree.relabel(visits)?;
-        self.relabels = self.relabels.saturating_add(1);
-        let begins = given.first().is_none_or(|pair| pair.0 == first);
-        Ok(begins && given.len() == self.count as usize)
-    }
-
-    /// Puts a character behind a label, if there is room.
-    pub fn put<L: Ledger>(&mut self, at: u64, visits: &mut Steps<L>) -> Result<Option<u64>, NoMem> {
-        if self.count >= MOST || self.tree.runs() >= MOST || !self.tree.has_room(at, visits) {
-            return Ok(None);
-        }
-        let record = Record {
-            from: Node::Event(self.count),
+fn type_all<L: Ledger>(
+    alloc: Global,
+    beside: &mut Beside<L>,
+    order: Order,
+    times: u32,
+) -> Result<Growth, NoMem> {
+    let mut grown = Growth {
+        levels: Vec::new(alloc),
+        relabels: 0,
+    };
+    let mut draws = Draws::new(1);
+    let mut newest = 0;
+    for k in 0..times {
+        let place = place_for(order, k, newest, &mut draws);
+        let depth = beside.depth();
+        let call = Call::InsertAfter {
+            place,
             len: 1,
-            prepared: 1,
-            effect: true,
+            states: States::VISIBLE,
         };
-        let own = self.tree.insert_after(at, record, visits)?;
-        self.count += 1;
-        Ok(Some(own))
+        if beside.call_with_room(call)? {
+            grown.relabels = grown.relabels.saturating_add(1);
+        }
+        newest = place.saturating_add(1);
+        if beside.depth() > depth {
+            grown.levels.push(k.saturating_add(1))?;
+        }
     }
+    Ok(grown)
+}
+
+/// The place behind which the next character goes, where there are so many so far.
+fn place_for(order: Order, count: u32, newest: usize, draws: &mut Draws) -> usize {
+    match order {
+        Order::Behind => newest,
+        Order::BehindFirst => newest.min(1),
+        Order::Before => 0,
+        Order::InTurn if count % 2 == 0 => newest,
+        Order::InTurn => newest.saturating_sub(1),
+        Order::Drawn => draws.below(count.saturating_add(1)) as usize,
+    }
+}
+
+/// Gives new labels, and tells the first and the last, how many are so many steps from 0 as there are runs up to them, and how
+/// many runs are found under them.
+fn tell_new_labels<L: Ledger>(alloc: Global, beside: &mut Beside<L>) -> Result<String, NoMem> {
+    let agrees = beside.call(Call::Relabel)?.agrees;
+    let list = beside.list();
+    let (first, last) = (list.label_at(1), list.label_at(list.len()));
+    let even = count_even(list.as_slice(), first);
+    let sound = beside.count_sound();
+    let given = if agrees { "given" } else { "not given" };
+    format!(in alloc; "labels {first} to {last} {given}, even {even}, sound {sound}")
+}
+
+fn count_even(entries: &[(u64, Record)], step: u64) -> u32 {
+    let mut even = 0u32;
+    let mut wanted = 0u64;
+    for (label, _) in entries {
+        wanted = wanted.wrapping_add(step);
+        if *label == wanted {
+            even = even.saturating_add(1);
+        }
+    }
+    even
 }
