@@ -1,5 +1,6 @@
 //! A call, and its answer. Runs are told by their places in the list, from 1; place 0 stands before all.
 
+use ew_model::node::Node;
 use walker_record::Record;
 
 /// What a run's characters are in both states.
@@ -89,4 +90,12 @@ impl Told {
         answer: Answer::Refused,
         agrees: true,
     };
+}
+
+/// A character by its number, with 0 for the root.
+pub fn number_of(node: Node) -> u32 {
+    match node {
+        Node::Root => 0,
+        Node::Base(i) | Node::Event(i) => i,
+    }
 }

@@ -6,12 +6,13 @@ use ew_model::NoMem;
 use std::alloc::Global;
 use std::sync::ledger::Ledger;
 
-/// How many runs a leaf holds, and half as many.
+/// How many runs a leaf holds.
 const FULL: u32 = 16;
 
+/// How many it keeps when it is cut in two.
 const HALF: u32 = 8;
 
-/// What came of the cuts.
+/// What came of the cuts: the levels before, and in how many trees there was a level more, and all runs in their places.
 #[derive(Clone, Copy, Debug)]
 struct Cuts {
     before: u32,

@@ -33,15 +33,18 @@ fn make_all<L: Ledger>(
     let mut newest = 0;
     for _ in 0..calls {
         let call = draw_call(beside.list(), newest, &mut draws);
-        if let Answer::Place(place) = make(beside, tally, call)? {
-            newest = if matches!(call, Call::NextKnown(_)) {
-                newest
-            } else {
-                place
-            };
-        }
+        let answer = make(beside, tally, call)?;
+        newest = newest_after(newest, call, answer);
     }
     Ok(())
+}
+
+/// The place of the newest run after a call.
+fn newest_after(newest: usize, call: Call, answer: Answer) -> usize {
+    match (call, answer) {
+        (Call::InsertAfter { .. } | Call::Split { .. }, Answer::Place(place)) => place,
+        _ => newest,
+    }
 }
 
 /// Makes a call. Where no label is free for it, gives new ones, and makes it again.

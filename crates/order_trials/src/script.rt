@@ -1,10 +1,9 @@
 //! Calls that are written out, as `insert 0 3 1 in, effect 2`, and their answers.
 
 use crate::beside::Beside;
-use crate::call::{Answer, Call, Spot, States, Told};
+use crate::call::{Answer, Call, Spot, States, Told, number_of};
 use crate::plain::Plain;
 use ew_model::NoMem;
-use ew_model::node::Node;
 use std::alloc::Global;
 use std::fmt::Write;
 use std::sync::ledger::Ledger;
@@ -60,18 +59,11 @@ fn tell_runs(alloc: Global, list: &Plain) -> Result<String, NoMem> {
     Ok(told)
 }
 
-/// A run as its first character's number, its length and its states: `4+2 1 in`.
+/// A run as its first character's number, its length and its states: `4+2/1/in`.
 fn tell_run(alloc: Global, run: &Record) -> Result<String, NoMem> {
     let (first, len, prepared) = (number_of(run.from), run.len, run.prepared);
     let text = if run.effect { "in" } else { "out" };
     format!(in alloc; "{first}+{len}/{prepared}/{text}")
-}
-
-pub fn number_of(node: Node) -> u32 {
-    match node {
-        Node::Root => 0,
-        Node::Base(i) | Node::Event(i) => i,
-    }
 }
 
 fn tell_answer(alloc: Global, answer: Answer) -> Result<String, NoMem> {

@@ -1,7 +1,6 @@
 //! How often each call was made, and how often the list agreed.
 
-use crate::call::{Answer, Call, Told};
-use crate::script::number_of;
+use crate::call::{Answer, Call, Told, number_of};
 use std::fmt;
 use walker_record::Record;
 
