@@ -81,4 +81,4 @@ module _ (now : List Event) (cut : ℕ) (ids : List Id) (events : List BareEvent
       let above : parents_at positions cut ≡ frontier_of (take cut positions) = parents_are_heads positions cut good low critical_at (omega (arith, more, long)) (reduced_there now cut kept.admitted more) in
       subst (λ (xs : List Id). IsKeptOf (take cut now) xs new_events new_heads new_cuts) (sym ids_are)
       (subst (λ (es : List BareEvent). IsKeptOf (take cut now) (take cut ids) es new_heads new_cuts) (sym events_are)
-      (front_kept now cut kept.admitted reach ids events new_heads new_cuts kept.ids_are kept.events_are (heads_are ∙ above ∙ ap frontier_of (sym front)) (cuts_are ∙ ap kept_for (sym front))))
+      (front_kept now cut kept.admitted reach kept.sound ids events new_heads new_cuts kept.ids_are kept.events_are (heads_are ∙ above ∙ ap frontier_of (sym front)) (cuts_are ∙ ap kept_for (sym front))))

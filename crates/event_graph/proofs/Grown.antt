@@ -9,9 +9,10 @@ use Rattle.ew_model.specs.Ids.{id_eq, is_among}
 use Rattle.ew_model.specs.Graph.{has_child}
 use Rattle.ew_model.specs.Ancestors.{ids_of}
 use Rattle.ew_model.specs.Positions.{frontier_of, positions_in, parent_positions}
+use Rattle.ew_model.specs.Sound.{IsSound, AreSound}
 use Rattle.ew_model.specs.Verdicts.{graph_verdict}
 use Rattle.ew_model.specs.Verdicts.Ruling.{Good}
-use Rattle.ew_model.proofs.EntryLaws.{LaidOut}
+use Rattle.ew_model.proofs.EntryLaws.{LaidOut, all_joined}
 use Rattle.ew_model.proofs.GraphHeads.{no_later_parent}
 use Rattle.ew_model.proofs.ListTests.{any_from}
 use Rattle.ew_model.proofs.PositionNumbers.{positions_before}
@@ -53,15 +54,16 @@ ops_kept history = map_map (λ (e : Event). bare e.op (positions_in history e.pa
 
 module _ (history : List Event) (e : Event) (ids : List Id) (events : List BareEvent) (heads : List ℕ) (cuts : KeptCuts) where
   -- what is kept of the history with an event that was judged good
-  pub grown : IsAdmitted history → graph_verdict history e ≡ Good → ids ≡ ids_of history ++ e.id ∷ [] → events ≡ bare_events history ++ bare e.op (positions_in history e.parents) ∷ []
+  pub grown : IsAdmitted history → AreSound history → graph_verdict history e ≡ Good → IsSound e → ids ≡ ids_of history ++ e.id ∷ [] → events ≡ bare_events history ++ bare e.op (positions_in history e.parents) ∷ []
       → heads ≡ frontier_of (parent_positions history ++ positions_in history e.parents ∷ []) → cuts ≡ kept_for (parent_positions history ++ positions_in history e.parents ∷ [])
       → IsKeptOf (history ++ e ∷ []) ids events heads cuts
-  grown admitted good same_ids same_events same_heads same_cuts =
+  grown admitted sound good sound_event same_ids same_events same_heads same_cuts =
       let whole = more history e admitted good in
       let there = laid (history ++ e ∷ []) whole in
       let parents = parents_grown history e there in
       record {
         admitted = whole;
+        sound = all_joined IsSound history (e ∷ []) sound (sound_event, tt);
         ids_are = same_ids ∙ sym (map-append (λ (f : Event). f.id) history (e ∷ []));
         events_are = same_events ∙ sym (bare_grown history e there);
         heads_are = same_heads ∙ ap frontier_of (sym parents);

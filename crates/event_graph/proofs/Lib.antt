@@ -8,9 +8,11 @@ pub mod Grown
 pub mod Numbers
 pub mod IdRows
 pub mod Lists
+pub mod Counted
 pub mod Kept
+pub mod Soundness
 pub mod RowLaws
 pub mod Summing
-mod Tails
+pub mod Tails
 pub mod Subgraphs
 pub mod SpanEvents

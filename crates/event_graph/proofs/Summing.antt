@@ -43,7 +43,7 @@ apart a (b ∷ names) h = at (name_eq a b) refl h (λ k. apart a names k)
     at true e k f = absurd (false≢true (sym k ∙ any_from (name_eq a) (b ∷ names) b (inl refl) e))
     at false e k f = (not_tied a b e, f (sym (ap (λ d. d || list_any (name_eq a) names) e) ∙ k))
 
-ties : (names : List (List ℕ)) → AreDistinct names → NoTies (slice_cmp nat_cmp) names
+pub ties : (names : List (List ℕ)) → AreDistinct names → NoTies (slice_cmp nat_cmp) names
 ties [] h = tt
 ties (a ∷ names) h = (apart a names h.0, ties names h.1)
 

@@ -1,17 +1,25 @@
 -- What is kept of the front of a history.
-use Rattle.std.proofs.Common.{◌≡◌, ℕ, List, [], ◌∷◌, ◌++◌, take, drop, length, sym, ap, ◌∙◌, subst, append-nil, append_assoc}
+use Rattle.std.proofs.Common.{◌≡◌, ℕ, zero, suc, List, [], ◌∷◌, ◌++◌, take, drop, length, sym, ap, ◌∙◌, subst, append-nil, append_assoc}
+use Rattle.std.specs.List.{AllByRecursion}
 use Rattle.std.proofs.Math.Seq.{take-append_seam}
 use Rattle.std.proofs.lemmas.List.{length-map, take-map, take-append-drop}
 use Rattle.ew_model.specs.declared.event.Event.{Event}
 use Rattle.ew_model.specs.declared.id.Id.{Id}
 use Rattle.ew_model.specs.Ancestors.{ids_of}
 use Rattle.ew_model.specs.Positions.{frontier_of, positions_in, parent_positions}
+use Rattle.ew_model.specs.Sound.{IsSound, AreSound}
 use Rattle.critical.specs.KeptCuts.{KeptCuts, kept_for}
 use Rattle.event_runs.specs.BareEvents.{BareEvent, bare, parents_in}
 use Rattle.event_graph.specs.Keeping.{AreAdmittedAfter, IsAdmitted, bare_events, IsKeptOf}
 use Rattle.event_graph.specs.Tails.{TailMark, mark_of}
 use Rattle.event_graph.proofs.Admitted.{laid}
 use Rattle.event_graph.proofs.Grown.{bare_grown, parents_kept}
+
+-- what holds of all holds of the first
+pub all_first : {X : Type 0} (P : X → Type 0) (n : ℕ) (xs : List X) → AllByRecursion P xs → AllByRecursion P (take n xs)
+all_first P zero xs h = tt
+all_first P (suc n) [] h = tt
+all_first P (suc n) (x ∷ xs) h = (h.0, all_first P n xs h.1)
 
 pub front_after : (before front later : List Event) → AreAdmittedAfter before (front ++ later) → AreAdmittedAfter before front
 front_after before [] later h = tt
@@ -53,10 +61,11 @@ module _ (now : List Event) (n : ℕ) (admitted : IsAdmitted now) (reach : n ≡
   front_positions = sym (parents_kept front) ∙ ap parents_in (sym front_bare) ∙ sym (take-map (λ (b : BareEvent). b.parents) n (bare_events now)) ∙ ap (take n) (parents_kept now)
 
   -- what is kept of them
-  pub front_kept : (ids : List Id) (events : List BareEvent) (heads : List ℕ) (cuts : KeptCuts) → ids ≡ ids_of now → events ≡ bare_events now → heads ≡ frontier_of (parent_positions front) → cuts ≡ kept_for (parent_positions front)
+  pub front_kept : AreSound now → (ids : List Id) (events : List BareEvent) (heads : List ℕ) (cuts : KeptCuts) → ids ≡ ids_of now → events ≡ bare_events now → heads ≡ frontier_of (parent_positions front) → cuts ≡ kept_for (parent_positions front)
       → IsKeptOf front (take n ids) (take n events) heads cuts
-  front_kept ids events heads cuts ids_are events_are heads_are cuts_are = record {
+  front_kept sound ids events heads cuts ids_are events_are heads_are cuts_are = record {
     admitted = front_admitted;
+    sound = all_first IsSound n now sound;
     ids_are = ap (take n) ids_are ∙ take-map (λ (e : Event). e.id) n now;
     events_are = ap (take n) events_are ∙ front_bare;
     heads_are = heads_are;
@@ -67,7 +76,7 @@ module _ (now : List Event) (n : ℕ) (admitted : IsAdmitted now) (reach : n ≡
 pub kept_front : (now : List Event) (ids : List Id) (events : List BareEvent) (heads : List ℕ) (cuts : KeptCuts) (tail : TailMark) → IsKeptOf now ids events heads cuts → tail ≡ mark_of (take tail.count now)
     → IsKeptOf (take tail.count now) (take tail.count ids) (take tail.count events) tail.heads tail.cuts
 kept_front now ids events heads cuts tail kept marked =
-    front_kept now tail.count kept.admitted (ap (λ (t : TailMark). t.count) marked) ids events tail.heads tail.cuts kept.ids_are kept.events_are (ap (λ (t : TailMark). t.heads) marked) (ap (λ (t : TailMark). t.cuts) marked)
+    front_kept now tail.count kept.admitted (ap (λ (t : TailMark). t.count) marked) kept.sound ids events tail.heads tail.cuts kept.ids_are kept.events_are (ap (λ (t : TailMark). t.heads) marked) (ap (λ (t : TailMark). t.cuts) marked)
 
 -- the parts of a graph that came back
 pub cut_back : (now : List Event) (ids : List Id) (events : List BareEvent) (heads : List ℕ) (cuts : KeptCuts) (tail inside : TailMark) (new_ids : List Id) (new_events : List BareEvent) → IsKeptOf now ids events heads cuts → inside ≡ tail

@@ -6,6 +6,7 @@ use Rattle.ew_model.specs.Ancestors.{ids_of}
 use Rattle.ew_model.specs.Ids.{id_cmp}
 use Rattle.ew_model.specs.Positions.{frontier_of, positions_in, parent_positions}
 use Rattle.ew_model.specs.Sorting.{sort_by}
+use Rattle.ew_model.specs.Sound.{AreSound}
 use Rattle.ew_model.specs.Verdicts.{graph_verdict}
 use Rattle.ew_model.specs.Verdicts.Ruling.{Good}
 use Rattle.critical.specs.KeptCuts.{KeptCuts, kept_for}
@@ -45,6 +46,7 @@ bare_events history = map (λ (e : Event). bare e.op (positions_in history e.par
 -- what is kept is that of an admitted history
 pub record IsKeptOf (history : List Event) (ids : List Id) (events : List BareEvent) (heads : List ℕ) (cuts : KeptCuts) : Type 0 where
   pub admitted : IsAdmitted history
+  pub sound : AreSound history
   pub ids_are : ids ≡ ids_of history
   pub events_are : events ≡ bare_events history
   pub heads_are : heads ≡ frontier_of (parent_positions history)

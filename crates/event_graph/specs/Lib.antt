@@ -1,5 +1,6 @@
 pub mod Finding
 pub mod Keeping
+pub mod Missing
 pub mod Rows
 pub mod Subgraphs
 pub mod Summary

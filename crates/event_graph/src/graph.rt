@@ -9,6 +9,7 @@ ghost use Rattle.ew_model.specs.Answers.{ruling_of};
 ghost use Rattle.ew_model.specs.Cuts.{is_critical, latest_cut};
 ghost use Rattle.ew_model.specs.Ids.{id_eq, is_among, ids_ascend};
 ghost use Rattle.ew_model.specs.Positions.{AreParents, IsHistoryOfParents, parents_at, known_alone, positions_in, parent_positions};
+ghost use Rattle.ew_model.specs.Sound.{IsSoundId, IsSoundOp, IsSound, AreSound};
 ghost use Rattle.ew_model.specs.Verdicts.{id_rows, parent_rows, first_unknown, follows_its_agent, graph_verdict};
 ghost use Rattle.ew_model.specs.Verdicts.Ruling.{Good};
 ghost use Rattle.ancestors.specs.Floors.{HasAllBelow};
@@ -83,6 +84,7 @@ impl Graph {
     pub fn count(&self) -> u32
         ensures count { result ≡ length self.now }
         ensures admitted { IsAdmitted self.now }
+        ensures sound { AreSound self.now }
     {
         let _heads = &self.heads;
         self.events.count()
@@ -314,6 +316,7 @@ impl Graph {
         ensures ok { OnOk result (self.new ≡ self.old ++ e.now ∷ []) }
         ensures err { OnErr result (self.new ≡ self.old) }
     {
+        fits(e);
         let parents = self.positions_of(e.parents.as_slice())?;
         let positions = parents.as_slice();
         if self.heads.equals(positions) {
@@ -327,6 +330,7 @@ impl Graph {
     fn put_on_heads(&mut self, e: &Event, positions: &[u32]) -> Result<(), NoMem>
         requires good { graph_verdict self.old e.now ≡ Good }
         requires room { length self.old + 1 < 2 ^ 32 }
+        requires sound { IsSound e.now }
         requires parents { positions.now ≡ positions_in self.old e.now.parents }
         ensures ok { OnOk result (self.new ≡ self.old ++ e.now ∷ []) }
         ensures err { OnErr result (self.new ≡ self.old) }
@@ -349,6 +353,7 @@ impl Graph {
     fn put_apart(&mut self, e: &Event, positions: &[u32]) -> Result<(), NoMem>
         requires good { graph_verdict self.old e.now ≡ Good }
         requires room { length self.old + 1 < 2 ^ 32 }
+        requires sound { IsSound e.now }
         requires parents { positions.now ≡ positions_in self.old e.now.parents }
         requires apart { positions.now ≢ positions_in self.old (model.heads self.old) }
         ensures ok { OnOk result (self.new ≡ self.old ++ e.now ∷ []) }
@@ -373,6 +378,24 @@ impl Graph {
         let mut names = agents(self.alloc, &self.ids)?;
         names.sort_unstable();
         counts(self.alloc, &self.ids, &names)
+    }
+}
+
+/// The id and the operation of an event are in the ranges of their types.
+fn fits(e: &Event)
+    ensures id { IsSoundId e.now.id }
+    ensures op { IsSoundOp e.now.op }
+{
+    let _agent = e.id.agent.as_slice();
+    let _number = e.id.seq;
+    match e.op {
+        Op::Ins { at, ch } => {
+            let _index = at;
+            let _character = ch;
+        }
+        Op::Del { at } => {
+            let _index = at;
+        }
     }
 }
 
@@ -425,13 +448,13 @@ impl Graph {
         self.ids.count_of(agent)
     }
 
-    /// Takes out all events from a critical cut on. The event right behind it has all heads below it as its parents. It takes
-    /// no memory.
+    /// Takes out all events from a critical cut on. It takes no memory.
     pub fn truncate(&mut self, cut: u32)
         requires { is_critical self.old cut ≡ true }
         ensures { self.new ≡ take cut self.old }
     {
         if cut < self.events.count() {
+            // The event right behind the cut has all heads below it as its parents.
             self.heads = Frontier::from_rising(self.events.parents_at(cut));
             self.ids.truncate(cut);
             self.events.truncate(cut);

@@ -3,6 +3,7 @@
 
 pub mod graph;
 mod ids;
+mod missing;
 mod parts;
 mod subgraph;
 

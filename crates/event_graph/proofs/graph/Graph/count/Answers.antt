@@ -17,3 +17,10 @@ returns-clause-admitted c =
     let inside = c.self.inside in
     let kept : IsKeptOf now inside.ids inside.events inside.heads inside.cuts = subst (λ (h : List Event). IsKeptOf h inside.ids inside.events inside.heads inside.cuts) c.self.view_is c.self.invariant in
     kept.admitted
+
+pub returns-clause-sound : goal.returns-clause-sound
+returns-clause-sound c =
+    let now = c.args.self.now in
+    let inside = c.self.inside in
+    let kept : IsKeptOf now inside.ids inside.events inside.heads inside.cuts = subst (λ (h : List Event). IsKeptOf h inside.ids inside.events inside.heads inside.cuts) c.self.view_is c.self.invariant in
+    kept.sound

@@ -60,7 +60,7 @@ whole c =
     length_events now inside.ids inside.events inside.heads inside.cuts kept ∙ sym (length_parents now inside.ids inside.events inside.heads inside.cuts kept) in
     let reduced : is_reduced_at places c.args.positions.now ≡ true = ap (is_reduced_at places) placed ∙ agree.reduced e.parents ∙ (let_in now e c.requires.good).reduced in
     let apart : c.args.positions.now ≢ frontier_of places = λ same. c.requires.apart (same ∙ agree.heads) in
-    grown now e c.append_apart.new.ids c.append_apart.new.runs c.append_apart.new.heads c.push_apart.new.self kept.admitted c.requires.good
+    grown now e c.append_apart.new.ids c.append_apart.new.runs c.append_apart.new.heads c.push_apart.new.self kept.admitted kept.sound c.requires.good c.requires.sound
     (c.in_ok-append_apart.ensures.ids ∙ ap (λ (ids : List Id). ids ++ e.id ∷ []) kept.ids_are)
     (c.in_ok-append_apart.ensures.runs ∙ (λ i. kept.events_are i ++ bare e.op (placed i) ∷ []))
     (c.in_ok-append_apart.ensures.heads places agree.parents count kept.heads_are ∙ ap (λ (ps : List ℕ). frontier_of (places ++ ps ∷ [])) placed)

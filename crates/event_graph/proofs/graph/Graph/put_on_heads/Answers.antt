@@ -56,7 +56,7 @@ whole c =
     subst (AreParents c.count.result) (sym placed)
     (subst (λ n. AreParents n (positions_in now e.parents)) (sym (count ∙ length_parents now inside.ids inside.events inside.heads inside.cuts kept)) (next_parents now e kept.admitted c.requires.good)) in
     let reduced : is_reduced_at places c.args.positions.now ≡ true = ap (is_reduced_at places) placed ∙ agree.reduced e.parents ∙ (let_in now e c.requires.good).reduced in
-    grown now e c.append.new.ids c.append.new.runs c.insert_event.new.self c.append.new.cuts kept.admitted c.requires.good
+    grown now e c.append.new.ids c.append.new.runs c.insert_event.new.self c.append.new.cuts kept.admitted kept.sound c.requires.good c.requires.sound
     (c.in_ok-append.ensures.ids ∙ ap (λ (ids : List Id). ids ++ e.id ∷ []) kept.ids_are)
     (c.in_ok-append.ensures.runs ∙ (λ i. kept.events_are i ++ bare e.op (placed i) ∷ []))
     (c.in_ok-insert_event.ensures.frontier places agree.parents count next (c.in_ok-heads.ensures ∙ kept.heads_are) ∙ ap (λ (ps : List ℕ). frontier_of (places ++ ps ∷ [])) placed)

@@ -1,0 +1,55 @@
+//! The events that another side lacks.
+
+ghost use Rattle.std.specs.Prelude.{◌≡◌, IfOk, nat_lt};
+ghost use Rattle.std.specs.List.{IsDistinct};
+ghost use Rattle.std.specs.Map.{keys_of};
+ghost use Rattle.ew_model.specs.Ids.{name_eq};
+ghost use Rattle.event_graph.specs.Missing.{count_in, missing};
+
+use crate::graph::Graph;
+use ew_model::NoMem;
+use ew_model::event::Event;
+use ew_model::id::Id;
+use ew_model::name::Name;
+use indexmap::IndexMap;
+use std::alloc::Global;
+
+impl Graph {
+    /// The events that the counts leave out, in the graph's order: those whose number isn't below the count of their agent, which
+    /// is 0 where the agent isn't in the list.
+    pub fn missing(&self, counts: &[(Name, u32)]) -> Result<Vec<Event>, NoMem>
+        requires { IsDistinct name_eq (keys_of counts.now) }
+        ensures { IfOk result (λ v. v.items ≡ missing self.now counts.now) }
+    {
+        let counted = by_agent(self.alloc(), counts)?;
+        let mut missing = Vec::new(self.alloc());
+        for lv in 0..self.count() {
+            if !is_counted(&counted, &self.id_at(lv)) {
+                missing.push(self.event_at(lv)?)?;
+            }
+        }
+        Ok(missing)
+    }
+}
+
+/// The counts by agent.
+fn by_agent(alloc: Global, counts: &[(Name, u32)]) -> Result<IndexMap<Name, u32>, NoMem>
+    requires { IsDistinct name_eq (keys_of counts.now) }
+    ensures { IfOk result (λ m. m.entries ≡ counts.now) }
+{
+    let mut counted = IndexMap::with_capacity(alloc, counts.len())?;
+    for own in counts {
+        counted.insert(own.0, own.1)?;
+    }
+    Ok(counted)
+}
+
+/// Whether the id's number is below its agent's count.
+fn is_counted(counted: &IndexMap<Name, u32>, id: &Id) -> bool
+    ensures { result ≡ nat_lt id.now.seq (count_in counted.now.entries id.now.agent) }
+{
+    match counted.get(&id.agent) {
+        Some(count) => id.seq < *count,
+        None => false,
+    }
+}
