@@ -1,5 +1,5 @@
 -- Where the subtree of an attached child ends, read off the children.
-use Rattle.std.proofs.Common.{◌≡◌, ℕ, true, false, List, [], length, take, None, refl, sym, ap, ◌∙◌, subst}
+use Rattle.std.proofs.Common.{◌≡◌, ℕ, true, false, List, [], length, take, refl, sym, ap, ◌∙◌, subst}
 use Rattle.std.specs.List.{list_any}
 use Rattle.std.specs.Ordering.{is_lt}
 use Rattle.std.proofs.lemmas.Bool.{false≢true, and_parts, and_from}
@@ -16,7 +16,7 @@ use Rattle.fugue_place.specs.declared.child.Side.TheVariants.{Left, Right}
 use Rattle.fugue_place.specs.declared.child.Attached.{Attached}
 use Rattle.fugue_place.specs.declared.line.Line.{Line}
 use Rattle.fugue_place.specs.Attachments.{side_of, node_eq, is_event, is_there, path_of, AreAttached}
-use Rattle.fugue_place.specs.Lines.{is_below, is_in_line, is_further, IsOutermost}
+use Rattle.fugue_place.specs.Lines.{is_below, is_in_line, line_of, is_further, IsOutermost}
 use Rattle.fugue_place.specs.Neighbours.{side_eq, is_child, BaseEndsAt}
 use Rattle.fugue_place.specs.Subtrees.{HasBase, node_in, tree_nodes, IsEnd}
 use Rattle.fugue_place.proofs.NodeLaws.{node_same, node_itself, side_same, side_itself}
@@ -24,10 +24,6 @@ use Rattle.fugue_place.proofs.ListLaws.{none_passes, among_all}
 use Rattle.fugue_place.proofs.PathLaws.{child_in, event_there, attached_there}
 use Rattle.fugue_place.proofs.TreeLaws.{tree_rooted, child_node, child_from}
 use Rattle.ew_model.proofs.OperationLaws.{got}
-
--- all children of a node on one side
-abbrev pub line_of : Node → Side → Line
-line_of v s = record { parent = v; side = s; below = None }
 
 -- A CHILD IN A LINE
 pub record IsInLine (line : Line) (a : Attached) : Type 0 where

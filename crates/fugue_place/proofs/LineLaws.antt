@@ -1,12 +1,11 @@
 -- The outermost of the children in a line, as a search finds it.
-use Rattle.std.proofs.Common.{◌≡◌, ℕ, ◌+◌, ◌<◌, Bool, true, false, ◌||◌, List, [], ◌∷◌, length, take, get_or, Option, Some, None, refl, sym, ap, ◌∙◌, subst, arith}
+use Rattle.std.proofs.Common.{◌≡◌, ℕ, ◌+◌, ◌<◌, Bool, true, false, ◌||◌, List, [], ◌∷◌, length, take, get_or, Option, Some, None, refl, sym, ap, ◌∙◌, arith}
 use Rattle.std.specs.List.{list_any}
 use Rattle.std.specs.Ordering.{is_lt}
 use Rattle.std.specs.declared.cmp.Ordering.{Ordering}
 use Rattle.std.specs.declared.cmp.Ordering.TheVariants.{Less, Equal, Greater}
 use Rattle.std.proofs.lemmas.Bool.{false≢true, false_from_ne_true}
 use Rattle.std.proofs.lemmas.List.Folds.{list_any-append}
-use Rattle.std.proofs.lemmas.Option.{get_or_from_slice_get}
 use Rattle.ew_model.specs.declared.id.Id.{Id}
 use Rattle.ew_model.specs.Ids.{id_cmp}
 use Rattle.ew_model.specs.Sets.{Among}
@@ -53,7 +52,7 @@ module _ (line : Line) (end : Side) (children : List Attached) (n : ℕ) (child 
   }
 
   -- the next child is in the line, but no further out
-  best_stays : (k : ℕ) (best : IsOutermost line end children n k) → is_further end child.id best.child.id ≡ false → IsOutermost line end children (n + 1) k
+  pub best_stays : (k : ℕ) (best : IsOutermost line end children n k) → is_further end child.id best.child.id ≡ false → IsOutermost line end children (n + 1) k
   best_stays k best behind = record {
     child = best.child;
     early = let early : k < n = best.early in omega arith;
@@ -75,7 +74,7 @@ module _ (line : Line) (end : Side) (children : List Attached) (n : ℕ) (child 
   }
 
   -- the next child stands further out
-  best_moves : (k : ℕ) (best : IsOutermost line end children n k) → is_in_line line child ≡ true → is_further end child.id best.child.id ≡ true → IsOutermost line end children (n + 1) n
+  pub best_moves : (k : ℕ) (best : IsOutermost line end children n k) → is_in_line line child ≡ true → is_further end child.id best.child.id ≡ true → IsOutermost line end children (n + 1) n
   best_moves k best fits further = record {
     child = child;
     early = omega arith;
@@ -86,17 +85,3 @@ module _ (line : Line) (end : Side) (children : List Attached) (n : ℕ) (child 
         (λ e. false≢true (sym (best.outermost a m in_line) ∙ further_on end a.id child.id best.child.id e further)))
         (λ in_line. not_further_itself end child.id);
   }
-
-  -- so it goes by the child that is read at the best place
-  module _ (best : Option ℕ) (k : ℕ) (some : best ≡ Some k) (found : IsBest line end children n best) (d : Attached) where
-    outermost : IsOutermost line end children n k
-    outermost = subst (IsBest line end children n) some found
-
-    same : outermost.child ≡ get_or children k d
-    same = sym (get_or_from_slice_get children k outermost.child d outermost.here)
-
-    pub read_stays : is_further end child.id (get_or children k d).id ≡ false → IsOutermost line end children (n + 1) k
-    read_stays behind = best_stays k outermost (ap (λ (a : Attached). is_further end child.id a.id) same ∙ behind)
-
-    pub read_moves : is_in_line line child ≡ true → is_further end child.id (get_or children k d).id ≡ true → IsOutermost line end children (n + 1) n
-    read_moves fits further = best_moves k outermost fits (ap (λ (a : Attached). is_further end child.id a.id) same ∙ further)

@@ -24,14 +24,14 @@ use Rattle.fugue_place.specs.declared.line.Line.{Line}
 use Rattle.fugue_place.specs.declared.neighbour.Place.{Place}
 use Rattle.fugue_place.specs.declared.neighbour.Place.TheVariants.{After, Before}
 use Rattle.fugue_place.specs.Attachments.{side_of, is_attached, is_there, has_id, path_of, AreAttached}
-use Rattle.fugue_place.specs.Lines.{is_below, is_in_line, IsOutermost}
+use Rattle.fugue_place.specs.Lines.{is_below, is_in_line, line_of, IsOutermost}
 use Rattle.fugue_place.specs.Neighbours.{is_child, has_child, has_lower, IsNodePath, AreNodesOf, BaseEndsAt, StandsAt, neighbour_of, beside, IsPlaceOfNew}
 use Rattle.fugue_place.specs.Subtrees.{node_at, HasBase, node_in, tree_nodes, EndsBelow}
 use Rattle.fugue_place.proofs.ListLaws.{none_passes, among_all}
 use Rattle.fugue_place.proofs.LineLaws.{is_less}
 use Rattle.fugue_place.proofs.PlaceLaws.{node_at_is}
 use Rattle.fugue_place.proofs.TreeLaws.{tree_rooted, child_node, path_there, child_from, IsChildOf}
-use Rattle.fugue_place.proofs.EndLaws.{line_of, from_line, child_fits, in_line, path_on}
+use Rattle.fugue_place.proofs.EndLaws.{from_line, child_fits, in_line, path_on}
 use Rattle.ew_model.proofs.OperationLaws.{got}
 
 -- the children with lower ids

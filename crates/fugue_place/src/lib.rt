@@ -2,10 +2,13 @@
 //! child stands right behind the subtree of the next lower one.
 #![tactic(auto)]
 
+mod chains;
 mod child;
+mod leaders;
 mod line;
 mod neighbour;
 mod search;
+mod spot;
 mod table;
 
 pub use child::{Attached, Side};

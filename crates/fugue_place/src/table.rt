@@ -1,34 +1,51 @@
 //! The attached children.
 
 ghost use Rattle.std.specs.Prelude.{◌≡◌, true, false, [], ◌∷◌, ◌++◌, IfOk, OnOk, OnErr};
+ghost use Rattle.std.specs.BTreeMap.{get};
 ghost use Rattle.fugue_place.specs.Attachments.{is_event, is_attached, is_there, has_id};
-ghost use Rattle.fugue_place.specs.Neighbours.{is_child, has_beyond, SomeRightChild, EveryRightChild, IsPlaceOfNew};
+ghost use Rattle.fugue_place.specs.Neighbours.{has_beyond, SomeRightChild, EveryRightChild, IsPlaceOfNew};
+ghost use Rattle.fugue_place.specs.Spots.{spot_cmp, spot_of, IsIndex};
 
-use crate::child::{Attached, Side};
+use crate::chains::Chains;
+use crate::child::{Attached, Side, child_at};
+use crate::leaders::leader_of;
+use crate::line::Line;
 use crate::neighbour::Place;
 use crate::search::place_of_new;
+use crate::spot::{Spot, enlist};
 use ew_model::NoMem;
 use ew_model::id::Id;
 use ew_model::node::Node;
 use std::alloc::Global;
+use std::collections::BTreeMap;
 use std::marker::Model;
 
 /// The children of all nodes of a tree. Contracts see the list of them, in the order in which they were attached.
 #[derive(Drop)]
 pub struct Siblings {
     children: Vec<Attached>,
+    /// The place of each child in that list, by parent, side and id.
+    spots: BTreeMap<Spot, usize>,
+    /// The same by node.
+    places: BTreeMap<Node, usize>,
+    /// Where subtrees begin.
+    left: Chains,
+    /// Where subtrees end.
+    right: Chains,
 }
 
 impl Model for Siblings {
     ghost use Rattle.std.specs.Prelude.{List, []};
+    ghost use Rattle.std.specs.BTreeMap.{get};
     ghost use Rattle.fugue_place.specs.declared.child.Attached.{Attached};
-    ghost use Rattle.fugue_place.specs.Attachments.{AreAttached};
+    ghost use Rattle.fugue_place.specs.Kept.{AreSiblings};
+    ghost use Rattle.fugue_place.specs.Spots.{node_cmp, spot_cmp};
 
     ghost Value = { List Attached };
 
     ghost view = { λ s. s.children.items };
 
-    ghost invariant = { λ s. AreAttached [] s.children.items };
+    ghost invariant = { λ s. AreSiblings s.children.items (get spot_cmp s.spots) (get node_cmp s.places) s.left s.right };
 }
 
 impl Siblings {
@@ -38,6 +55,10 @@ impl Siblings {
     {
         Ok(Siblings {
             children: Vec::new(alloc),
+            spots: BTreeMap::new(alloc),
+            places: BTreeMap::new(alloc),
+            left: Chains::new(alloc),
+            right: Chains::new(alloc),
         })
     }
 
@@ -52,12 +73,23 @@ impl Siblings {
     {
         // A name has at least one byte.
         let _agent = id.agent.as_slice();
-        self.children.push(Attached {
+        let child = Attached {
             parent,
             side,
             id,
             node,
-        })?;
+        };
+        let children = self.children.as_slice();
+        let left = leader_of(children, &self.places, &self.left, Side::Left, &child);
+        let right = leader_of(children, &self.places, &self.right, Side::Right, &child);
+        self.children.reserve(1)?;
+        self.left.reserve()?;
+        self.right.reserve()?;
+        let place = self.children.len();
+        enlist(&mut self.spots, &mut self.places, &child, place)?;
+        self.children.push_reserved(child);
+        self.left.add(left);
+        self.right.add(right);
         Ok(())
     }
 
@@ -72,7 +104,15 @@ impl Siblings {
 
         ensures { IsPlaceOfNew self.now parent side id result }
     {
-        place_of_new(self.children.as_slice(), parent, side, id)
+        place_of_new(
+            self.children.as_slice(),
+            &self.spots,
+            &self.left,
+            &self.right,
+            parent,
+            side,
+            id,
+        )
     }
 
     /// Whether an attached right child of the node is known.
@@ -81,25 +121,31 @@ impl Siblings {
         ensures one { result ≡ true → SomeRightChild (λ v. F.post known v true) self.now node }
         ensures none { result ≡ false → EveryRightChild (λ v. F.post known v false) self.now node }
     {
-        has_known_right(self.children.as_slice(), node, known)
+        has_known_right(self.children.as_slice(), &self.spots, node, known)
     }
 }
 
-fn has_known_right<F: Fn(Node) -> bool>(children: &[Attached], node: Node, known: F) -> bool
-    requires { EveryRightChild (F.pre known) children.now node }
+fn has_known_right<F: Fn(Node) -> bool>(
+    children: &[Attached],
+    spots: &BTreeMap<Spot, usize>,
+    node: Node,
+    known: F,
+) -> bool
+    requires indexed { IsIndex spot_of children.now (get spot_cmp spots.now) }
+    requires known { EveryRightChild (F.pre known) children.now node }
     ensures one { result ≡ true → SomeRightChild (λ v. F.post known v true) children.now node }
     ensures none { result ≡ false → EveryRightChild (λ v. F.post known v false) children.now node }
 {
-    for child in children {
-        if is_right_child(child, node) && known(child.node) {
+    let line = Line {
+        parent: node,
+        side: Side::Right,
+        below: None,
+    };
+    for (_, place) in spots.range(line.ahead()..line.behind()) {
+        let child = child_at(children, *place);
+        if known(child.node) {
             return true;
         }
     }
     false
-}
-
-fn is_right_child(child: &Attached, parent: Node) -> bool
-    ensures { result ≡ is_child parent Side.Right child.now }
-{
-    child.parent == parent && child.side == Side::Right
 }

@@ -1,27 +1,21 @@
-use Rattle.std.proofs.Common.{◌<◌, length, arith}
-use Rattle.std.proofs.lemmas.Option.{slice_get_within}
-use Rattle.fugue_place.proofs.DescentLaws.{goes_down, reaches_on, ends_at}
+use Rattle.std.proofs.Common.{◌<◌, length, get_or, subst, arith}
+use Rattle.std.proofs.lemmas.Option.{slice_get-get_or}
+use Rattle.ew_model.specs.declared.node.Node.{Node}
+use Rattle.fugue_place.specs.Attachments.{side_of, path_of}
+use Rattle.fugue_place.specs.Chains.{follower}
+use Rattle.fugue_place.specs.Subtrees.{node_at, tree_nodes, EndsBelow}
+use Rattle.fugue_place.proofs.DescentLaws.{chain_ends}
+use Rattle.fugue_place.proofs.PlaceLaws.{node_at_is}
 use Rattle.fugue_place.proofs.search.outermost_node.Goals as goal
-use Rattle.fugue_place.proofs.search.outermost_node.Goals.{In-Some}
-
-later : (c : In-Some) → c.loop-k.at < c.in-Some.k
-later c = goes_down c.args.children.now c.requires.attached c.args.end c.loop-k.at c.index-children-at.result c.loop-k.invariant.0 c.in-Some.k c.in-Some.ensures
-
-within : (c : In-Some) → c.in-Some.k < length c.args.children.now
-within c = let best = c.in-Some.ensures in slice_get_within c.args.children.now c.in-Some.k best.child best.here
-
-pub loop-k-smaller : goal.loop-k-smaller
-loop-k-smaller c =
-    let down = later c in
-    let inside = within c in
-    omega arith
-
-pub loop-k-preserved : goal.loop-k-preserved
-loop-k-preserved c = (
-  within c,
-  reaches_on c.args.children.now c.requires.attached c.args.end c.loop-k.at c.index-children-at.result c.loop-k.invariant.0 c.args.from c.in-Some.k c.in-Some.ensures c.loop-k.invariant.1,
-)
 
 pub returns-clause-ends : goal.returns-clause-ends
-returns-clause-ends c =
-    ends_at c.args.children.now c.requires.attached c.args.end c.loop-k.at c.index-children-at.result c.loop-k.invariant.0 c.args.from c.index-children-at-2.result c.in_default.ensures c.loop-k.invariant.1
+returns-clause-ends c = λ b base.
+    let xs = c.args.children.now in
+    let outward = c.requires.chains in
+    let count = outward.count in
+    let within : c.end_of.result < length c.args.chains.now.outer.items = c.end_of.ensures.within in
+    let here = slice_get-get_or xs c.args.from c.index-children-end_of.result c.requires.within in
+    let there = slice_get-get_or xs c.end_of.result c.index-children-end_of.result (omega arith) in
+    subst (λ (v : Node). EndsBelow (side_of c.args.end) (tree_nodes b xs) (path_of xs (node_at xs c.args.from)) (path_of xs v))
+    (node_at_is xs c.end_of.result (get_or xs c.end_of.result c.index-children-end_of.result) there)
+    (chain_ends xs c.requires.attached c.args.end (follower c.args.chains.now.outer.items) outward.outermost c.args.from c.end_of.result (get_or xs c.args.from c.index-children-end_of.result) here c.end_of.ensures.end b base)

@@ -1,0 +1,104 @@
+-- Chains of places, in which each is followed by a later one or by none.
+use Rattle.std.specs.Prelude.{◌≡◌, ℕ, zero, suc, ◌+◌, ◌<◌, ◌⊎◌, List, length, get_or, Option, Some, None}
+use Rattle.std.specs.Vec.{vec_len, vec_capacity}
+use Rattle.fugue_place.specs.declared.chains.Chains.{Chains}
+use Rattle.fugue_place.specs.declared.child.Side.{Side}
+use Rattle.fugue_place.specs.declared.child.Attached.{Attached}
+use Rattle.fugue_place.specs.Lines.{AreOutermost}
+
+-- what a table tells of a place
+abbrev pub follower : List (Option ℕ) → ℕ → Option ℕ
+follower outer k = get_or outer k None
+
+abbrev pub number_at : List ℕ → ℕ → ℕ
+number_at numbers k = get_or numbers k 0
+
+-- j, which follows k, is later and in the same chain
+pub record IsStep (n : ℕ) (before : ℕ → Option ℕ) (group : ℕ → ℕ) (k j : ℕ) : Type 0 where
+  pub later : k < j
+  pub within : j < n
+  pub inner : before j ≡ Some k
+  pub number : group j ≡ group k
+
+-- chains of the first n places, with the number of each place's chain and the end of the chain of each number
+pub record AreChains (n : ℕ) (outer inner : ℕ → Option ℕ) (number end : ℕ → ℕ) : Type 0 where
+  pub step : (k j : ℕ) → k < n → outer k ≡ Some j → IsStep n inner number k j
+  pub inward : (j k : ℕ) → j < n → inner j ≡ Some k → k < j
+  pub known : (k : ℕ) → k < n → number k < n
+  pub ends : (k : ℕ) → k < n → outer k ≡ None → end (number k) ≡ k
+
+-- what chains keep
+pub record IsChains (c : Chains) : Type 0 where
+  pub inner : length c.inner.items ≡ length c.outer.items
+  pub numbers : length c.numbers.items ≡ length c.outer.items
+  pub ends : length c.ends.items ≡ length c.outer.items
+  pub chains : AreChains (length c.outer.items) (follower c.outer.items) (follower c.inner.items) (number_at c.numbers.items) (number_at c.ends.items)
+
+-- Chains of the children lead outward on the side.
+pub record LeadOutward (end : Side) (children : List Attached) (c : Chains) : Type 0 where
+  pub chains : IsChains c
+  pub count : length c.outer.items ≡ length children
+  pub outermost : AreOutermost end children (follower c.outer.items)
+
+-- so many steps lead from k to e, which nothing follows
+abbrev pub Leads : (ℕ → Option ℕ) → ℕ → ℕ → ℕ → Type 0
+Leads outer zero k e = (outer k ≡ None) × (k ≡ e)
+Leads outer (suc m) k e = (j : ℕ) × (outer k ≡ Some j) × Leads outer m j e
+
+-- the chain of k ends at e
+abbrev pub IsEndOf : (ℕ → Option ℕ) → ℕ → ℕ → Type 0
+IsEndOf outer k e = (m : ℕ) × Leads outer m k e
+
+-- what follows each once the place n is added: behind another, or alone
+pub record IsLedBy (n : ℕ) (old : ℕ → Option ℕ) (behind : Option ℕ) (new : ℕ → Option ℕ) : Type 0 where
+  pub last : new n ≡ None
+  pub leads : (k : ℕ) → behind ≡ Some k → new k ≡ Some n
+  pub others : (k : ℕ) → k < n → (behind ≡ Some k → ⊥) → new k ≡ old k
+
+-- the tables are the same
+pub record IsSame (c d : Chains) : Type 0 where
+  pub outer : d.outer.items ≡ c.outer.items
+  pub inner : d.inner.items ≡ c.inner.items
+  pub numbers : d.numbers.items ≡ c.numbers.items
+  pub ends : d.ends.items ≡ c.ends.items
+
+-- one more fits into each table
+pub record HasRoom (c : Chains) : Type 0 where
+  pub outer : vec_len c.outer < vec_capacity c.outer
+  pub inner : vec_len c.inner < vec_capacity c.inner
+  pub numbers : vec_len c.numbers < vec_capacity c.numbers
+  pub ends : vec_len c.ends < vec_capacity c.ends
+
+-- The place n is added, and alone in the chain of its own number; it was put behind an earlier place.
+pub record IsLone (c : Chains) (at n : ℕ) : Type 0 where
+  pub early : at < n
+  pub outer : length c.outer.items ≡ n + 1
+  pub inner : length c.inner.items ≡ n + 1
+  pub numbers : length c.numbers.items ≡ n + 1
+  pub ends : length c.ends.items ≡ n + 1
+  pub chains : AreChains n (follower c.outer.items) (follower c.inner.items) (number_at c.numbers.items) (number_at c.ends.items)
+  pub behind : follower c.inner.items n ≡ Some at
+  pub last : follower c.outer.items n ≡ None
+  pub number : number_at c.numbers.items n ≡ n
+  pub end : number_at c.ends.items n ≡ n
+
+-- all but the numbers of chains stays
+pub record KeepsLinks (c d : Chains) : Type 0 where
+  pub outer : d.outer.items ≡ c.outer.items
+  pub inner : d.inner.items ≡ c.inner.items
+  pub numbers : length d.numbers.items ≡ length c.numbers.items
+  pub ends : d.ends.items ≡ c.ends.items
+
+-- Those of the first n places that follow one in its chain have the number n now, and the others their old ones.
+pub record IsOuterRenumbered (n : ℕ) (outer : ℕ → Option ℕ) (old new : ℕ → ℕ) (at : ℕ) : Type 0 where
+  pub steps : (k j : ℕ) → k < n → outer k ≡ Some j → (k ≡ at → ⊥) → new j ≡ new k
+  pub each : (k : ℕ) → k < n → (new k ≡ old k) ⊎ ((new k ≡ n) × (old k ≡ old at) × (at < k))
+  pub end : (k : ℕ) → k < n → outer k ≡ None → old k ≡ old at → (k ≡ at → ⊥) → new k ≡ n
+  pub newest : new n ≡ old n
+
+-- One of the first n places and those that it follows in its chain have the number n now, and the others their old ones.
+pub record IsInnerRenumbered (n : ℕ) (outer : ℕ → Option ℕ) (old new : ℕ → ℕ) (at : ℕ) : Type 0 where
+  pub steps : (k j : ℕ) → k < n → outer k ≡ Some j → (k ≡ at → ⊥) → new j ≡ new k
+  pub each : (k : ℕ) → k < n → (new k ≡ old k) ⊎ ((new k ≡ n) × (outer k ≡ None → k ≡ at))
+  pub itself : new at ≡ n
+  pub newest : new n ≡ old n

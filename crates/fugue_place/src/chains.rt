@@ -1,0 +1,181 @@
+//! Where the subtrees of children end on one side.
+
+ghost use Rattle.std.specs.Prelude.{◌≡◌, ℕ, ◌<◌, ◌+◌, [], length, set, Some, IfSome, IfNone, OnOk};
+ghost use Rattle.fugue_place.specs.Chains.{follower, number_at, IsChains, IsEndOf, IsLedBy, IsSame, HasRoom, IsLone, KeepsLinks, IsOuterRenumbered, IsInnerRenumbered};
+
+use ew_model::NoMem;
+use std::alloc::Global;
+
+/// Children in chains that lead outward on one side: each is followed by its outermost child there, if it has one, and so the
+/// subtree of each ends at the end of its chain. They are told by their places in the list of all children.
+#[derive(Drop)]
+pub struct Chains {
+    /// What follows each.
+    pub outer: Vec<Option<usize>>,
+    /// What each followed when it was added.
+    pub inner: Vec<Option<usize>>,
+    /// The number of each one's chain.
+    pub numbers: Vec<usize>,
+    /// The end of the chain with each number.
+    pub ends: Vec<usize>,
+}
+
+impl Chains {
+    /// No chains.
+    pub fn new(alloc: Global) -> Chains
+        ensures chains { IsChains result }
+        ensures none { result.outer.items ≡ [] }
+    {
+        Chains {
+            outer: Vec::new(alloc),
+            inner: Vec::new(alloc),
+            numbers: Vec::new(alloc),
+            ends: Vec::new(alloc),
+        }
+    }
+
+    /// Makes room for one more.
+    pub fn reserve(&mut self) -> Result<(), NoMem>
+        ensures same { IsSame self.old self.new }
+        ensures room { OnOk result (HasRoom self.new) }
+    {
+        self.outer.reserve(1)?;
+        self.inner.reserve(1)?;
+        self.numbers.reserve(1)?;
+        self.ends.reserve(1)
+    }
+
+    /// What follows this one.
+    pub fn follower(&self, at: usize) -> Option<usize>
+        requires { at < length self.now.outer.items }
+        ensures { result ≡ follower self.now.outer.items at }
+    {
+        self.outer[at]
+    }
+
+    /// The end of the chain that this one is in.
+    pub fn end_of(&self, at: usize) -> usize
+        requires chains { IsChains self.now }
+        requires within { at < length self.now.outer.items }
+        ensures end { IsEndOf (follower self.now.outer.items) at result }
+        ensures within { result < length self.now.outer.items }
+    {
+        self.ends[self.numbers[at]]
+    }
+
+    /// Adds the next one: behind another, in the place of what followed that one, or alone.
+    pub fn add(&mut self, behind: Option<usize>)
+        requires chains { IsChains self.old }
+        requires room { HasRoom self.old }
+        requires behind { IfSome behind (λ k. k < length self.old.outer.items) }
+        ensures chains { IsChains self.new }
+        ensures count { length self.new.outer.items ≡ length self.old.outer.items + 1 }
+        ensures led { IsLedBy (length self.old.outer.items) (follower self.old.outer.items) behind (follower self.new.outer.items) }
+    {
+        let new = self.outer.len();
+        self.outer.push_reserved(None);
+        self.inner.push_reserved(behind);
+        self.numbers.push_reserved(new);
+        self.ends.push_reserved(new);
+        if let Some(at) = behind {
+            self.lead(at, new);
+        }
+    }
+}
+
+impl Chains {
+    /// Has the newest one, which is alone in the chain of its own number, follow another in the place of what followed that
+    /// one. Of the two parts of the chain there, the shorter one gets a new number.
+    fn lead(&mut self, at: usize, new: usize)
+        requires { IsLone self.old at new }
+        ensures chains { IsChains self.new }
+        ensures outer { self.new.outer.items ≡ set self.old.outer.items at (Some new) }
+    {
+        if self.is_outer_part_shorter(at) {
+            self.move_outer_part(at, new);
+        } else {
+            self.move_inner_part(at, new);
+        }
+    }
+
+    /// Gives the number of the newest one to all that follow the other.
+    fn move_outer_part(&mut self, at: usize, new: usize)
+        requires { IsLone self.old at new }
+        ensures chains { IsChains self.new }
+        ensures outer { self.new.outer.items ≡ set self.old.outer.items at (Some new) }
+    {
+        self.renumber_outer_part(at, new);
+        let number = self.numbers[at];
+        self.numbers[new] = number;
+        self.ends[new] = self.ends[number];
+        self.ends[number] = new;
+        self.outer[at] = Some(new);
+    }
+
+    /// Gives the number of the newest one to the other and all that it follows.
+    fn move_inner_part(&mut self, at: usize, new: usize)
+        requires { IsLone self.old at new }
+        ensures chains { IsChains self.new }
+        ensures outer { self.new.outer.items ≡ set self.old.outer.items at (Some new) }
+    {
+        self.renumber_inner_part(at, new);
+        self.outer[at] = Some(new);
+    }
+
+    /// Whether fewer follow this one than it follows and itself: it decides only what a change costs.
+    fn is_outer_part_shorter(&self, at: usize) -> bool
+        requires { (new : ℕ) × IsLone self.now at new }
+    {
+        let mut outer = at;
+        let mut inner = at;
+        while let Some(k) = self.outer[outer] {
+            let Some(j) = self.leader(inner) else {
+                return false;
+            };
+            outer = k;
+            inner = j;
+        }
+        true
+    }
+
+    /// Gives all that follow this one the number.
+    fn renumber_outer_part(&mut self, at: usize, new: usize)
+        requires { IsLone self.old at new }
+        ensures same { KeepsLinks self.old self.new }
+        ensures numbers { IsOuterRenumbered new (follower self.old.outer.items) (number_at self.old.numbers.items) (number_at self.new.numbers.items) at }
+    {
+        let mut last = at;
+        while let Some(k) = self.outer[last] {
+            self.numbers[k] = new;
+            last = k;
+        }
+    }
+
+    /// Gives this one and all that it follows the number.
+    fn renumber_inner_part(&mut self, at: usize, new: usize)
+        requires { IsLone self.old at new }
+        ensures same { KeepsLinks self.old self.new }
+        ensures numbers { IsInnerRenumbered new (follower self.old.outer.items) (number_at self.old.numbers.items) (number_at self.new.numbers.items) at }
+    {
+        let mut first = at;
+        self.numbers[first] = new;
+        while let Some(k) = self.leader(first) {
+            self.numbers[k] = new;
+            first = k;
+        }
+    }
+
+    /// What this one follows.
+    fn leader(&self, at: usize) -> Option<usize>
+        requires at { at < length self.now.inner.items }
+        requires early { IfSome (follower self.now.inner.items at) (λ k. k < length self.now.outer.items) }
+        ensures some { IfSome result (λ k. (follower self.now.inner.items at ≡ Some k) × (follower self.now.outer.items k ≡ Some at)) }
+        ensures none { IfNone result ((k : ℕ) → follower self.now.inner.items at ≡ Some k → follower self.now.outer.items k ≡ Some at → ⊥) }
+    {
+        let k = self.inner[at]?;
+        match self.outer[k] {
+            Some(j) if j == at => Some(k),
+            _ => None,
+        }
+    }
+}
