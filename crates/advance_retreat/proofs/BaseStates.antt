@@ -73,7 +73,7 @@ pub base_few : (b : ℕ) → length (base_records b) ≤ b
 base_few b = let all = length-base b in omega arith
 
 abbrev pub base_state : ℕ → Kept
-base_state b = record { base = b; records = base_records b; attached = []; targets = [] }
+base_state b = record { base = b; records = base_records b; attached = []; targets = []; lost = 0 }
 
 no_children : (b : ℕ) → AreChildren b [] []
 no_children b = record { sound = tt; paths = λ n y m. absurd m; there = λ n y m. absurd m; only = λ a m. absurd m; enough = λ a i m. absurd m }

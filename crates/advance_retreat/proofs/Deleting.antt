@@ -63,7 +63,7 @@ about_node lv v = record { lv = lv; node = v }
 
 -- a state with other records and targets; one whose character at a node is deleted by an event
 abbrev pub with_both : Kept → List Stretch → List Target → Kept
-with_both s rs ts = record { base = s.base; records = rs; attached = s.attached; targets = ts }
+with_both s rs ts = record { base = s.base; records = rs; attached = s.attached; targets = ts; lost = s.lost }
 
 abbrev pub struck_state : Kept → ℕ → Node → Kept
 struck_state s lv v = with_both s (map (changed_at v Strike) s.records) (s.targets ++ about_node lv v ∷ [])

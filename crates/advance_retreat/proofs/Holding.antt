@@ -27,15 +27,14 @@ use Rattle.fugue_place.specs.Attachments.{side_of, node_eq, is_there, path_of}
 use Rattle.fugue_place.specs.Neighbours.{is_child, side_eq, is_beyond, has_beyond, BaseEndsAt}
 use Rattle.fugue_place.proofs.NodeLaws.{node_same, node_itself, side_same, side_itself}
 use Rattle.fugue_place.proofs.PathLaws.{child_in, root_path, base_path_of, child_found, same_node}
-use Rattle.advance_retreat.specs.declared.spot.Left.{Left}
 use Rattle.advance_retreat.specs.declared.spot.Hold.{Hold}
 use Rattle.advance_retreat.specs.Kept.{Kept, is_visible, is_inserted, is_of, knows, visible_in}
-use Rattle.advance_retreat.specs.Spots.{IsLeft, has_next_base, has_known_child, has_known_right, hold_by, hold_of}
+use Rattle.advance_retreat.specs.Spots.{Left, first_known as first_node, IsLeft, has_next_base, has_known_child, has_known_right, hold_by, hold_of}
 use Rattle.advance_retreat.specs.Standing.{node_of, kept_record, StandsFor}
 use Rattle.advance_retreat.proofs.Cuts.{count-mapped, find-mapped, Cut, cut_at, taken, dropped_next}
 use Rattle.advance_retreat.proofs.Nodes.{base_node}
 use Rattle.advance_retreat.proofs.Keeping.{notes, rs, part}
-use Rattle.advance_retreat.proofs.Characters.{own_char, own_event, char_path, char_there, char_low, record_of, base_char, base_in_tree, number_of}
+use Rattle.advance_retreat.proofs.CharLaws.{own_char, own_event, char_path, char_there, char_low, record_of, base_char, base_in_tree, number_of}
 use Rattle.advance_retreat.proofs.RightChildren.{child_behind}
 use Rattle.ew_model.proofs.NewNodes.{child_form}
 
@@ -252,7 +251,7 @@ module _ (s : Kept) (b : ℕ) (events : List (Applied ℕ)) (prepared : List ℕ
 
   module _ (at : ℕ) (l : Left) (p : List Step) (tail : List Record) (is : LeftIs at l p tail) (x : Id) where
     hold_at : (c : Bool) → list_any (λ (y : Inserted). is_right_child p y.path) walk ≡ c → (o : Option Record) → find is_known tail ≡ o
-        → HoldIs (hold_by c (option_map kept o) l.node) x (cond c (left_of_or_right_of (option_map (λ (r : Record). r.node) o) p x) (step_down p right_path x))
+        → HoldIs (hold_by c (option_map (λ (r : Stretch). r.from) (option_map kept o)) l.node) x (cond c (left_of_or_right_of (option_map (λ (r : Record). r.node) o) p x) (step_down p right_path x))
     hold_at true h (Some r) o =
         let own = own_char s b events prepared st r (is.inside r (found_in is_known tail r o)) in
         record {
@@ -276,13 +275,13 @@ module _ (s : Kept) (b : ℕ) (events : List (Applied ℕ)) (prepared : List ℕ
           last = λ same. none_beyond l.node ends;
         }
 
-    hold_is : hold_by (list_any (λ (y : Inserted). is_right_child p y.path) walk) (option_map kept (find is_known tail)) l.node ≡ hold_of s.base s.records s.attached l
+    hold_is : hold_by (list_any (λ (y : Inserted). is_right_child p y.path) walk) (option_map (λ (r : Stretch). r.from) (option_map kept (find is_known tail))) l.node ≡ hold_of s.base s.records s.attached l
     hold_is =
-        (λ i. hold_by (sym (right_told l.node p is.path is.there) i) (sym (find-mapped kept is_inserted tail) i) l.node)
-        ∙ (λ i. hold_by (has_known_right (sym st.base i) s.records s.attached l.node) (find is_inserted (sym is.behind i)) l.node)
+        (λ i. hold_by (sym (right_told l.node p is.path is.there) i) (option_map (λ (r : Stretch). r.from) (sym (find-mapped kept is_inserted tail) i)) l.node)
+        ∙ (λ i. hold_by (has_known_right (sym st.base i) s.records s.attached l.node) (first_node (sym is.behind i)) l.node)
 
     pub hold_told : HoldIs (hold_of s.base s.records s.attached l) x (new_path walk p x)
     hold_told =
         subst (λ h. HoldIs h x (new_path walk p x)) hold_is
-        (subst (λ o. HoldIs (hold_by (list_any (λ (y : Inserted). is_right_child p y.path) walk) (option_map kept (find is_known tail)) l.node) x (cond (list_any (λ (y : Inserted). is_right_child p y.path) walk) (left_of_or_right_of o p x) (step_down p right_path x))) (sym is.next)
+        (subst (λ o. HoldIs (hold_by (list_any (λ (y : Inserted). is_right_child p y.path) walk) (option_map (λ (r : Stretch). r.from) (option_map kept (find is_known tail))) l.node) x (cond (list_any (λ (y : Inserted). is_right_child p y.path) walk) (left_of_or_right_of o p x) (step_down p right_path x))) (sym is.next)
         (hold_at (list_any (λ (y : Inserted). is_right_child p y.path) walk) refl (find is_known tail) refl))

@@ -39,18 +39,17 @@ use Rattle.fugue_place.specs.Attachments.{node_eq, is_attached, is_there, has_id
 use Rattle.fugue_place.specs.Neighbours.{AreNodesOf, StandsAt, IsPlaceOfNew}
 use Rattle.fugue_place.proofs.NodeLaws.{node_same, node_itself}
 use Rattle.fugue_place.proofs.PathLaws.{root_path, path_of_new, there_more, attached_there, attached_push, path_stays, child_found}
-use Rattle.advance_retreat.specs.declared.spot.Left.{Left}
 use Rattle.advance_retreat.specs.declared.spot.Hold.{Hold}
 use Rattle.advance_retreat.specs.declared.target.Target.{Target}
 use Rattle.advance_retreat.specs.Kept.{Kept, single, is_of, is_visible, shown_in}
-use Rattle.advance_retreat.specs.Spots.{IsLeft, hold_of, IsIndex, kept_with, MayHang, Puts}
+use Rattle.advance_retreat.specs.Spots.{Left, IsLeft, hold_of, IsIndex, kept_with, MayHang, Puts}
 use Rattle.advance_retreat.specs.Standing.{most, node_of, kept_record, kept_target, AreChildren, StandsFor}
 use Rattle.advance_retreat.proofs.Room.{CanInsert}
 use Rattle.advance_retreat.proofs.Lists.{count, count_above}
 use Rattle.advance_retreat.proofs.Cuts.{count-mapped, Cut, cut_at, taken, taken_next, dropped_here, dropped_next}
 use Rattle.advance_retreat.proofs.Nodes.{base_node, base_event, same_event, note_char, node_event, about_char, char_cases}
 use Rattle.advance_retreat.proofs.Keeping.{notes, rs, all, part, grown, visible_told, records_few}
-use Rattle.advance_retreat.proofs.Characters.{IsOwn, own_char, own_event, char_path, record_of, base_in_tree}
+use Rattle.advance_retreat.proofs.CharLaws.{IsOwn, own_char, own_event, char_path, record_of, base_in_tree}
 use Rattle.advance_retreat.proofs.Holding.{left_told, HoldIs, hold_told}
 use Rattle.advance_retreat.proofs.Applying as apply
 
@@ -99,6 +98,19 @@ module _ (s : Kept) (b : ℕ) (events : List (Applied ℕ)) (prepared : List ℕ
       let name : o.0.name ≡ lv = same_event o.0.name lv (sym o.2 ∙ node_same a.0.node (Event lv) a.2) in
       let source = (grown s b events prepared st).sources o.0 o.1 in
       false≢true (sym may.position ∙ any_from (λ (c : Applied ℕ). nat_eq c.name lv) events source.event source.there (eq-eqb source.event.name lv (source.name ∙ name))))
+
+  pub unrecorded : list_any (is_of (Event lv)) s.records ≡ false
+  unrecorded = false_from_ne_true (list_any (is_of (Event lv)) s.records) (λ h.
+      let k = found_by (is_of (Event lv)) s.records h in
+      let r = among_map kept records k.0 (subst (Among k.0) st.records k.1) in
+      let from : node_of ns r.0.node.id ≡ Event lv = sym (ap (λ (w : Stretch). w.from) r.2) ∙ node_same k.0.from (Event lv) k.2 in
+      ⊎_elim
+      (λ i. base_event i.0 lv (ap (λ (w : Inserted). node_of ns w.id) (sym i.2) ∙ from))
+      (λ n.
+      let name : n.0.name ≡ lv = same_event n.0.name lv (sym (own_event s b events prepared st n.0 r.0.node n.1 n.2) ∙ from) in
+      let source = (grown s b events prepared st).sources n.0 n.1 in
+      false≢true (sym may.position ∙ any_from (λ (c : Applied ℕ). nat_eq c.name lv) events source.event source.there (eq-eqb source.event.name lv (source.name ∙ name))))
+      (own_char s b events prepared st r.0 r.1))
 
   pub few : length s.records < 2 ^ 25
   few =
@@ -400,6 +412,7 @@ module _ (s : Kept) (b : ℕ) (events : List (Applied ℕ)) (prepared : List ℕ
         parent = f.there;
         unused = unused s b events prepared st lv x agent may;
         new = unattached s b events prepared st lv x agent may;
+        unrecorded = unrecorded s b events prepared st lv x agent may;
         last = f.last;
         room = few s b events prepared st lv x agent may;
       })

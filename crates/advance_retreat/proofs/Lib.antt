@@ -1,7 +1,7 @@
 pub mod Answering
 pub mod Applying
 pub mod BaseStates
-pub mod Characters
+pub mod CharLaws
 pub mod Children
 pub mod Cuts
 pub mod Deleting
@@ -10,6 +10,7 @@ pub mod Holding
 pub mod Inserting
 pub mod Keeping
 pub mod Lists
+pub mod Losses
 pub mod Moving
 pub mod Nodes
 pub mod RightChildren

@@ -34,7 +34,7 @@ lower_one ns e v r h = ap (λ c. cond c (changed Lower (kept_record ns r)) (kept
 
 -- a state with other records, and with its own changed at a node
 abbrev pub with_records : Kept → List Stretch → Kept
-with_records s rs = record { base = s.base; records = rs; attached = s.attached; targets = s.targets }
+with_records s rs = record { base = s.base; records = rs; attached = s.attached; targets = s.targets; lost = s.lost }
 
 abbrev pub changed_state : Kept → Node → Change → Kept
 changed_state s v change = with_records s (map (changed_at v change) s.records)

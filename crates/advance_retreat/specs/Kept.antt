@@ -13,12 +13,18 @@ use Rattle.advance_retreat.specs.declared.target.Target.{Target}
 use Rattle.advance_retreat.specs.declared.change.Change.{Change}
 use Rattle.advance_retreat.specs.declared.change.Change.TheVariants.{Raise, Lower, Strike}
 
--- the number of base characters, the records, the children of the tree's nodes, and the characters that events are about
+-- the number of base characters, the records, the children of the tree's nodes, the characters that events are about, and
+-- how many applies were refused for want of memory
 pub record Kept : Type 0 where
   pub base : ℕ
   pub records : List Stretch
   pub attached : List Attached
   pub targets : List Target
+  pub lost : ℕ
+
+-- the same but for the number of refused applies
+abbrev pub with_lost : Kept → ℕ → Kept
+with_lost s n = record { base = s.base; records = s.records; attached = s.attached; targets = s.targets; lost = n }
 
 -- the character is visible in what is prepared, and it is inserted there
 abbrev pub is_visible : Stretch → Bool

@@ -1,4 +1,5 @@
 pub mod Conditions
 pub mod Kept
+pub mod Refusals
 pub mod Spots
 pub mod Standing

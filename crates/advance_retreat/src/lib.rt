@@ -3,6 +3,7 @@
 #![tactic(auto)]
 
 mod change;
+mod characters;
 mod fault;
 mod records;
 mod spot;

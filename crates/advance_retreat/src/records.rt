@@ -3,12 +3,13 @@
 ghost use Rattle.std.specs.Prelude.{◌≡◌, ◌+◌, ◌≤◌, ◌<◌, ◌^◌, true, false, Some, None, length, take, drop, filter, find, slice_get, option_map, IfSome, IfNone, IfOk};
 ghost use Rattle.std.specs.List.{list_any};
 ghost use Rattle.walker_record.specs.Stretches.{Stretch};
-ghost use Rattle.advance_retreat.specs.Spots.{IsVisibleAt};
+ghost use Rattle.advance_retreat.specs.Spots.{IsVisibleAt, IsIndex, first_known};
 ghost use Rattle.advance_retreat.specs.Kept.{is_inserted, is_of, knows, visible_in, shown_in, base_records, deletion_by};
 
 use ew_model::NoMem;
 use ew_model::node::Node;
 use ew_model::text_op::TextOp;
+use fugue_place::Place;
 use std::alloc::Global;
 use walker_record::Record;
 
@@ -76,23 +77,22 @@ pub fn find_visible(records: &[Record], at: u32) -> Option<usize>
     None
 }
 
-/// The place of the first character, from a place on, that is inserted in what is prepared.
-pub fn find_known(records: &[Record], from: usize) -> Option<usize>
+/// The first character, from a place on, that is inserted in what is prepared.
+pub fn find_known(records: &[Record], from: usize) -> Option<Node>
     requires { from ≤ length records.now }
-    ensures some { IfSome result (λ k. (r : Stretch) × (slice_get records.now k ≡ Some r) × (find is_inserted (drop from records.now) ≡ Some r)) }
-    ensures none { IfNone result (find is_inserted (drop from records.now) ≡ None) }
+    ensures { result ≡ first_known (drop from records.now) }
 {
     for k in from..records.len() {
         let record = &records[k];
         if record.prepared > 0 {
-            return Some(k);
+            return Some(record.from);
         }
     }
     None
 }
 
 /// The place of a node.
-pub fn find_node(records: &[Record], node: Node) -> Option<usize>
+fn find_node(records: &[Record], node: Node) -> Option<usize>
     ensures some { IfSome result (λ k. (r : Stretch) × (slice_get records.now k ≡ Some r) × (r.from ≡ node)) }
     ensures none { IfNone result (list_any (is_of node) records.now ≡ false) }
 {
@@ -139,5 +139,22 @@ pub fn deletion_at(records: &[Record], place: usize) -> TextOp
         }
     } else {
         TextOp::Nothing
+    }
+}
+
+/// The place of a new record among the others.
+pub fn index_of(records: &[Record], place: Place) -> usize
+    ensures index { IsIndex records.now place result }
+    ensures within { result ≤ length records.now }
+{
+    match place {
+        Place::After(node) => match find_node(records, node) {
+            Some(k) => k + 1,
+            None => 0,
+        },
+        Place::Before(node) => match find_node(records, node) {
+            Some(k) => k,
+            None => 0,
+        },
     }
 }

@@ -7,16 +7,16 @@ ghost use Rattle.ew_model.specs.Places.Act.{InsertAs, DeleteAt};
 ghost use Rattle.ew_model.specs.Tree.{Applied, tree_of};
 ghost use Rattle.ew_model.specs.Records.{next_of, without, prepared_entries, applied_entries};
 ghost use Rattle.advance_retreat.specs.declared.fault.ApplyFault.TheVariants as apply;
+ghost use Rattle.advance_retreat.specs.Kept.{with_lost};
 ghost use Rattle.advance_retreat.specs.Standing.{most, StandsFor};
+ghost use Rattle.advance_retreat.specs.Refusals.{lost_after};
 ghost use Rattle.advance_retreat.specs.Conditions.{MayInsert, MayDelete, MayAdvanceTo, MayRetreatFrom, AllPrepared};
 ghost use Rattle.advance_retreat.specs.Spots.{MayHang, Puts};
 
-use crate::change::{Change, change_at};
+use crate::change::Change;
+use crate::characters::Characters;
 use crate::fault::ApplyFault;
-use crate::records::{
-    base_records, count_visible, deletion_at, effects_before, find_visible, node_at,
-};
-use crate::spot::{Hold, hold_of, index_of, left_of};
+use crate::spot::{Hold, hold_of};
 use crate::target::{Target, target_of};
 use ew_model::NoMem;
 use ew_model::id::Id;
@@ -27,7 +27,6 @@ use fugue_place::Siblings;
 use std::alloc::{AllocError, Global};
 use std::marker::Model;
 use std::sync::ledger::Ledger;
-use walker_record::Record;
 
 /// No base, history or text has more.
 const MOST: u32 = 1 << 24;
@@ -36,20 +35,18 @@ const MOST: u32 = 1 << 24;
 #[derive(Drop)]
 pub struct State {
     base: u32,
-    records: Vec<Record>,
+    characters: Characters,
     siblings: Siblings,
     targets: Vec<Target>,
+    lost: u32,
 }
 
 impl Model for State {
-    ghost use Rattle.std.specs.Prelude.{length, ◌≤◌, ◌^◌};
     ghost use Rattle.advance_retreat.specs.Kept.{Kept};
 
     ghost Value = { Kept };
 
-    ghost view = { λ s. record { base = s.base; records = s.records.items; attached = s.siblings; targets = s.targets.items } };
-
-    ghost invariant = { λ s. length s.records.items ≤ 2 ^ 25 };
+    ghost view = { λ s. record { base = s.base; records = s.characters; attached = s.siblings; targets = s.targets.items; lost = s.lost } };
 }
 
 impl State {
@@ -57,16 +54,18 @@ impl State {
     ///
     /// An error for want of memory, which is also the answer to a text of more than 2^24 characters.
     pub fn base(alloc: Global, len: u32) -> Result<State, NoMem>
-        ensures { IfOk result (λ s. StandsFor s len [] []) }
+        ensures stands { IfOk result (λ s. StandsFor s len [] []) }
+        ensures lost { IfOk result (λ s. s.lost ≡ 0) }
     {
         if len > MOST {
             return Err(AllocError);
         }
         Ok(State {
             base: len,
-            records: base_records(alloc, len)?,
+            characters: Characters::base(alloc, len)?,
             siblings: Siblings::new(alloc)?,
             targets: Vec::new(alloc),
+            lost: 0,
         })
     }
 
@@ -74,14 +73,21 @@ impl State {
     pub fn prepared_len(&self) -> u32
         ensures { (b : ℕ) (events : List (Applied ℕ)) (prepared : List ℕ) → StandsFor self.now b events prepared → result ≡ length (visible (prepared_entries b events prepared)) }
     {
-        count_visible(&self.records)
+        self.characters.visible()
     }
 
     /// How many characters the text of all applied events has.
     pub fn effect_len(&self) -> u32
         ensures { (b : ℕ) (events : List (Applied ℕ)) (prepared : List ℕ) → StandsFor self.now b events prepared → result ≡ length (visible (applied_entries b events)) }
     {
-        effects_before(&self.records, self.records.len())
+        self.characters.shown()
+    }
+
+    /// How many applies were refused for want of memory since the state was made or cleared. It stands still at 2^32 - 1.
+    pub fn lost(&self) -> u32
+        ensures { result ≡ self.now.lost }
+    {
+        self.lost
     }
 
     /// Whether the history may have one more event.
@@ -102,7 +108,8 @@ impl State {
     /// the text.
     ///
     /// `OutOfRange` where the index is greater than the length of the prepared text. Else `OutOfMemory` for want of memory, or
-    /// where the state holds 2^24 events or its text as many characters. After each of them the state is as it was before.
+    /// where the state holds 2^24 events or its text as many characters. After each of them the state is as it was before, but
+    /// that `lost` counts each `OutOfMemory`.
     pub fn apply_ins<L: Ledger>(
         &mut self,
         lv: u32,
@@ -115,13 +122,28 @@ impl State {
         ensures op { (b : ℕ) (events : List (Applied ℕ)) (prepared : List ℕ) → StandsFor self.old b events prepared → MayInsert events lv id → IfOk result (λ op. op ≡ next_operation nat_eq b (tree_of nat_eq b events) (next_of lv (InsertAs id at ch) prepared)) }
         ensures ok { (b : ℕ) (events : List (Applied ℕ)) (prepared : List ℕ) → StandsFor self.old b events prepared → MayInsert events lv id → OnOk result (StandsFor self.new b (events ++ next_of lv (InsertAs id at ch) prepared ∷ []) (lv ∷ prepared)) }
         ensures out_of_range { (b : ℕ) (events : List (Applied ℕ)) (prepared : List ℕ) → StandsFor self.old b events prepared → (len : ℕ) → (result ≡ Err (apply.OutOfRange len)) ↔ ((len ≡ length (visible (prepared_entries b events prepared))) × (len < at)) }
-        ensures err { OnErr result (self.new ≡ self.old) }
+        ensures err { OnErr result (self.new ≡ with_lost self.old self.new.lost) }
+        ensures lost { self.new.lost ≡ lost_after result self.old.lost }
         ensures steps { steps.new ≡ steps.old + 1 }
     {
         steps.tick();
+        let answer = self.insert(lv, id, at, ch);
+        self.note(&answer);
+        answer
+    }
+
+    /// The same, but that a want of memory isn't counted.
+    fn insert(&mut self, lv: u32, id: Id, at: u32, ch: char) -> Result<TextOp, ApplyFault>
+        requires { (b : ℕ) × (events : List (Applied ℕ)) × (prepared : List ℕ) × StandsFor self.old b events prepared × MayInsert events lv id }
+        ensures op { (b : ℕ) (events : List (Applied ℕ)) (prepared : List ℕ) → StandsFor self.old b events prepared → MayInsert events lv id → IfOk result (λ op. op ≡ next_operation nat_eq b (tree_of nat_eq b events) (next_of lv (InsertAs id at ch) prepared)) }
+        ensures ok { (b : ℕ) (events : List (Applied ℕ)) (prepared : List ℕ) → StandsFor self.old b events prepared → MayInsert events lv id → OnOk result (StandsFor self.new b (events ++ next_of lv (InsertAs id at ch) prepared ∷ []) (lv ∷ prepared)) }
+        ensures out_of_range { (b : ℕ) (events : List (Applied ℕ)) (prepared : List ℕ) → StandsFor self.old b events prepared → (len : ℕ) → (result ≡ Err (apply.OutOfRange len)) ↔ ((len ≡ length (visible (prepared_entries b events prepared))) × (len < at)) }
+        ensures err { OnErr result (self.new ≡ self.old) }
+        ensures lost { self.new.lost ≡ self.old.lost }
+    {
         // A name has at least one byte.
         let _agent = id.agent.as_slice();
-        let Some(left) = left_of(&self.records, at) else {
+        let Some(gap) = self.characters.gap_at(at) else {
             return Err(ApplyFault::OutOfRange {
                 len: self.prepared_len(),
             });
@@ -129,7 +151,7 @@ impl State {
         if !self.has_room_for_character() {
             return Err(ApplyFault::OutOfMemory);
         }
-        let hold = hold_of(self.base, &self.records, &self.siblings, left);
+        let hold = hold_of(self.base, &self.characters, &self.siblings, gap);
         let at = self.put(lv, id, hold)?;
         Ok(TextOp::Ins { at, ch })
     }
@@ -145,22 +167,14 @@ impl State {
             seq: id.seq,
         };
         let place = self.siblings.position(hold.parent, hold.side, own);
-        let index = index_of(&self.records, place);
-        let at = effects_before(&self.records, index);
-        let node = Node::Event(lv);
-        self.records.reserve(1)?;
         self.targets.reserve(1)?;
-        self.siblings.attach(hold.parent, hold.side, id, node)?;
-        let record = Record {
-            from: node,
-            len: 1,
-            prepared: 1,
-            effect: true,
-        };
-        let Ok(()) = self.records.insert(index, record) else {
-            unreachable!()
-        };
-        self.targets.push_reserved(Target { lv, node });
+        let at = self
+            .characters
+            .insert(&mut self.siblings, hold, id, lv, place)?;
+        self.targets.push_reserved(Target {
+            lv,
+            node: Node::Event(lv),
+        });
         Ok(at)
     }
 
@@ -168,7 +182,7 @@ impl State {
     /// the text.
     ///
     /// `OutOfRange` where the prepared text has no character at the index. Else `OutOfMemory` for want of memory, or where the
-    /// state holds 2^24 events. After each of them the state is as it was before.
+    /// state holds 2^24 events. After each of them the state is as it was before, but that `lost` counts each `OutOfMemory`.
     pub fn apply_del<L: Ledger>(
         &mut self,
         lv: u32,
@@ -179,11 +193,26 @@ impl State {
         ensures op { (b : ℕ) (events : List (Applied ℕ)) (prepared : List ℕ) → StandsFor self.old b events prepared → MayDelete events lv → IfOk result (λ op. op ≡ next_operation nat_eq b (tree_of nat_eq b events) (next_of lv (DeleteAt at) prepared)) }
         ensures ok { (b : ℕ) (events : List (Applied ℕ)) (prepared : List ℕ) → StandsFor self.old b events prepared → MayDelete events lv → OnOk result (StandsFor self.new b (events ++ next_of lv (DeleteAt at) prepared ∷ []) (lv ∷ prepared)) }
         ensures out_of_range { (b : ℕ) (events : List (Applied ℕ)) (prepared : List ℕ) → StandsFor self.old b events prepared → (len : ℕ) → (result ≡ Err (apply.OutOfRange len)) ↔ ((len ≡ length (visible (prepared_entries b events prepared))) × (len ≤ at)) }
-        ensures err { OnErr result (self.new ≡ self.old) }
+        ensures err { OnErr result (self.new ≡ with_lost self.old self.new.lost) }
+        ensures lost { self.new.lost ≡ lost_after result self.old.lost }
         ensures steps { steps.new ≡ steps.old + 1 }
     {
         steps.tick();
-        let Some(k) = find_visible(&self.records, at) else {
+        let answer = self.delete(lv, at);
+        self.note(&answer);
+        answer
+    }
+
+    /// The same, but that a want of memory isn't counted.
+    fn delete(&mut self, lv: u32, at: u32) -> Result<TextOp, ApplyFault>
+        requires { (b : ℕ) × (events : List (Applied ℕ)) × (prepared : List ℕ) × StandsFor self.old b events prepared × MayDelete events lv }
+        ensures op { (b : ℕ) (events : List (Applied ℕ)) (prepared : List ℕ) → StandsFor self.old b events prepared → MayDelete events lv → IfOk result (λ op. op ≡ next_operation nat_eq b (tree_of nat_eq b events) (next_of lv (DeleteAt at) prepared)) }
+        ensures ok { (b : ℕ) (events : List (Applied ℕ)) (prepared : List ℕ) → StandsFor self.old b events prepared → MayDelete events lv → OnOk result (StandsFor self.new b (events ++ next_of lv (DeleteAt at) prepared ∷ []) (lv ∷ prepared)) }
+        ensures out_of_range { (b : ℕ) (events : List (Applied ℕ)) (prepared : List ℕ) → StandsFor self.old b events prepared → (len : ℕ) → (result ≡ Err (apply.OutOfRange len)) ↔ ((len ≡ length (visible (prepared_entries b events prepared))) × (len ≤ at)) }
+        ensures err { OnErr result (self.new ≡ self.old) }
+        ensures lost { self.new.lost ≡ self.old.lost }
+    {
+        let Some(deletion) = self.characters.deletion_at(at) else {
             return Err(ApplyFault::OutOfRange {
                 len: self.prepared_len(),
             });
@@ -192,11 +221,21 @@ impl State {
             return Err(ApplyFault::OutOfMemory);
         }
         self.targets.reserve(1)?;
-        let op = deletion_at(&self.records, k);
-        let node = node_at(&self.records, k);
-        change_at(&mut self.records, node, Change::Strike);
-        self.targets.push_reserved(Target { lv, node });
-        Ok(op)
+        self.characters.change(deletion.node, Change::Strike)?;
+        self.targets.push_reserved(Target {
+            lv,
+            node: deletion.node,
+        });
+        Ok(deletion.op)
+    }
+
+    /// Counts a want of memory.
+    fn note(&mut self, answer: &Result<TextOp, ApplyFault>)
+        ensures { self.new ≡ with_lost self.old (lost_after answer.now self.old.lost) }
+    {
+        if let Err(ApplyFault::OutOfMemory) = answer {
+            self.lost = self.lost.saturating_add(1);
+        }
     }
 
     /// Puts an applied event into the prepared version.
@@ -204,11 +243,12 @@ impl State {
         requires { (b : ℕ) × (events : List (Applied ℕ)) × (prepared : List ℕ) × StandsFor self.old b events prepared × MayAdvanceTo events prepared lv }
         ensures ok { (b : ℕ) (events : List (Applied ℕ)) (prepared : List ℕ) → StandsFor self.old b events prepared → MayAdvanceTo events prepared lv → OnOk result (StandsFor self.new b events (lv ∷ prepared)) }
         ensures err { OnErr result (self.new ≡ self.old) }
+        ensures lost { self.new.lost ≡ self.old.lost }
         ensures steps { steps.new ≡ steps.old + 1 }
     {
         steps.tick();
         if let Some(node) = target_of(&self.targets, lv) {
-            change_at(&mut self.records, node, Change::Raise);
+            self.characters.change(node, Change::Raise)?;
         }
         Ok(())
     }
@@ -218,11 +258,12 @@ impl State {
         requires { (b : ℕ) × (events : List (Applied ℕ)) × (prepared : List ℕ) × StandsFor self.old b events prepared × MayRetreatFrom events prepared lv }
         ensures ok { (b : ℕ) (events : List (Applied ℕ)) (prepared : List ℕ) → StandsFor self.old b events prepared → MayRetreatFrom events prepared lv → OnOk result (StandsFor self.new b events (without lv prepared)) }
         ensures err { OnErr result (self.new ≡ self.old) }
+        ensures lost { self.new.lost ≡ self.old.lost }
         ensures steps { steps.new ≡ steps.old + 1 }
     {
         steps.tick();
         if let Some(node) = target_of(&self.targets, lv) {
-            change_at(&mut self.records, node, Change::Lower);
+            self.characters.change(node, Change::Lower)?;
         }
         Ok(())
     }
@@ -232,8 +273,9 @@ impl State {
         requires { (b : ℕ) × (events : List (Applied ℕ)) × (prepared : List ℕ) × StandsFor self.old b events prepared × AllPrepared events prepared }
         ensures ok { (b : ℕ) (events : List (Applied ℕ)) (prepared : List ℕ) → StandsFor self.old b events prepared → OnOk result (StandsFor self.new (length (visible (applied_entries b events))) [] []) }
         ensures err { OnErr result (self.new ≡ self.old) }
+        ensures lost { OnOk result (self.new.lost ≡ 0) }
     {
-        let alloc = *self.records.allocator();
+        let alloc = *self.targets.allocator();
         *self = State::base(alloc, self.effect_len())?;
         Ok(())
     }

@@ -52,6 +52,7 @@ fn answer<L: Ledger>(
     let (verb, rest) = first_word(asked);
     match verb {
         "lengths" => lengths(state, told),
+        "lost" => Ok(format!(in told.alloc(); "{}", state.lost())?),
         "base" => base(alloc, number(rest)?),
         "calls" => calls(state, told, rest, steps),
         _ => call(state, told, asked, steps),

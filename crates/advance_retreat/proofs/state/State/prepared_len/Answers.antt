@@ -4,4 +4,4 @@ use Rattle.advance_retreat.proofs.Keeping.{visible_told}
 use Rattle.advance_retreat.proofs.state.State.prepared_len.Goals as goal
 
 pub returns : goal.returns
-returns c = λ b events prepared st. c.count_visible.ensures ∙ ap visible_in c.deref.ensures.value ∙ ap (λ (s : Kept). visible_in s.records) c.self.view_is ∙ visible_told c.args.self.now b events prepared st
+returns c = λ b events prepared st. c.visible.ensures ∙ ap (λ (s : Kept). visible_in s.records) c.self.view_is ∙ visible_told c.args.self.now b events prepared st

@@ -1,0 +1,84 @@
+use Rattle.std.proofs.Common.{◌≡◌, ℕ, ◌<◌, List, length, Err, refl, sym, ap, ◌∙◌, subst, arith}
+use Rattle.std.proofs.lemmas.Result.{err_from_is_err_and}
+use Rattle.ew_model.specs.declared.text_op.TextOp.TheVariants.{Ins}
+use Rattle.ew_model.specs.Entries.{visible}
+use Rattle.ew_model.specs.Tree.{Applied}
+use Rattle.ew_model.specs.Records.{prepared_entries}
+use Rattle.fugue_place.proofs.PathLaws.{has_agent}
+use Rattle.advance_retreat.specs.declared.fault.ApplyFault.TheVariants.{OutOfMemory}
+use Rattle.advance_retreat.specs.declared.spot.Hold.{Hold}
+use Rattle.advance_retreat.specs.Kept.{Kept, visible_in}
+use Rattle.advance_retreat.specs.Spots.{Left, IsLeft, hold_of, Puts}
+use Rattle.advance_retreat.specs.Standing.{StandsFor}
+use Rattle.advance_retreat.specs.Conditions.{MayInsert}
+use Rattle.advance_retreat.proofs.Answering.{refused, not_refused, answered}
+use Rattle.advance_retreat.proofs.Keeping.{visible_told}
+use Rattle.advance_retreat.proofs.Room.{CanInsert, can_insert}
+use Rattle.advance_retreat.proofs.Inserting.{asked, left_in_range, inserted_by_put, insertion_done}
+use Rattle.advance_retreat.proofs.state.State.insert.Goals as goal
+use Rattle.advance_retreat.proofs.state.State.insert.Goals.{In_ok-at}
+
+pub returns-in_default-clause-out_of_range : goal.returns-in_default-clause-out_of_range
+returns-in_default-clause-out_of_range c = λ b events prepared st len.
+    let told = c.prepared_len.ensures b events prepared st in
+    let few : visible_in c.args.self.now.records < c.args.at = subst (λ (s : Kept). visible_in s.records < c.args.at) c.self.view_is c.in_default.ensures.none in
+    let past = subst (λ (n : ℕ). n < c.args.at) (visible_told c.args.self.now b events prepared st) few in
+    refused c.prepared_len.result (length (visible (prepared_entries b events prepared))) told (λ n. n < c.args.at) past len
+
+pub put-requires : goal.put-requires
+put-requires c =
+    let q = c.requires in
+    let now = c.args.self.now in
+    let gap = c.in-Some.ensures.some in
+    let left : IsLeft now.records c.args.at gap.left = subst (λ (s : Kept). IsLeft s.records c.args.at gap.left) c.self.view_is gap.here in
+    let hold : c.hold_of-hold.result ≡ hold_of now.base now.records now.attached gap.left =
+    c.hold_of-hold.ensures gap.left gap.node gap.next ∙ ap (λ (s : Kept). hold_of s.base s.records s.attached gap.left) c.self.view_is in
+    asked now q.0 q.1 q.2 q.3 c.args.at gap.left left c.args.lv c.args.id (has_agent c.args.id.agent c.as_slice-agent.ensures.name) (can_insert q.0 q.1 c.args.lv c.args.id q.4 (sym (c.has_room_for_character.ensures q.0 q.1 q.2 q.3) ∙ c.if-not-has_room_for_character.false)) c.hold_of-hold.result hold
+
+pub returns-then-not-has_room_for_character-clause-out_of_range : goal.returns-then-not-has_room_for_character-clause-out_of_range
+returns-then-not-has_room_for_character-clause-out_of_range c = λ b events prepared st len.
+    let gap = c.in-Some.ensures.some in
+    let left : IsLeft c.args.self.now.records c.args.at gap.left = subst (λ (s : Kept). IsLeft s.records c.args.at gap.left) c.self.view_is gap.here in
+    let within = left_in_range c.args.self.now b events prepared st c.args.at gap.left left c.args.lv c.args.id in
+    not_refused (Err OutOfMemory) refl len (length (visible (prepared_entries b events prepared))) (len < c.args.at) (λ e lt. omega (arith, e, lt, within))
+
+pub returns-in_err-at-clause-out_of_range : goal.returns-in_err-at-clause-out_of_range
+returns-in_err-at-clause-out_of_range c = λ b events prepared st len.
+    let gap = c.in-Some.ensures.some in
+    let left : IsLeft c.args.self.now.records c.args.at gap.left = subst (λ (s : Kept). IsLeft s.records c.args.at gap.left) c.self.view_is gap.here in
+    let within = left_in_range c.args.self.now b events prepared st c.args.at gap.left left c.args.lv c.args.id in
+    let p = err_from_is_err_and c.from_residual.result c.from_residual.ensures.1 in
+    not_refused c.from_residual.result (p.1 ∙ ap Err p.2) len (length (visible (prepared_entries b events prepared))) (len < c.args.at) (λ e lt. omega (arith, e, lt, within))
+
+abbrev left_of : In_ok-at → Left
+left_of c = c.in-Some.ensures.some.left
+
+found : (c : In_ok-at) → IsLeft c.args.self.now.records c.args.at (left_of c)
+found c = subst (λ (s : Kept). IsLeft s.records c.args.at (left_of c)) c.self.view_is c.in-Some.ensures.some.here
+
+puts : (c : In_ok-at) → let now = c.args.self.now in Puts now c.put.new.self c.args.lv c.args.id (hold_of now.base now.records now.attached (left_of c)) c.in_ok-at.at
+puts c =
+    let now = c.args.self.now in
+    let gap = c.in-Some.ensures.some in
+    let hold : c.hold_of-hold.result ≡ hold_of now.base now.records now.attached gap.left =
+    c.hold_of-hold.ensures gap.left gap.node gap.next ∙ ap (λ (s : Kept). hold_of s.base s.records s.attached gap.left) c.self.view_is in
+    subst (λ (h : Hold). Puts now c.put.new.self c.args.lv c.args.id h c.in_ok-at.at) hold c.in_ok-at.ensures.ok
+
+room : (c : In_ok-at) → (b : ℕ) (events : List (Applied ℕ)) (prepared : List ℕ) → StandsFor c.args.self.now b events prepared → MayInsert events c.args.lv c.args.id → CanInsert b events c.args.lv c.args.id
+room c b events prepared st may = can_insert b events c.args.lv c.args.id may (sym (c.has_room_for_character.ensures b events prepared st) ∙ c.if-not-has_room_for_character.false)
+
+pub returns-clause-op : goal.returns-clause-op
+returns-clause-op c = λ b events prepared st may.
+    sym (insertion_done c.args.self.now b events prepared st c.args.at (left_of c) (found c) c.args.lv c.args.id (has_agent c.args.id.agent c.as_slice-agent.ensures.name) (room c b events prepared st may) c.put.new.self c.in_ok-at.at c.args.ch (puts c))
+
+pub returns-clause-ok : goal.returns-clause-ok
+returns-clause-ok c = λ b events prepared st may.
+    inserted_by_put c.args.self.now b events prepared st c.args.at (left_of c) (found c) c.args.lv c.args.id (has_agent c.args.id.agent c.as_slice-agent.ensures.name) (room c b events prepared st may) c.put.new.self c.in_ok-at.at c.args.ch (puts c)
+
+pub returns-clause-out_of_range : goal.returns-clause-out_of_range
+returns-clause-out_of_range c = λ b events prepared st len.
+    let within = left_in_range c.args.self.now b events prepared st c.args.at (left_of c) (found c) c.args.lv c.args.id in
+    answered (Ins c.in_ok-at.at c.args.ch) len (length (visible (prepared_entries b events prepared))) (len < c.args.at) (λ e lt. omega (arith, e, lt, within))
+
+pub returns-clause-lost : goal.returns-clause-lost
+returns-clause-lost c = ap (λ (s : Kept). s.lost) c.in_ok-at.ensures.ok.after
