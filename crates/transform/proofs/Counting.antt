@@ -1,23 +1,26 @@
 -- How many touches a turn takes: one for each event in one of two versions alone, and one for the apply.
-use Rattle.std.proofs.Common.{◌≡◌, ℕ, ◌+◌, Bool, not, ◌⊎◌, inl, inr, ⊎_elim, List, [], ◌∷◌, ◌++◌, map, filter, length, refl, sym, ap, ◌∙◌, subst, arith}
+use Rattle.std.proofs.Common.{◌≡◌, ℕ, ◌+◌, ◌<◌, ◌≤◌, true, Bool, not, List, [], ◌∷◌, ◌++◌, map, filter, length, refl, sym, ap, ◌∙◌, subst, arith, length-append}
 use Rattle.std.proofs.lemmas.List.{length-map}
+use Rattle.std.proofs.lemmas.Map.Steps.{list_any_congr}
 use Rattle.ew_model.specs.declared.id.Id.{Id}
 use Rattle.ew_model.specs.declared.event.Event.{Event}
 use Rattle.ew_model.specs.Ids.{id_eq, is_among}
-use Rattle.ew_model.specs.Ancestors.{ids_of, ancestors}
+use Rattle.ew_model.specs.Ancestors.{ids_of, is_held, ancestors}
 use Rattle.ew_model.specs.Positions.{positions_in}
 use Rattle.ew_model.specs.Records.{holds}
 use Rattle.ew_model.specs.Touches.{number_outside, difference, touches}
 use Rattle.ew_model.specs.TouchLaws.{prepared_from}
-use Rattle.ew_model.proofs.CoverLaws.{ids_alike}
-use Rattle.ew_model.proofs.EntryLaws.{LaidOut}
+use Rattle.ew_model.proofs.CoverLaws.{ids_alike, event_of}
+use Rattle.ew_model.proofs.EntryLaws.{LaidOut, ancestors_held}
 use Rattle.ew_model.proofs.GraphAlike.{laid_distinct, version_filtered}
 use Rattle.ew_model.proofs.ListTests.{filter_alike, filter_mapped}
 use Rattle.ew_model.proofs.PositionNumbers.{numbered, numbered_events, positions_filtered, position_named}
 use Rattle.ew_model.proofs.SetLaws.{among_filter}
-use Rattle.ew_model.proofs.TouchSteps.{touches_add}
+use Rattle.ew_model.proofs.SortingLaws.{all_at}
+use Rattle.ew_model.proofs.LocalEdit.{KnowsAll}
+use Rattle.ew_model.proofs.TouchSteps.{no_difference, touches_add}
 use Rattle.transform.specs.Moving.{alone}
-use Rattle.transform.specs.Reaching.{prepared_behind}
+use Rattle.transform.specs.Reaching.{prepared_since, over_since}
 use Rattle.transform.proofs.Fronts.{prepared_ids}
 
 abbrev Numbered : Type 0
@@ -66,34 +69,49 @@ alone_count front version others laid =
     ∙ length-map (outside front (ancestors front version) others) (λ (z : Numbered). z.0)
     ∙ sym (outside_ids front version others laid)
 
--- a list is empty, or has a last event
-abbrev Ends : List Event → Type 0
-Ends xs = (xs ≡ []) ⊎ ((ys : List Event) × (e : Event) × (xs ≡ ys ++ e ∷ []))
+-- a list with an element has a last one
+split : (xs : List Event) → 0 < length xs → (ys : List Event) × (e : Event) × (xs ≡ ys ++ e ∷ [])
+split [] some = let no : ⊥ = omega (arith, some) in absurd no
+split (x ∷ []) some = ([], x, refl)
+split (x ∷ y ∷ xs) some = let more = split (y ∷ xs) (omega arith) in (x ∷ more.0, more.1, ap (λ zs. x ∷ zs) more.2)
 
-split : (xs : List Event) → Ends xs
-split [] = inl refl
-split (x ∷ xs) = inr (⊎_elim (λ none. ([], x, ap (λ zs. x ∷ zs) none)) (λ more. (x ∷ more.0, more.1, ap (λ zs. x ∷ zs) more.2)) (split xs))
+-- what is prepared behind some events is a version, wherever the walk began
+prepared_version : (front : List Event) (from : ℕ) → from < length front → (version : List Id) × (prepared_from front 0 ≡ ancestors front version) × (prepared_from front from ≡ ancestors front version)
+prepared_version front from some =
+    let last = split front (omega (arith, some)) in
+    let e = last.1 in
+    let low : from ≤ length last.0 = omega (arith, some, ap (length {A = Event}) last.2, length-append last.0 (e ∷ [])) in (
+      e.id ∷ [],
+      subst (λ (es : List Event). prepared_from es 0 ≡ ancestors es (e.id ∷ [])) (sym last.2) (prepared_ids last.0 0 e (omega arith)),
+      subst (λ (es : List Event). prepared_from es from ≡ ancestors es (e.id ∷ [])) (sym last.2) (prepared_ids last.0 from e low),
+    )
 
--- what is prepared is a version
-prepared_version : (front : List Event) → (version : List Id) × (prepared_from front 0 ≡ ancestors front version)
-prepared_version front = at front (split front)
-  where
-    at : (xs : List Event) → Ends xs → (version : List Id) × (prepared_from xs 0 ≡ ancestors xs version)
-    at xs ends =
-        ⊎_elim
-        (λ none. ([], subst (λ (es : List Event). prepared_from es 0 ≡ ancestors es []) (sym none) refl))
-        (λ more. (more.1.id ∷ [], subst (λ (es : List Event). prepared_from es 0 ≡ ancestors es (more.1.id ∷ [])) (sym more.2) (prepared_ids more.0 more.1)))
-        ends
-
--- The touches of one more event: the moves, and the apply.
-pub turn_touches : (front : List Event) (e : Event) → LaidOut [] front
-    → touches (front ++ e ∷ []) 0 ≡ touches front 0 + (length (alone (prepared_behind front) (positions_in front (ancestors front e.parents))) + length (alone (positions_in front (ancestors front e.parents)) (prepared_behind front)) + 1)
-turn_touches front e laid =
+-- The touches of one more event, behind others that were walked: the moves, and the apply.
+pub turn_touches : (front : List Event) (from : ℕ) (e : Event) → LaidOut [] front → from < length front
+    → touches (front ++ e ∷ []) from ≡ touches front from + (length (alone (prepared_since front 0) (over_since front 0 e)) + length (alone (over_since front 0 e) (prepared_since front 0)) + 1)
+turn_touches front from e laid some =
     let prepared = prepared_from front 0 in
     let over = ancestors front e.parents in
-    let whole : touches (front ++ e ∷ []) 0 ≡ touches front 0 + (1 + difference prepared over + 0) = touches_add.append front (e ∷ []) 0 (omega arith) in
-    let version = prepared_version front in
+    let version = prepared_version front from some in
+    let same : prepared_from front from ≡ prepared = version.2 ∙ sym version.1 in
+    let whole : touches (front ++ e ∷ []) from ≡ touches front from + (1 + difference (prepared_from front from) over + 0) = touches_add.append front (e ∷ []) from (omega (arith, some)) in
     let first : length (alone (positions_in front prepared) (positions_in front over)) ≡ number_outside over prepared =
     subst (λ (ids : List Id). length (alone (positions_in front ids) (positions_in front over)) ≡ number_outside over ids) (sym version.1) (alone_count front version.0 over laid) in
     let second : length (alone (positions_in front over) (positions_in front prepared)) ≡ number_outside prepared over = alone_count front e.parents prepared laid in
-    omega (arith, whole, first, second)
+    omega (arith, whole, ap (λ ids. difference ids over) same, first, second)
+
+-- who knows all events knows their ids
+pub all_held : (events : List Event) (ids : List Id) → KnowsAll events ids → (x : Id) → is_held events x ≡ true → is_among ids x ≡ true
+all_held events ids knows x h = let f = event_of events x h in list_any_congr ids_alike x f.0.id ids f.2 ∙ all_at (λ (g : Event). is_among ids g.id ≡ true) events f.0 knows f.1
+
+-- And of one that knows all, where all is prepared: the apply.
+pub touched_once : (front : List Event) (from : ℕ) (e : Event) → from ≤ length front → ((x : Id) → is_among (prepared_from front from) x ≡ is_held front x) → KnowsAll front (ancestors front e.parents)
+    → touches (front ++ e ∷ []) from ≡ touches front from + 1
+touched_once front from e low prepared knows =
+    let over = ancestors front e.parents in
+    let whole : touches (front ++ e ∷ []) from ≡ touches front from + (1 + difference (prepared_from front from) over + 0) = touches_add.append front (e ∷ []) from low in
+    let none : difference (prepared_from front from) over ≡ 0 =
+    no_difference (prepared_from front from) over
+    (λ x m. all_held front over knows x (sym (prepared x) ∙ m))
+    (λ x m. prepared x ∙ ancestors_held front e.parents x m) in
+    omega (arith, whole, none)

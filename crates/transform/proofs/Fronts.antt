@@ -1,5 +1,6 @@
 -- What the versions of a history know of its first events.
-use Rattle.std.proofs.Common.{◌≡◌, ℕ, zero, suc, ◌+◌, Bool, true, false, cond, ◌||◌, List, [], ◌∷◌, ◌++◌, length, refl, sym, ap, ◌∙◌, subst, arith, append_assoc, append-nil}
+use Rattle.std.proofs.Common.{◌≡◌, ℕ, zero, suc, ◌+◌, Bool, true, false, cond, ◌||◌, ◌≤◌, List, [], ◌∷◌, ◌++◌, length, take, drop, refl, sym, ap, ◌∙◌, subst, arith, append_assoc, append-nil}
+use Rattle.std.proofs.lemmas.List.{take-append-drop, take-append-le, drop-append-le, length-drop}
 use Rattle.std.proofs.lemmas.Bool.{false≢true, false_from_ne_true, or_left, or_parts}
 use Rattle.ew_model.specs.declared.id.Id.{Id}
 use Rattle.ew_model.specs.declared.event.Event.{Event}
@@ -15,7 +16,8 @@ use Rattle.ew_model.proofs.ClearingLaw.{laid_rest}
 use Rattle.ew_model.proofs.CoverLaws.{ids_alike}
 use Rattle.ew_model.proofs.SortingLaws.{all_from}
 use Rattle.ew_model.proofs.GraphOrder.{other_name}
-use Rattle.transform.specs.Reaching.{prepared_behind}
+use Rattle.transform.specs.Reaching.{prepared_since, over_since}
+use Rattle.transform.proofs.WalkedEvents.{unheld_later}
 use Rattle.ew_model.proofs.IndexLaw.{unheld}
 
 -- POSITIONS OF IDS
@@ -80,9 +82,12 @@ prepared_last : (before : List Event) (prepared : List Id) (front : List Event) 
 prepared_last before prepared [] e = ap (λ (w : List Event). ancestors (w ++ e ∷ []) (e.id ∷ [])) (sym (append-nil before))
 prepared_last before prepared (f ∷ front) e = prepared_last (before ++ f ∷ []) _ front e ∙ ap (λ (w : List Event). ancestors (w ++ e ∷ []) (e.id ∷ [])) (append_assoc before (f ∷ []) front)
 
--- behind an event, the ids prepared are those of its version
-pub prepared_ids : (front : List Event) (e : Event) → prepared_from (front ++ e ∷ []) 0 ≡ ancestors (front ++ e ∷ []) (e.id ∷ [])
-prepared_ids front e = prepared_last [] [] front e
+-- behind an event, the ids prepared are those of its version, wherever the walk began
+pub prepared_ids : (front : List Event) (from : ℕ) (e : Event) → from ≤ length front → prepared_from (front ++ e ∷ []) from ≡ ancestors (front ++ e ∷ []) (e.id ∷ [])
+prepared_ids front from e low =
+    (λ i. prepared_after (take-append-le from front (e ∷ []) low i) (ids_of (take-append-le from front (e ∷ []) low i)) (drop-append-le from front (e ∷ []) low i))
+    ∙ prepared_last (take from front) (ids_of (take from front)) (drop from front) e
+    ∙ ap (λ (w : List Event). ancestors (w ++ e ∷ []) (e.id ∷ [])) (take-append-drop from front)
 
 -- the version of the event behind the front: what it was made over, and itself
 own_version : (front : List Event) (e : Event) → is_held front e.id ≡ false → ancestors (front ++ e ∷ []) (e.id ∷ []) ≡ ancestors front e.parents ++ e.id ∷ []
@@ -113,18 +118,19 @@ positions_other ids x n (e ∷ events) h =
     let parts = or_parts (id_eq x e.id) (is_held events x) h in
     (λ i. cond (other_among ids x e.id (ids_alike.symm e.id x ∙ parts.0) i) (n ∷ positions_other ids x (suc n) events parts.1 i) (positions_other ids x (suc n) events parts.1 i))
 
--- What is prepared behind one more event: what it was made over, and itself.
-pub prepared_more : (front : List Event) (e : Event) → is_held front e.id ≡ false → prepared_behind (front ++ e ∷ []) ≡ positions_in front (ancestors front e.parents) ++ length front ∷ []
-prepared_more front e new =
-    let known = ancestors front e.parents in
-    ap (positions_in (front ++ e ∷ [])) (prepared_ids front e ∙ own_version front e new)
-    ∙ positions_last (known ++ e.id ∷ []) front e (among_more known e.id)
-    ∙ ap (λ ps. ps ++ length front ∷ []) (positions_other known e.id 0 front new)
+-- the ids prepared behind one more event: what it was made over, and its own
+pub prepared_next : (front : List Event) (from : ℕ) (e : Event) → from ≤ length front → is_held front e.id ≡ false → prepared_from (front ++ e ∷ []) from ≡ ancestors front e.parents ++ e.id ∷ []
+prepared_next front from e low new = prepared_ids front from e low ∙ own_version front e new
 
--- The version that is prepared behind the first n events: the last of them, if there is one.
-abbrev pub last_before : ℕ → List ℕ
-last_before zero = []
-last_before (suc n) = n ∷ []
+-- What is prepared from a cut on behind one more event: what it was made over, and itself.
+pub prepared_more : (front : List Event) (cut : ℕ) (e : Event) → cut ≤ length front → is_held front e.id ≡ false → prepared_since (front ++ e ∷ []) cut ≡ over_since front cut e ++ length front ∷ []
+prepared_more front cut e low new =
+    let known = ancestors front e.parents in
+    let between = drop cut front in
+    let place : cut + length between ≡ length front = omega (arith, low, length-drop cut front) in
+    (λ i. positions_among (prepared_next front 0 e (omega arith) new i) cut (drop-append-le cut front (e ∷ []) low i))
+    ∙ positions-append (known ++ e.id ∷ []) cut between (e ∷ [])
+    ∙ (λ i. positions_other known e.id cut between (unheld_later front cut e.id new) i ++ cond (among_more known e.id i) (place i ∷ []) [])
 
 -- no later event has the id of one before it
 unnamed_later : (before : List Event) (f : Event) (later : List Event) → NoneHeld (before ++ f ∷ []) later → NoneNamed later (f.id ∷ [])
@@ -140,20 +146,11 @@ last_position front f later new none =
 
 -- what is known of the last event behind a front is what is prepared there
 pub last_known : (front : List Event) (f : Event) (later : List Event) → LaidOut [] ((front ++ f ∷ []) ++ later) → AgreesByPositions ((front ++ f ∷ []) ++ later)
-    → known_positions (parent_positions ((front ++ f ∷ []) ++ later)) (length front ∷ []) ≡ prepared_behind (front ++ f ∷ [])
+    → known_positions (parent_positions ((front ++ f ∷ []) ++ later)) (length front ∷ []) ≡ prepared_since (front ++ f ∷ []) 0
 last_known front f later laid agree =
     let whole = (front ++ f ∷ []) ++ later in
     let behind : LaidOut front (f ∷ later) = laid_rest [] front (f ∷ later) (subst (LaidOut []) (append_assoc front (f ∷ []) later) laid) in
     let none : NoneNamed later (f.id ∷ []) = unnamed_later front f later (none_held (front ++ f ∷ []) later behind.2) in
     ap (known_positions (parent_positions whole)) (sym (last_position front f later behind.0 none))
     ∙ known_front (front ++ f ∷ []) later (f.id ∷ []) laid agree none
-    ∙ ap (positions_in (front ++ f ∷ [])) (sym (prepared_ids front f))
-
-nothing_named : (n : ℕ) (events : List Event) → positions_among [] n events ≡ []
-nothing_named n [] = refl
-nothing_named n (e ∷ events) = nothing_named (suc n) events
-
--- nothing is known where nothing is named
-pub none_prepared : (history : List Event) → LaidOut [] history → AgreesByPositions history → known_positions (parent_positions history) [] ≡ []
-none_prepared history laid agree =
-    ap (known_positions (parent_positions history)) (sym (nothing_named 0 history)) ∙ known_front [] history [] laid agree (all_from (λ (f : Event). is_among [] f.id ≡ false) history (λ f m. refl))
+    ∙ ap (positions_in (front ++ f ∷ [])) (sym (prepared_ids front 0 f (omega arith)))

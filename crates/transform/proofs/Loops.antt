@@ -1,56 +1,154 @@
 -- How a walk begins, goes on and ends.
-use Rattle.std.proofs.Common.{◌≡◌, ℕ, suc, ◌+◌, ◌<◌, ◌≤◌, nat_le, Bool, true, false, cond, List, [], ◌∷◌, ◌++◌, length, take, drop, Some, None, refl, sym, ap, ◌∙◌, subst, arith, length-append}
+use Rattle.std.proofs.Common.{◌≡◌, ℕ, zero, suc, ◌+◌, ◌-◌, ◌<◌, ◌≤◌, nat_eq, nat_lt, nat_le, Bool, true, false, cond, List, [], ◌∷◌, ◌++◌, length, take, drop, Option, Some, None, option_map, IfOk, Result, refl, sym, ap, ◌∙◌, subst, arith, length-append, append-nil, eq-eqb, ne_eqb}
 use Rattle.std.specs.Prelude.{slice_get}
-use Rattle.std.proofs.lemmas.Bool.{leb-true, leb-false}
-use Rattle.std.proofs.lemmas.List.{take-append-drop, drop-append-le, drop_all, take_all}
+use Rattle.std.proofs.lemmas.Bool.{leb-true, leb-false, ltb-true, ltb-false}
+use Rattle.std.proofs.lemmas.List.{take-append-drop, drop-append-le, drop_all, take_all, length-take-le}
 use Rattle.ew_model.specs.declared.event.Event.{Event}
 use Rattle.ew_model.specs.declared.text_op.TextOp.{TextOp}
+use Rattle.std.specs.List.{list_any}
+use Rattle.std.specs.Option.{is_some}
+use Rattle.ew_model.specs.Ids.{id_eq}
+use Rattle.ew_model.specs.Ancestors.{ids_of}
+use Rattle.ew_model.specs.Cuts.{is_critical, latest_cut}
+use Rattle.ew_model.specs.Entries.{visible}
 use Rattle.ew_model.specs.Operations.{operations_of, operations}
-use Rattle.ew_model.specs.Touches.{touches}
-use Rattle.ew_model.specs.Verdicts.{first_bad}
-use Rattle.ew_model.specs.Walks.{base_at, walked_from}
-use Rattle.ew_model.proofs.CutLaws.{start_critical}
+use Rattle.ew_model.specs.Records.{applied_entries, prepared_entries}
+use Rattle.ew_model.specs.Tree.{Applied as Given, based, tree_of}
+use Rattle.ew_model.specs.Sound.{AreSound}
+use Rattle.ew_model.specs.Touches.{touches, touches_after}
+use Rattle.ew_model.specs.TouchLaws.{prepared_after, prepared_from}
+use Rattle.ew_model.specs.Verdicts.{IsGood, first_bad, next_verdict}
+use Rattle.ew_model.specs.Verdicts.Ruling.{OutOfRange as Outside}
+use Rattle.ew_model.specs.Walks.{base_at, walked_after, walked_from}
+use Rattle.ew_model.proofs.BaseLaws.{base_long}
 use Rattle.ew_model.proofs.FirstBadLaws.{good_has_no_bad}
 use Rattle.ew_model.proofs.TouchSteps.{touches_add}
 use Rattle.advance_retreat.specs.Kept.{Kept}
 use Rattle.advance_retreat.specs.Standing.{StandsFor}
-use Rattle.transform.specs.Reaching.{Reached, Turned}
-use Rattle.transform.specs.Walking.{StandsBehind, bad_at}
+use Rattle.std.specs.declared.alloc.AllocError.{AllocError}
+use Rattle.event_graph.specs.Keeping.{IsAdmitted}
+use Rattle.event_graph.proofs.Summing.{known_ok}
+use Rattle.transform.specs.Reaching.{InLine, IsBehind, IsReadyAt, Reached, ReadyAt, StandsAt, Turned, TurnedTo, WalkedTo, over_since, prepared_since}
+use Rattle.transform.specs.Walking.{StandsBehind, bad_at, cut_left}
 use Rattle.transform.specs.declared.apply.Turn.{Turn}
 use Rattle.transform.specs.declared.apply.Turn.TheVariants.{Applied, OutOfRange}
+use Rattle.transform.proofs.Applies.{ready, same_length}
+use Rattle.transform.proofs.CutFronts.{same_base}
 use Rattle.transform.proofs.Judging.{first_bad_is}
+use Rattle.transform.proofs.Lines.{fresh, touched_alone, whole_text}
 use Rattle.transform.proofs.Sides.{split_at, take_next, length_front}
-use Rattle.transform.proofs.Steps.{base_is_none, no_event_is_good}
 use Rattle.ew_model.proofs.ListParts.{element_there}
 use Rattle.ew_model.proofs.TextLengths.{length_operations}
 
+-- CUTS
+-- a place that is critical is the latest cut up to itself
+pub latest_here : (history : List Event) (n : ℕ) → is_critical history n ≡ true → latest_cut history n ≡ n
+latest_here history zero h = refl
+latest_here history (suc n) h = ap (λ b. cond b (suc n) (latest_cut history n)) h
+
+-- and one that isn't changes nothing
+pub latest_before : (history : List Event) (n : ℕ) → 0 < n → is_critical history n ≡ false → latest_cut history n ≡ latest_cut history (n - 1)
+latest_before history zero some h = let no : ⊥ = omega (arith, some) in absurd no
+latest_before history (suc n) some h = let less : n ≡ suc n - 1 = omega arith in ap (λ b. cond b (suc n) (latest_cut history n)) h ∙ ap (latest_cut history) less
+
 -- THE BEGINNING
-pub starts : (history : List Event) (cut : ℕ) (state : Kept) → cut ≡ 0 → StandsFor state (base_at history cut) [] [] → Reached (take cut history) state
-starts history cut state none stands =
-    subst (λ n. Reached (take n history) state) (sym none) (record {
-      good = no_event_is_good;
-      sound = tt;
-      stands = subst (λ b. StandsFor state b [] []) (ap (base_at history) none ∙ base_is_none history) stands;
+-- all is prepared where a walk begins
+all_prepared : (history : List Event) (n : ℕ) → n ≤ length history → prepared_from (take n history) n ≡ ids_of (take n history)
+all_prepared history n within =
+    let front = take n history in
+    let long : length front ≤ n = omega (arith, length-take-le n history within) in
+    (λ i. prepared_after (take_all n front long i) (ids_of (take_all n front long i)) (drop_all n front long i))
+
+pub starts : (history : List Event) (cut len : ℕ) (state : Kept) → cut ≤ length history → is_critical history cut ≡ true → IsGood (take cut history) → StandsFor state (base_at history cut) [] [] → len ≡ base_at history cut → WalkedTo history cut cut (Some len) state
+starts history cut len state within critical good stands is = record {
+  behind = record { low = omega arith; critical = critical; good = good };
+  long = is;
+  prepared = λ x. ap (λ ids. list_any (id_eq x) ids) (all_prepared history cut within);
+  begins = λ same. stands;
+  goes_on = λ behind. let no : ⊥ = omega (arith, behind) in absurd no;
+}
+
+base_alone : (b : ℕ) → applied_entries b [] ≡ based b
+unfolding tree_of
+base_alone b = append-nil (based b)
+
+-- the length of a fresh state's text
+pub base_length : (history : List Event) (cut : ℕ) (state : Kept) (len : ℕ) → StandsFor state (base_at history cut) [] []
+    → ((b : ℕ) (events : List (Given ℕ)) (prepared : List ℕ) → StandsFor state b events prepared → len ≡ length (visible (applied_entries b events))) → len ≡ base_at history cut
+base_length history cut state len stands told = told (base_at history cut) [] [] stands ∙ ap (λ es. length (visible es)) (base_alone (base_at history cut)) ∙ base_long (base_at history cut)
+
+pub starts_empty : (history : List Event) (cut n : ℕ) (ops : List TextOp) → cut ≤ length history → cut ≤ n → ops ≡ [] → ops ≡ drop n (operations (take cut history))
+starts_empty history cut n ops within low empty = empty ∙ sym (drop_all n (operations (take cut history)) (omega (arith, length_operations (take cut history), length-take-le cut history within, low)))
+
+pub starts_untouched : (history : List Event) (cut steps : ℕ) → cut ≤ length history → steps ≡ steps + touches (take cut history) cut
+unfolding touches
+starts_untouched history cut steps within =
+    let front = take cut history in
+    let none : drop cut front ≡ [] = drop_all cut front (omega (arith, length-take-le cut history within)) in
+    omega (arith, ap (λ (es : List Event). touches_after (take cut front) (ids_of (take cut front)) es) none)
+
+-- ONE TURN
+-- what an apply answers, in the whole history
+pub turned_to : (history : List Event) (from cut n : ℕ) (e : Event) (state : Kept) (turn : Turn) → from ≤ n → IsBehind history cut n → cut ≡ latest_cut history n → slice_get history n ≡ Some e → Turned (take n history) cut e state turn → TurnedTo history from n None state turn
+turned_to history from cut n e state (Applied op) low behind is at t =
+    let next = take_next history n e at in
+    let latest : cut ≡ latest_cut history (n + 1 - 1) = let same : n ≡ n + 1 - 1 = omega arith in is ∙ ap (latest_cut history) same in
+    let reached : Reached history cut (n + 1) state = record {
+      some = omega (arith, behind.low);
+      behind = record { low = omega (arith, behind.low); critical = behind.critical; good = subst IsGood (sym next) t.0 };
+      stands = subst (λ b. StandsFor state b (walked_from (take (n + 1) history) cut) (prepared_since (take (n + 1) history) cut)) (same_base history cut n behind.low)
+          (subst (λ (es : List Event). StandsFor state (base_at (take n history) cut) (walked_from es cut) (prepared_since es cut)) (sym next) t.1);
+    } in (
+      (omega (arith, low), subst (λ c. Reached history c (n + 1) state) latest reached),
+      ap operations next ∙ t.2,
+    )
+turned_to history from cut n e state (OutOfRange len) low behind is at t = (
+  λ f there. let same : e ≡ f = cc in subst (λ (g : Event). next_verdict (take n history) g ≡ Outside len) same t.0,
+  (
+    t.1.0,
+    subst (λ c. StandsFor state (base_at history c) (walked_from (take n history) c) t.1.0) is
+        (subst (λ b. StandsFor state b (walked_from (take n history) cut) t.1.0) (same_base history cut n behind.low) t.1.1),
+  ),
+)
+
+-- in line all is ready
+pub ready_in_line : (history : List Event) (from n : ℕ) (line : Option ℕ) (state : Kept) → is_some line ≡ true → WalkedTo history from n line state → ReadyAt history n line state
+ready_in_line history from n (Some len) state some h = (h.behind, h.long)
+ready_in_line history from n None state some h = let no : ⊥ = cc in absurd no
+
+pub steps_in_line : (history : List Event) (from n : ℕ) (line : Option ℕ) (e : Event) (state : Kept) → IsAdmitted history → slice_get history n ≡ Some e → is_some line ≡ true → from ≤ n → WalkedTo history from n line state → touches (take (n + 1) history) from ≡ touches (take n history) from + 1
+steps_in_line history from n (Some len) e state admitted at some low h = touched_alone history n e admitted at h.behind.critical from low h.prepared
+steps_in_line history from n None e state admitted at some low h = let no : ⊥ = cc in absurd no
+
+-- else the state is kept
+pub not_in_line : (history : List Event) (from n : ℕ) (line : Option ℕ) (state : Kept) → is_some line ≡ false → WalkedTo history from n line state → WalkedTo history from n None state
+not_in_line history from n (Some len) state none h = let no : ⊥ = cc in absurd no
+not_in_line history from n None state none h = h
+
+-- where the moves led
+pub ready_between : (history : List Event) (n : ℕ) (e : Event) (state later : Kept) → slice_get history n ≡ Some e → is_critical history n ≡ false → Reached history (latest_cut history (n - 1)) n state
+    → StandsAt history (latest_cut history (n - 1)) n (over_since (take n history) (latest_cut history (n - 1)) e) later → ReadyAt history n None later
+ready_between history n e state later at plain reached stands =
+    subst (λ c. IsReadyAt history c n later) (sym (latest_before history n (omega (arith, reached.some)) plain))
+    (record {
+      behind = reached.behind;
+      stands = λ f there. let same : e ≡ f = cc in subst (λ (g : Event). StandsAt history (latest_cut history (n - 1)) n (over_since (take n history) (latest_cut history (n - 1)) g) later) same stands;
     })
 
-no_operations : operations [] ≡ []
-unfolding operations operations_of
-no_operations = refl
+pub ready_at_cut : (history : List Event) (cut n len : ℕ) (e : Event) (state later : Kept) → IsAdmitted history → AreSound history → slice_get history n ≡ Some e → is_critical history n ≡ true → Reached history cut n state
+    → StandsAt history cut n (over_since (take n history) cut e) later → len ≡ length (visible (prepared_entries (base_at history cut) (walked_from (take n history) cut) (over_since (take n history) cut e))) → ReadyAt history n (Some len) later
+ready_at_cut history cut n len e state later admitted sound at critical reached stands is =
+    let front = take n history in
+    let here : IsReadyAt history cut n later = record {
+      behind = reached.behind;
+      stands = λ f there. let same : e ≡ f = cc in subst (λ (g : Event). StandsAt history cut n (over_since front cut g) later) same stands;
+    } in (
+      record { low = omega arith; critical = critical; good = reached.behind.good },
+      is ∙ ap (λ b. length (visible (prepared_entries b (walked_from front cut) (over_since front cut e)))) (sym (same_base history cut n reached.behind.low))
+          ∙ same_length front cut e later (ready history cut n e later admitted sound at here)
+          ∙ ap (length {A = ℕ}) (whole_text history n e admitted at critical),
+    )
 
-no_touches : touches [] 0 ≡ 0
-unfolding touches
-no_touches = refl
-
-nothing_dropped : (n : ℕ) → [] ≡ drop n (operations [])
-nothing_dropped n = sym (ap (drop n) no_operations ∙ drop_all n [] (omega arith))
-
-pub starts_empty : (history : List Event) (cut n : ℕ) (ops : List TextOp) → cut ≡ 0 → ops ≡ [] → ops ≡ drop n (operations (take cut history))
-starts_empty history cut n ops none empty = empty ∙ nothing_dropped n ∙ ap (λ k. drop n (operations (take k history))) (sym none)
-
-pub starts_untouched : (history : List Event) (cut steps : ℕ) → cut ≡ 0 → steps ≡ steps + touches (take cut history) 0
-starts_untouched history cut steps none = omega (arith, ap (λ k. touches (take k history) 0) none ∙ no_touches)
-
--- THE OPERATIONS
 -- THE OPERATIONS
 emitted_by : (n : ℕ) (xs : List TextOp) (op : TextOp) (b : Bool) → nat_le n (length xs) ≡ b → cond b (drop n xs ++ op ∷ []) (drop n xs) ≡ drop n (xs ++ op ∷ [])
 emitted_by n xs op true q = sym (drop-append-le n xs (op ∷ []) (leb-true n (length xs) q))
@@ -59,55 +157,93 @@ emitted_by n xs op false q =
     drop_all n xs (omega (arith, far)) ∙ sym (drop_all n (xs ++ op ∷ []) (omega (arith, far, length-append xs (op ∷ []))))
 
 -- an operation is handed out where it is asked for
-pub emitted : (history : List Event) (lv n : ℕ) (e : Event) (old new : List TextOp) (op : TextOp) → slice_get history lv ≡ Some e → operations (take lv history ++ e ∷ []) ≡ operations (take lv history) ++ op ∷ []
+pub emitted : (history : List Event) (lv n : ℕ) (old new : List TextOp) (op : TextOp) → lv ≤ length history → operations (take (lv + 1) history) ≡ operations (take lv history) ++ op ∷ []
     → old ≡ drop n (operations (take lv history)) → new ≡ cond (nat_le n lv) (old ++ op ∷ []) old → new ≡ drop n (operations (take (lv + 1) history))
-emitted history lv n e old new op at more before after =
+emitted history lv n old new op within more before after =
     let front = take lv history in
-    let long : lv ≡ length (operations front) = sym (length_operations front ∙ length_front history lv e at) in
+    let long : lv ≡ length (operations front) = sym (length_operations front ∙ length-take-le lv history within) in
     after
     ∙ (λ i. cond (nat_le n (long i)) (before i ++ op ∷ []) (before i))
     ∙ emitted_by n (operations front) op (nat_le n (length (operations front))) refl
     ∙ ap (drop n) (sym more)
-    ∙ ap (λ es. drop n (operations es)) (sym (take_next history lv e at))
 
 -- one more event was walked
-pub goes_on : (history : List Event) (lv : ℕ) (state : Kept) (turn : Turn) (op : TextOp) → lv < length history → turn ≡ Applied op → ((e : Event) → slice_get history lv ≡ Some e → Turned (take lv history) e state turn)
-    → (e : Event) × (slice_get history lv ≡ Some e) × Reached (take (lv + 1) history) state × (operations (take lv history ++ e ∷ []) ≡ operations (take lv history) ++ op ∷ [])
-goes_on history lv state turn op within is turned =
-    let found = element_there history lv within in
-    let done = subst (Turned (take lv history) found.0 state) is (turned found.0 found.1) in
-    (found.0, found.1, subst (λ es. Reached es state) (sym (take_next history lv found.0 found.1)) done.0, done.1)
+pub goes_on : (history : List Event) (from lv : ℕ) (line : Option ℕ) (state : Kept) (turn : Turn) (op : TextOp) → turn ≡ Applied op → TurnedTo history from lv line state turn
+    → WalkedTo history from (lv + 1) line state × (operations (take (lv + 1) history) ≡ operations (take lv history) ++ op ∷ [])
+goes_on history from lv line state turn op is turned = subst (TurnedTo history from lv line state) is turned
 
 -- THE END
-stands_behind : (history front : List Event) (prepared : List ℕ) (state : Kept) → StandsFor state 0 (walked_from front 0) prepared → StandsBehind history front state
-stands_behind history front prepared state stands = record {
-  cut = 0;
-  prepared = prepared;
-  within = omega arith;
-  critical = start_critical history;
-  stands = subst (λ b. StandsFor state b (walked_from front 0) prepared) (sym (base_is_none history)) stands;
-}
+good_to : (history : List Event) (from n : ℕ) (line : Option ℕ) (state : Kept) → WalkedTo history from n line state → IsGood (take n history)
+good_to history from n (Some len) state h = h.behind.good
+good_to history from n None state h = h.1.behind.good
 
-pub stops : (history : List Event) (lv : ℕ) (old state : Kept) (turn : Turn) (len : ℕ) → lv < length history → turn ≡ OutOfRange len → Reached (take lv history) old → ((e : Event) → slice_get history lv ≡ Some e → Turned (take lv history) e state turn)
-    → (Some (bad_at (lv, len)) ≡ first_bad history) × StandsBehind history (take lv history) state
-stops history lv old state turn len within is reached turned =
-    let front = take lv history in
+pub stops : (history : List Event) (from lv : ℕ) (line after : Option ℕ) (old state : Kept) (turn : Turn) (len : ℕ) → lv < length history → turn ≡ OutOfRange len → WalkedTo history from lv line old → TurnedTo history from lv after state turn
+    → (Some (bad_at (lv, len)) ≡ first_bad history) × StandsBehind history (cut_left history from (Some (lv, len))) (take lv history) state
+stops history from lv line after old state turn len within is walked turned =
     let found = element_there history lv within in
     let e = found.0 in
-    let done = subst (Turned front e state) is (turned e found.1) in
-    let later = drop (suc lv) history in (
-      sym (ap first_bad (split_at history lv e found.1) ∙ first_bad_is front e later len reached.good done.0 ∙ ap (λ n. Some (bad_at (n, len))) (length_front history lv e found.1)),
-      stands_behind history front done.1.0 state done.1.1,
+    let done = subst (TurnedTo history from lv after state) is turned in (
+      sym (ap first_bad (split_at history lv e found.1) ∙ first_bad_is (take lv history) e (drop (suc lv) history) len (good_to history from lv line old walked) (done.0 e found.1) ∙ ap (λ n. Some (bad_at (n, len))) (length_front history lv e found.1)),
+      record { prepared = done.1.0; stands = done.1.1 },
     )
 
-pub ends : (history : List Event) (lv : ℕ) (state : Kept) → length history ≤ lv → Reached (take lv history) state → (None ≡ first_bad history) × StandsBehind history history state
-ends history lv state all reached =
-    let whole : take lv history ≡ history = take_all lv history all in
-    let done : Reached history state = subst (λ es. Reached es state) whole reached in
-    (sym ((good_has_no_bad history).0 done.good), stands_behind history history _ state done.stands)
+pub ends : (history : List Event) (from lv : ℕ) (line : Option ℕ) (state : Kept) → from ≤ lv → length history ≡ lv → WalkedTo history from lv line state → (None ≡ first_bad history) × StandsBehind history (cut_left history from None) history state
+ends history from lv line state low all walked =
+    let whole : take lv history ≡ history = take_all lv history (omega (arith, all)) in (
+      sym ((good_has_no_bad history).0 (subst IsGood whole (good_to history from lv line state walked))),
+      left line walked,
+    )
+  where
+    -- a state that was kept
+    kept : (b : Bool) → nat_eq from (length history) ≡ b → (from < length history → b ≡ false) → from < lv → Reached history (latest_cut history (lv - 1)) lv state → StandsBehind history (cond b from (latest_cut history (length history - 1))) history state
+    kept b q other some reached =
+        let same : latest_cut history (lv - 1) ≡ cond b from (latest_cut history (length history - 1)) =
+        (λ i. latest_cut history (sym all i - 1)) ∙ ap (λ c. cond c from (latest_cut history (length history - 1))) (sym (other (omega (arith, some, all)))) in
+        subst (λ c. StandsBehind history c history state) same (record {
+          prepared = prepared_since (take lv history) (latest_cut history (lv - 1));
+          stands = subst (λ (es : List Event). StandsFor state (base_at history (latest_cut history (lv - 1))) (walked_from es (latest_cut history (lv - 1))) (prepared_since (take lv history) (latest_cut history (lv - 1)))) (take_all lv history (omega (arith, all))) reached.stands;
+        })
+
+    -- no event was walked
+    begun : (b : Bool) → nat_eq from (length history) ≡ b → (from ≡ length history → b ≡ true) → from ≡ lv → StandsFor state (base_at history lv) [] [] → StandsBehind history (cond b from (latest_cut history (length history - 1))) history state
+    begun b q other same stands =
+        let cut : lv ≡ cond b from (latest_cut history (length history - 1)) = sym same ∙ ap (λ c. cond c from (latest_cut history (length history - 1))) (sym (other (same ∙ sym all))) in
+        let none : drop lv history ≡ [] = drop_all lv history (omega (arith, all)) in
+        subst (λ c. StandsBehind history c history state) cut (record {
+          prepared = [];
+          stands = subst (λ (es : List Event). StandsFor state (base_at history lv) (walked_after lv (take lv history) [] es) []) (sym none) stands;
+        })
+
+    left : (line : Option ℕ) → WalkedTo history from lv line state → StandsBehind history (cut_left history from None) history state
+    left (Some len) h =
+        let last : from ≡ lv = at_start h in
+        begun (nat_eq from (length history)) refl (λ same. eq-eqb from (length history) same) last (h.begins (sym last))
+      where
+        at_start : InLine history from lv len state → from ≡ lv
+        at_start h = at (nat_lt from lv) refl
+          where
+            at : (b : Bool) → nat_lt from lv ≡ b → from ≡ lv
+            at true q = let more = h.goes_on (ltb-true from lv q) in let no : ⊥ = omega (arith, more, all) in absurd no
+            at false q = let high = ltb-false from lv q in omega (arith, low, high)
+    left None h = kept (nat_eq from (length history)) refl (λ some. ne_eqb from (length history) (λ same. omega (arith, some, same))) h.0 h.1
 
 -- no front is touched more than the whole
-pub touched : (history : List Event) (k cut : ℕ) → cut ≡ 0 → touches (take k history) 0 ≤ touches history cut
-touched history k cut none =
-    let grown = touches_add.grow (take k history) (drop k history) 0 in
-    omega (arith, grown, ap (λ (es : List Event). touches es 0) (take-append-drop k history), ap (touches history) none)
+pub touched : (history : List Event) (k cut : ℕ) → touches (take k history) cut ≤ touches history cut
+touched history k cut =
+    let grown = touches_add.grow (take k history) (drop k history) cut in
+    omega (arith, grown, ap (λ (es : List Event). touches es cut) (take-append-drop k history))
+
+-- THE TURNS
+-- of an event between cuts
+pub turned_between : (history : List Event) (from n : ℕ) (state later : Kept) (answer : Result Turn AllocError) → n < length history → from ≤ n → ReadyAt history n None state
+    → ((cut : ℕ) (e : Event) → IsReadyAt history cut n state → slice_get history n ≡ Some e → IfOk answer (Turned (take n history) cut e later)) → IfOk answer (TurnedTo history from n None later)
+turned_between history from n state later answer within low is_ready turned =
+    let found = element_there history n within in
+    let cut = latest_cut history n in
+    known_ok (Turned (take n history) cut found.0 later) answer (TurnedTo history from n None later) (λ turn t. turned_to history from cut n found.0 later turn low is_ready.behind refl found.1 t) (turned cut found.0 is_ready found.1)
+
+-- and of one at a cut
+pub turned_at_cut : (history : List Event) (from n len : ℕ) (state later : Kept) (answer : Result Turn AllocError) → n < length history → from ≤ n → IsBehind history n n → len ≡ base_at history n → StandsFor state len [] []
+    → ((cut : ℕ) (e : Event) → IsReadyAt history cut n state → slice_get history n ≡ Some e → IfOk answer (Turned (take n history) cut e later)) → IfOk answer (TurnedTo history from n None later)
+turned_at_cut history from n len state later answer within low behind is stands turned =
+    turned_between history from n state later answer within low (subst (λ c. IsReadyAt history c n state) (sym (latest_here history n behind.critical)) (fresh history n len state (omega (arith, within)) behind is stands)) turned

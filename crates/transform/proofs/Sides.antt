@@ -8,8 +8,8 @@ use Rattle.ew_model.proofs.EntryLaws.{LaidOut}
 use Rattle.event_graph.specs.Keeping.{IsAdmitted}
 use Rattle.event_graph.proofs.Admitted.{agrees, laid}
 use Rattle.transform.specs.Moving.{alone}
-use Rattle.transform.specs.Reaching.{prepared_behind, over_of}
-use Rattle.transform.proofs.Fronts.{last_before, last_known, none_prepared, over_known}
+use Rattle.transform.specs.Reaching.{prepared_since, over_since}
+use Rattle.transform.proofs.Fronts.{last_known, over_known}
 use Rattle.ew_model.proofs.ListParts.{element_there}
 
 pub split_at : (history : List Event) (n : ℕ) (e : Event) → slice_get history n ≡ Some e → history ≡ take n history ++ e ∷ drop (suc n) history
@@ -36,7 +36,7 @@ parents_there f (g ∷ history) zero e h = let here : g ≡ e = cc in ap f here
 parents_there f (g ∷ history) (suc n) e h = parents_there f history n e h
 
 -- what the parents of the event know
-known_over : (history : List Event) (n : ℕ) (e : Event) → IsAdmitted history → slice_get history n ≡ Some e → known_positions (parent_positions history) (parents_at (parent_positions history) n) ≡ over_of (take n history) e
+known_over : (history : List Event) (n : ℕ) (e : Event) → IsAdmitted history → slice_get history n ≡ Some e → known_positions (parent_positions history) (parents_at (parent_positions history) n) ≡ over_since (take n history) 0 e
 known_over history n e admitted at =
     let front = take n history in
     let later = drop (suc n) history in
@@ -46,24 +46,23 @@ known_over history n e admitted at =
     ∙ over_known front e later (subst (LaidOut []) split (laid history admitted)) (subst AgreesByPositions split (agrees history admitted))
 
 -- what the last event before the place knows
-known_last : (history : List Event) (n : ℕ) → IsAdmitted history → n < length history → known_positions (parent_positions history) (last_before n) ≡ prepared_behind (take n history)
-known_last history zero admitted h = none_prepared history (laid history admitted) (agrees history admitted)
-known_last history (suc n) admitted h =
-    let last = element_there history n (omega (arith, h)) in
-    let front = take n history in
-    let later = drop (suc n) history in
-    let split : history ≡ (front ++ last.0 ∷ []) ++ later = split_at history n last.0 last.1 ∙ sym (append_assoc front (last.0 ∷ []) later) in
-    let one : n + 1 ≡ suc n = omega arith in
-    ap (λ (m : ℕ). known_positions (parent_positions history) (m ∷ [])) (sym (length_front history n last.0 last.1))
+known_last : (history : List Event) (n last : ℕ) → IsAdmitted history → last + 1 ≡ n → n < length history → known_positions (parent_positions history) (last ∷ []) ≡ prepared_since (take n history) 0
+known_last history n last admitted next h =
+    let found = element_there history last (omega (arith, next, h)) in
+    let f = found.0 in
+    let front = take last history in
+    let later = drop (suc last) history in
+    let split : history ≡ (front ++ f ∷ []) ++ later = split_at history last f found.1 ∙ sym (append_assoc front (f ∷ []) later) in
+    ap (λ (m : ℕ). known_positions (parent_positions history) (m ∷ [])) (sym (length_front history last f found.1))
     ∙ ap (λ (h : List Event). known_positions (parent_positions h) (length front ∷ [])) split
-    ∙ last_known front last.0 later (subst (LaidOut []) split (laid history admitted)) (subst AgreesByPositions split (agrees history admitted))
-    ∙ ap prepared_behind (sym (take_next history n last.0 last.1) ∙ ap (λ k. take k history) one)
+    ∙ last_known front f later (subst (LaidOut []) split (laid history admitted)) (subst AgreesByPositions split (agrees history admitted))
+    ∙ ap (λ (es : List Event). prepared_since es 0) (sym (take_next history last f found.1) ∙ ap (λ k. take k history) next)
 
 -- The two differences.
-pub out_is : (history : List Event) (n : ℕ) (e : Event) → IsAdmitted history → n < length history → slice_get history n ≡ Some e
-    → known_alone (parent_positions history) (last_before n) (parents_at (parent_positions history) n) ≡ alone (prepared_behind (take n history)) (over_of (take n history) e)
-out_is history n e admitted within at = λ i. alone (known_last history n admitted within i) (known_over history n e admitted at i)
+pub out_is : (history : List Event) (n last : ℕ) (e : Event) → IsAdmitted history → last + 1 ≡ n → n < length history → slice_get history n ≡ Some e
+    → known_alone (parent_positions history) (last ∷ []) (parents_at (parent_positions history) n) ≡ alone (prepared_since (take n history) 0) (over_since (take n history) 0 e)
+out_is history n last e admitted next within at = λ i. alone (known_last history n last admitted next within i) (known_over history n e admitted at i)
 
-pub into_is : (history : List Event) (n : ℕ) (e : Event) → IsAdmitted history → n < length history → slice_get history n ≡ Some e
-    → known_alone (parent_positions history) (parents_at (parent_positions history) n) (last_before n) ≡ alone (over_of (take n history) e) (prepared_behind (take n history))
-into_is history n e admitted within at = λ i. alone (known_over history n e admitted at i) (known_last history n admitted within i)
+pub into_is : (history : List Event) (n last : ℕ) (e : Event) → IsAdmitted history → last + 1 ≡ n → n < length history → slice_get history n ≡ Some e
+    → known_alone (parent_positions history) (parents_at (parent_positions history) n) (last ∷ []) ≡ alone (over_since (take n history) 0 e) (prepared_since (take n history) 0)
+into_is history n last e admitted next within at = λ i. alone (known_over history n e admitted at i) (known_last history n last admitted next within i)

@@ -1,9 +1,9 @@
 -- What a walk answers.
-use Rattle.std.specs.Prelude.{◌≡◌, ℕ, suc, ◌≤◌, true, List, take, length, Option, Some, None}
+use Rattle.std.specs.Prelude.{ℕ, suc, ◌-◌, List, take, length, nat_eq, if◌then◌else◌, Option, Some, None}
 use Rattle.ew_model.specs.declared.event.Event.{Event}
 use Rattle.ew_model.specs.Verdicts.{BadEvent}
 use Rattle.ew_model.specs.Verdicts.Ruling.{OutOfRange}
-use Rattle.ew_model.specs.Cuts.{is_critical}
+use Rattle.ew_model.specs.Cuts.{latest_cut}
 use Rattle.ew_model.specs.Walks.{base_at, walked_from}
 use Rattle.advance_retreat.specs.Kept.{Kept}
 use Rattle.advance_retreat.specs.Standing.{StandsFor}
@@ -22,11 +22,12 @@ abbrev pub judged_of : List Event → Option (ℕ × ℕ) → List Event
 judged_of history None = history
 judged_of history (Some stop) = take (suc stop.0) history
 
--- The state stands for the text below a critical cut of the history as a base, and for those of these events that are
--- behind the cut.
-pub record StandsBehind (history walked : List Event) (state : Kept) : Type 0 where
-  pub cut : ℕ
+-- the latest critical cut up to the last event that a walk judged; the cut that it began at, where it judged none
+abbrev pub cut_left : List Event → ℕ → Option (ℕ × ℕ) → ℕ
+cut_left history from None = if nat_eq from (length history) then from else latest_cut history (length history - 1)
+cut_left history from (Some stop) = latest_cut history stop.0
+
+-- the state stands for the text below the cut as a base, and for those of the walked events that are behind the cut
+pub record StandsBehind (history : List Event) (cut : ℕ) (walked : List Event) (state : Kept) : Type 0 where
   pub prepared : List ℕ
-  pub within : cut ≤ length walked
-  pub critical : is_critical history cut ≡ true
   pub stands : StandsFor state (base_at history cut) (walked_from walked cut) prepared

@@ -3,6 +3,7 @@
 
 pub mod answer;
 mod apply;
+mod cut;
 mod moves;
 pub mod replaying;
 mod turn;

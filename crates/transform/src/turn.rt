@@ -1,15 +1,14 @@
 //! One turn of the walk: the moves, and the apply.
 
-ghost use Rattle.std.specs.Prelude.{◌≡◌, ◌+◌, ◌<◌, ◌≤◌, ◌∷◌, [], length, take, slice_get, Some, IfOk, OnOk};
+ghost use Rattle.std.specs.Prelude.{◌≡◌, ℕ, ◌+◌, ◌<◌, ◌≤◌, ◌∷◌, [], length, take, slice_get, Some, None, IfOk, OnOk};
 ghost use Rattle.ew_model.specs.declared.event.Event.{Event};
 ghost use Rattle.ew_model.specs.Touches.{touches};
-ghost use Rattle.ew_model.specs.Walks.{walked_from};
-ghost use Rattle.advance_retreat.specs.Standing.{StandsFor};
 ghost use Rattle.ancestors.specs.Spans.{positions_of};
 ghost use Rattle.transform.specs.Moving.{alone};
-ghost use Rattle.transform.specs.Reaching.{Reached, Turned, prepared_behind, over_of};
+ghost use Rattle.transform.specs.Reaching.{Reached, ReadyAt, StandsAt, TurnedTo, WalkedTo, prepared_since, over_since};
 
 use crate::apply::{Turn, apply};
+use crate::cut::pass_cut;
 use crate::moves::{advance_all, falling, retreat_all};
 use advance_retreat::State;
 use ancestors::Spans;
@@ -20,22 +19,55 @@ use frontier::Parentage;
 use std::alloc::Global;
 use std::sync::ledger::Ledger;
 
-/// Walks over the event at a position, where those before it were walked.
+/// Walks over the event at a position, where those before it were walked. `line` is the length of the text so far, where every
+/// event from here on knows all events before the position, and the state isn't kept.
 pub fn take_turn<L: Ledger>(
     alloc: Global,
     graph: &Graph,
     state: &mut State,
+    line: &mut Option<u32>,
     lv: u32,
     steps: &mut Steps<L>,
 ) -> Result<Turn, NoMem>
     requires within { lv < length graph.now }
-    requires reached { Reached (take lv graph.now) state.old }
-    ensures turned { (e : Event) → slice_get graph.now lv ≡ Some e → IfOk result (Turned (take lv graph.now) e state.new) }
-    ensures steps { OnOk result (steps.new + touches (take lv graph.now) 0 ≡ steps.old + touches (take (lv + 1) graph.now) 0) }
-    ensures most { steps.new + touches (take lv graph.now) 0 ≤ steps.old + touches (take (lv + 1) graph.now) 0 }
+    requires walked { (from : ℕ) × (from ≤ lv) × WalkedTo graph.now from lv line.old state.old }
+    ensures turned { (from : ℕ) → from ≤ lv → WalkedTo graph.now from lv line.old state.old → IfOk result (TurnedTo graph.now from lv line.new state.new) }
+    ensures steps { (from : ℕ) → from ≤ lv → WalkedTo graph.now from lv line.old state.old → OnOk result (steps.new + touches (take lv graph.now) from ≡ steps.old + touches (take (lv + 1) graph.now) from) }
+    ensures most { (from : ℕ) → from ≤ lv → WalkedTo graph.now from lv line.old state.old → steps.new + touches (take lv graph.now) from ≤ steps.old + touches (take (lv + 1) graph.now) from }
 {
+    match reach(alloc, graph, state, *line, lv, steps)? {
+        Some(len) => pass_cut(alloc, graph, state, line, lv, len, steps),
+        None => apply(graph, state, lv, steps),
+    }
+}
+
+/// Prepares the ancestors of the event at a position. Where these are all events before it, and each later event knows them
+/// too, answers the length of their text.
+fn reach<L: Ledger>(
+    alloc: Global,
+    graph: &Graph,
+    state: &mut State,
+    line: Option<u32>,
+    lv: u32,
+    steps: &mut Steps<L>,
+) -> Result<Option<u32>, NoMem>
+    requires within { lv < length graph.now }
+    requires walked { (from : ℕ) × (from ≤ lv) × WalkedTo graph.now from lv line state.old }
+    ensures ready { (from : ℕ) → WalkedTo graph.now from lv line state.old → IfOk result (λ at. ReadyAt graph.now lv at state.new) }
+    ensures line { IfOk result (λ at. at ≡ None → line ≡ None) }
+    ensures steps { (from : ℕ) → from ≤ lv → WalkedTo graph.now from lv line state.old → OnOk result (steps.new + touches (take lv graph.now) from + 1 ≡ steps.old + touches (take (lv + 1) graph.now) from) }
+    ensures most { (from : ℕ) → from ≤ lv → WalkedTo graph.now from lv line state.old → steps.new + touches (take lv graph.now) from + 1 ≤ steps.old + touches (take (lv + 1) graph.now) from }
+{
+    let _count = graph.count();
+    if line.is_some() {
+        return Ok(line);
+    }
     move_to(alloc, graph, state, lv, steps)?;
-    apply(graph, state, lv, steps)
+    if graph.is_cut(lv) {
+        Ok(Some(state.prepared_len()))
+    } else {
+        Ok(None)
+    }
 }
 
 /// Prepares the ancestors of the event at a position.
@@ -47,11 +79,12 @@ fn move_to<L: Ledger>(
     steps: &mut Steps<L>,
 ) -> Result<(), NoMem>
     requires within { lv < length graph.now }
-    requires reached { Reached (take lv graph.now) state.old }
-    ensures moved { (e : Event) → slice_get graph.now lv ≡ Some e → OnOk result (StandsFor state.new 0 (walked_from (take lv graph.now) 0) (over_of (take lv graph.now) e)) }
-    ensures steps { OnOk result (steps.new + touches (take lv graph.now) 0 + 1 ≡ steps.old + touches (take (lv + 1) graph.now) 0) }
-    ensures most { steps.new + touches (take lv graph.now) 0 + 1 ≤ steps.old + touches (take (lv + 1) graph.now) 0 }
+    requires reached { (cut : ℕ) × Reached graph.now cut lv state.old }
+    ensures moved { (cut : ℕ) (e : Event) → Reached graph.now cut lv state.old → slice_get graph.now lv ≡ Some e → OnOk result (StandsAt graph.now cut lv (over_since (take lv graph.now) cut e) state.new) }
+    ensures steps { (from : ℕ) → from < lv → OnOk result (steps.new + touches (take lv graph.now) from + 1 ≡ steps.old + touches (take (lv + 1) graph.now) from) }
+    ensures most { (from : ℕ) → from < lv → steps.new + touches (take lv graph.now) from + 1 ≤ steps.old + touches (take (lv + 1) graph.now) from }
 {
+    let _count = graph.count();
     let (out, into) = differences(graph, lv)?;
     let downs = falling(alloc, &out)?;
     let mut ups = falling(alloc, &into)?;
@@ -64,14 +97,12 @@ fn move_to<L: Ledger>(
 /// What is prepared behind the events before a position and isn't among the ancestors of the event there, and what is among
 /// these and isn't prepared.
 fn differences(graph: &Graph, lv: u32) -> Result<(Spans, Spans), NoMem>
-    requires { lv < length graph.now }
-    ensures out { (e : Event) → slice_get graph.now lv ≡ Some e → IfOk result (λ sides. positions_of sides.0 ≡ alone (prepared_behind (take lv graph.now)) (over_of (take lv graph.now) e)) }
-    ensures into { (e : Event) → slice_get graph.now lv ≡ Some e → IfOk result (λ sides. positions_of sides.1 ≡ alone (over_of (take lv graph.now) e) (prepared_behind (take lv graph.now))) }
+    requires some { 0 < lv }
+    requires within { lv < length graph.now }
+    ensures out { (e : Event) → slice_get graph.now lv ≡ Some e → IfOk result (λ sides. positions_of sides.0 ≡ alone (prepared_since (take lv graph.now) 0) (over_since (take lv graph.now) 0 e)) }
+    ensures into { (e : Event) → slice_get graph.now lv ≡ Some e → IfOk result (λ sides. positions_of sides.1 ≡ alone (over_since (take lv graph.now) 0 e) (prepared_since (take lv graph.now) 0)) }
 {
     let _count = graph.count();
     let parents = graph.parents_of(lv);
-    if lv == 0 {
-        return graph.diff(&[], parents.as_slice(), 0);
-    }
     graph.diff(&[lv - 1], parents.as_slice(), 0)
 }

@@ -1,0 +1,35 @@
+use Rattle.std.proofs.Common.{◌≡◌, ◌≤◌, ◌++◌, ◌∷◌, [], take, arith, sym, ap, ◌∙◌}
+use Rattle.ew_model.specs.Operations.{operations}
+use Rattle.ew_model.specs.TextLaws.{own_change}
+use Rattle.ew_model.specs.Verdicts.{is_outside}
+use Rattle.ew_model.specs.Walks.{base_at}
+use Rattle.ew_model.proofs.ListParts.{element_there}
+use Rattle.transform.specs.Changing.{length_by}
+use Rattle.transform.proofs.Applies.{op_is}
+use Rattle.transform.proofs.Lines.{base_low, goes_in_line}
+use Rattle.transform.proofs.Loops.{turned_at_cut}
+use Rattle.transform.proofs.cut.pass_cut.Goals as goal
+
+pub change_by-requires : goal.change_by-requires
+change_by-requires g c =
+    let alone = c.stands_alone.ensures.0 c.if-stands_alone.true in
+    let low : base_at c.args.graph.now c.args.lv ≤ c.args.lv = base_low c.args.graph.now c.args.lv c.requires.behind.good in
+    omega (arith, alone.0, low, c.requires.long, c.count-count.ensures.count)
+
+pub returns-in-Some-clause-turned : goal.returns-in-Some-clause-turned
+returns-in-Some-clause-turned g c = λ from low.
+    let now = c.args.graph.now in
+    let lv = c.args.lv in
+    let found = element_there now lv c.requires.within in
+    let e = found.0 in
+    let op : e.op ≡ c.op_at.result = op_is now lv e c.op_at.result found.1 c.op_at.ensures in
+    let alone = c.stands_alone.ensures.0 c.if-stands_alone.true in
+    let change = c.in-Some.ensures.some in
+    let done =
+    goes_in_line now lv e c.count-count.ensures.admitted found.1 c.requires.behind.critical from c.args.len c.in-Some.len c.args.state.now low c.requires.behind.good c.requires.long (ap (is_outside c.args.len) op ∙ change.0)
+    (change.2 ∙ ap (λ o. length_by o c.args.len) (sym op)) alone.0 alone.1 in
+    (done.0, done.1 ∙ ap (λ o. operations (take lv now) ++ o ∷ []) (ap own_change op ∙ sym change.1))
+
+pub returns-clause-turned : goal.returns-clause-turned
+returns-clause-turned g c = λ from low.
+    turned_at_cut c.args.graph.now from c.args.lv c.args.len c.in_ok-state.field-0 c.apply.new.state c.apply.result c.requires.within low c.requires.behind c.requires.long c.in_ok-state.ensures.stands c.apply.ensures.turned

@@ -1,0 +1,74 @@
+//! The turn of a walk at a critical cut: what is below is known by the length of its text alone.
+
+ghost use Rattle.std.specs.Prelude.{◌≡◌, ℕ, ◌+◌, ◌<◌, ◌≤◌, ◌^◌, length, true, false, IfOk, OnOk, IfSome, IfNone, IsTrue, ◌↔◌};
+ghost use Rattle.ew_model.specs.declared.event.Op.{Op};
+ghost use Rattle.ew_model.specs.Cuts.{is_critical};
+ghost use Rattle.ew_model.specs.TextLaws.{own_change};
+ghost use Rattle.ew_model.specs.Verdicts.{is_outside};
+ghost use Rattle.ew_model.specs.Walks.{base_at};
+ghost use Rattle.transform.specs.Changing.{length_by};
+ghost use Rattle.transform.specs.Reaching.{IsBehind, TurnedTo};
+
+use crate::apply::{Turn, apply};
+use advance_retreat::State;
+use event_graph::Graph;
+use ew_model::NoMem;
+use ew_model::event::Op;
+use ew_model::steps::Steps;
+use ew_model::text_op::TextOp;
+use std::alloc::Global;
+use std::sync::ledger::Ledger;
+
+/// Walks over the event at a critical cut, before which the text has so many characters. Where no other event stands beside
+/// it, it does to the text what it says: no state is kept then, and `line` is the length of the text behind it. Else the state
+/// begins anew.
+pub fn pass_cut<L: Ledger>(
+    alloc: Global,
+    graph: &Graph,
+    state: &mut State,
+    line: &mut Option<u32>,
+    lv: u32,
+    len: u32,
+    steps: &mut Steps<L>,
+) -> Result<Turn, NoMem>
+    requires within { lv < length graph.now }
+    requires behind { IsBehind graph.now lv lv }
+    requires long { len ≡ base_at graph.now lv }
+    ensures turned { (from : ℕ) → from ≤ lv → IfOk result (TurnedTo graph.now from lv line.new state.new) }
+    ensures steps { OnOk result (steps.new ≡ steps.old + 1) }
+    ensures most { steps.new ≤ steps.old + 1 }
+{
+    let _count = graph.count();
+    if stands_alone(graph, lv) {
+        if let Some((op, len)) = change_by(graph.op_at(lv), len) {
+            steps.tick();
+            *line = Some(len);
+            return Ok(Turn::Applied(op));
+        }
+    }
+    *state = State::base(alloc, len)?;
+    *line = None;
+    apply(graph, state, lv, steps)
+}
+
+/// Whether there are events behind the one at a position, which all know all events up to it.
+fn stands_alone(graph: &Graph, lv: u32) -> bool
+    requires { lv < length graph.now }
+    ensures { IsTrue result ↔ ((lv + 1 < length graph.now) × (is_critical graph.now (lv + 1) ≡ true)) }
+{
+    let count = graph.count();
+    lv + 1 < count && graph.is_cut(lv + 1)
+}
+
+/// What an operation in range does to a text of so many characters, and the length after it.
+fn change_by(op: Op, len: u32) -> Option<(TextOp, u32)>
+    requires { len + 1 < 2 ^ 32 }
+    ensures none { IfNone result (is_outside len op ≡ true) }
+    ensures some { IfSome result (λ c. (is_outside len op ≡ false) × (c.0 ≡ own_change op) × (c.1 ≡ length_by op len)) }
+{
+    match op {
+        Op::Ins { at, ch } if at <= len => Some((TextOp::Ins { at, ch }, len + 1)),
+        Op::Del { at } if at < len => Some((TextOp::Del { at }, len - 1)),
+        _ => None,
+    }
+}
