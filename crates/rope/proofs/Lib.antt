@@ -1,1 +1,5 @@
+pub mod InsertLaws
+pub mod KidLists
 pub mod ShortTexts
+pub mod SoundNodes
+pub mod SpareCounts

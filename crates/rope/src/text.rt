@@ -1,31 +1,48 @@
 //! A text that is changed at an index.
 
-ghost use Rattle.std.specs.Prelude.{◌≡◌, ◌+◌, ◌<◌, ◌≤◌, [], ◌++◌, length, insert, remove, slice_get, Some, encode_utf8_all, IfOk, OnOk, OnErr, vec_len, vec_capacity};
-ghost use Rattle.ew_model.specs.Operations.{changed_by, changed_by_all};
-ghost use Rattle.ew_model.specs.TextLaws.{Fits, AllFit};
+ghost use Rattle.std.specs.Prelude.{◌≡◌, ℕ, ◌+◌, ◌*◌, ◌^◌, ◌<◌, ◌≤◌, [], ◌++◌, length, insert, remove, slice_get, Some, encode_utf8_all, IfOk, OnOk, OnErr};
+ghost use Rattle.ew_model.specs.Operations.{changed_by_all};
+ghost use Rattle.ew_model.specs.TextLaws.{AllFit};
 ghost use Rattle.rope.specs.Lengths.{most_chars, AllStayShort};
-ghost use Rattle.rope.specs.Changes.{room_for, room_for_all};
+ghost use Rattle.rope.specs.Changes.{room_for_all};
 
+use crate::branch::Branch;
+use crate::root::{MOST_BLOCKS, change_all, copy_root, insert_char, remove_char};
+use crate::spares::Spares;
 use ew_model::NoMem;
 use ew_model::text_op::TextOp;
 use std::alloc::Global;
 use std::marker::Model;
 
+/// Operations with up to this share of the number of leaves are done in place.
+const FEW_SHARE: usize = 16;
+
+/// The nodes of a text, counted.
+#[derive(Clone, Copy, Debug, PartialEq, Eq)]
+pub struct Shape {
+    /// The leaves, each of one to sixty-four characters.
+    pub leaves: u32,
+    /// The levels of nodes, leaves included.
+    pub depth: u32,
+}
+
 /// A text of at most 16,777,216 characters. Contracts see the list of its characters.
 #[derive(Drop)]
 pub struct Rope {
-    chars: Vec<char>,
+    alloc: Global,
+    root: Option<Branch>,
 }
 
 impl Model for Rope {
     ghost use Rattle.std.specs.Prelude.{ℕ, List, length, ◌≤◌};
     ghost use Rattle.rope.specs.Lengths.{most_chars};
+    ghost use Rattle.rope.specs.Whole.{chars_of_root, IsRoot};
 
     ghost Value = { List ℕ };
 
-    ghost view = { λ r. r.chars.items };
+    ghost view = { λ r. chars_of_root r.root };
 
-    ghost invariant = { λ r. length r.chars.items ≤ most_chars };
+    ghost invariant = { λ r. IsRoot r.root × (length (chars_of_root r.root) ≤ most_chars) };
 }
 
 impl Rope {
@@ -33,9 +50,7 @@ impl Rope {
     pub fn new(alloc: Global) -> Result<Rope, NoMem>
         ensures { IfOk result (λ r. r ≡ []) }
     {
-        Ok(Rope {
-            chars: Vec::new(alloc),
-        })
+        Ok(Rope { alloc, root: None })
     }
 
     /// How many characters the text has.
@@ -43,7 +58,47 @@ impl Rope {
         ensures count { result ≡ length self.now }
         ensures short { length self.now ≤ most_chars }
     {
-        self.chars.len() as u32
+        match &self.root {
+            None => 0,
+            Some(branch) => branch.len(),
+        }
+    }
+
+    /// The number of leaves and of levels of the tree's nodes.
+    pub fn shape(&self) -> Shape
+        ensures enough { length self.now ≤ 64 * result.leaves }
+        ensures bound { 0 < length self.now → 2 ^ result.depth ≤ 2 * result.leaves }
+        ensures some { result.leaves ≤ length self.now }
+        ensures most { result.leaves ≤ most_chars }
+        ensures none { self.now ≡ [] → result.depth ≡ 0 }
+    {
+        match &self.root {
+            None => Shape {
+                leaves: 0,
+                depth: 0,
+            },
+            Some(branch) => Shape {
+                leaves: branch.leaves(),
+                depth: branch.depth(),
+            },
+        }
+    }
+
+    /// The number of leaves of the tree: 0 without characters.
+    pub fn leaves(&self) -> u32
+        ensures enough { length self.now ≤ 64 * result }
+        ensures some { result ≤ length self.now }
+        ensures most { result ≤ most_chars }
+    {
+        self.shape().leaves
+    }
+
+    /// The number of levels of nodes, leaves included: 0 without characters.
+    pub fn depth(&self) -> u32
+        ensures bound { 0 < length self.now → (leaves : ℕ) × (leaves ≤ length self.now) × (length self.now ≤ 64 * leaves) × (2 ^ result ≤ 2 * leaves) }
+        ensures none { self.now ≡ [] → result ≡ 0 }
+    {
+        self.shape().depth
     }
 
     /// The character at the index.
@@ -51,7 +106,10 @@ impl Rope {
         requires { i < length self.now }
         ensures { slice_get self.now i ≡ Some result }
     {
-        self.chars[i as usize]
+        let Some(branch) = &self.root else {
+            unreachable!()
+        };
+        branch.char_at(i)
     }
 
     /// Puts the character at the index, before what stands there.
@@ -61,8 +119,8 @@ impl Rope {
         ensures ok { OnOk result (self.new ≡ insert self.old at ch) }
         ensures err { OnErr result (self.new ≡ self.old) }
     {
-        self.chars.insert(at as usize, ch)?;
-        Ok(())
+        let mut spares = Spares::new(self.alloc);
+        insert_char(&mut self.root, at, ch, &mut spares)
     }
 
     /// Takes the character at the index out.
@@ -71,7 +129,7 @@ impl Rope {
         ensures ok { OnOk result (self.new ≡ remove self.old at) }
         ensures err { OnErr result (self.new ≡ self.old) }
     {
-        self.chars.remove(at as usize);
+        remove_char(&mut self.root, at);
         Ok(())
     }
 
@@ -82,9 +140,12 @@ impl Rope {
         ensures ok { OnOk result (self.new ≡ changed_by_all ops.now self.old) }
         ensures err { OnErr result (self.new ≡ self.old) }
     {
-        self.chars.reserve(count_insertions(ops))?;
-        change_all(&mut self.chars, ops);
-        Ok(())
+        let insertions = count_insertions(ops);
+        if insertions <= self.leaves() as usize / FEW_SHARE {
+            self.change_here(insertions as u32, ops)
+        } else {
+            self.change_copy(ops)
+        }
     }
 
     /// Puts the UTF-8 of all characters behind the bytes of the vector. A refusal leaves the vector as it was.
@@ -92,7 +153,44 @@ impl Rope {
         ensures ok { OnOk result (to.new.items ≡ to.old.items ++ encode_utf8_all self.now) }
         ensures err { OnErr result (to.new.items ≡ to.old.items) }
     {
-        write_chars(self.chars.as_slice(), to)
+        match &self.root {
+            None => Ok(()),
+            Some(branch) => branch.write_to(to),
+        }
+    }
+}
+
+impl Rope {
+    /// Does operations with few insertions, for all of which leaves and blocks are held first.
+    fn change_here(&mut self, insertions: u32, ops: &[TextOp]) -> Result<(), NoMem>
+        requires fit { AllFit self.old ops.now }
+        requires short { AllStayShort self.old ops.now }
+        requires few { insertions ≤ most_chars }
+        requires counted { insertions ≡ room_for_all ops.now }
+        ensures ok { OnOk result (self.new ≡ changed_by_all ops.now self.old) }
+        ensures err { OnErr result (self.new ≡ self.old) }
+    {
+        let mut spares = Spares::new(self.alloc);
+        spares.hold(insertions, MOST_BLOCKS * insertions)?;
+        let Ok(()) = change_all(&mut self.root, ops, &mut spares) else {
+            unreachable!()
+        };
+        Ok(())
+    }
+
+    /// Does operations with so many insertions that a copy of the nodes costs no more: it takes what it needs on the way, and stands in
+    /// the place of the old nodes once all is done.
+    fn change_copy(&mut self, ops: &[TextOp]) -> Result<(), NoMem>
+        requires fit { AllFit self.old ops.now }
+        requires short { AllStayShort self.old ops.now }
+        ensures ok { OnOk result (self.new ≡ changed_by_all ops.now self.old) }
+        ensures err { OnErr result (self.new ≡ self.old) }
+    {
+        let mut spares = Spares::new(self.alloc);
+        let mut changed = copy_root(&self.root, self.alloc)?;
+        change_all(&mut changed, ops, &mut spares)?;
+        self.root = changed;
+        Ok(())
     }
 }
 
@@ -102,52 +200,4 @@ fn count_insertions(ops: &[TextOp]) -> usize
     ops.iter()
         .filter(|op| matches!(op, TextOp::Ins { .. }))
         .count()
-}
-
-/// Does the operations to a vector that has room for all insertions.
-fn change_all(chars: &mut Vec<char>, ops: &[TextOp])
-    requires fit { AllFit chars.old.items ops.now }
-    requires room { vec_len chars.old + room_for_all ops.now ≤ vec_capacity chars.old }
-    ensures { chars.new.items ≡ changed_by_all ops.now chars.old.items }
-{
-    for op in ops {
-        change(chars, *op);
-    }
-}
-
-/// Does one operation to a vector that has room for it.
-fn change(chars: &mut Vec<char>, op: TextOp)
-    requires fits { Fits (vec_len chars.old) op }
-    requires room { vec_len chars.old + room_for op ≤ vec_capacity chars.old }
-    ensures items { chars.new.items ≡ changed_by op chars.old.items }
-    ensures len { vec_len chars.new ≤ vec_len chars.old + room_for op }
-    ensures capacity { vec_capacity chars.old ≤ vec_capacity chars.new }
-{
-    match op {
-        TextOp::Ins { at, ch } => {
-            let Ok(()) = chars.insert(at as usize, ch) else {
-                unreachable!();
-            };
-        }
-        TextOp::Del { at } => {
-            chars.remove(at as usize);
-        }
-        TextOp::Nothing => {}
-    }
-}
-
-fn write_chars(chars: &[char], to: &mut Vec<u8>) -> Result<(), NoMem>
-    ensures ok { OnOk result (to.new.items ≡ to.old.items ++ encode_utf8_all chars.now) }
-    ensures err { OnErr result (to.new.items ≡ to.old.items) }
-{
-    let before = to.len();
-    for ch in chars {
-        let mut buf = [0; 4];
-        let text = ch.encode_utf8(&mut buf);
-        if let Err(e) = to.extend_from_slice(text.as_bytes()) {
-            to.truncate(before);
-            return Err(e);
-        }
-    }
-    Ok(())
 }

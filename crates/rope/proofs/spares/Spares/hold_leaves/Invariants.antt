@@ -1,0 +1,8 @@
+use Rattle.std.proofs.Common.{◌≡◌, ◌-◌, ◌≤◌}
+use Rattle.rope.proofs.spares.Spares.hold_leaves.Given as goal
+
+abbrev pub invariant-loop-have : goal.invariant-loop-have
+invariant-loop-have l = (l.have ≡ l.self.leaves) × (l.initial.self.leaves ≤ l.self.leaves) × (l.self.nodes ≡ l.initial.self.nodes)
+
+abbrev pub decreases-loop-have : goal.decreases-loop-have
+decreases-loop-have l = l.many - l.have

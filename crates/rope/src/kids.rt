@@ -1,0 +1,90 @@
+//! The branches of a node: which of them a change or a search goes into, and what they have together.
+
+ghost use Rattle.std.specs.Prelude.{◌≡◌, ◌+◌, ◌<◌, ◌≤◌, ◌^◌, length, take, slice_index_or, nat_lt, if◌then◌else◌};
+ghost use Rattle.rope.specs.Nodes.{Seen, all_chars, all_leaves};
+ghost use Rattle.rope.specs.Blocks.{IsRoomy, HasPlace};
+ghost use Rattle.rope.specs.Shape.{AllBelow};
+
+use crate::branch::Branch;
+use crate::spares::MOST_KIDS;
+
+/// How many characters some branches have, and how many leaves.
+#[derive(Clone, Copy, Debug, PartialEq, Eq)]
+pub struct Sizes {
+    pub chars: u32,
+    pub leaves: u32,
+}
+
+/// The branch with the character at an index, and the character's index there.
+pub fn kid_at(kids: &[Branch], at: u32) -> (usize, u32)
+    requires { at < length (all_chars kids.now) }
+    ensures within { result.0 < length kids.now }
+    ensures before { at ≡ length (all_chars (take result.0 kids.now)) + result.1 }
+    ensures inside { (d : Seen) → result.1 < length (slice_index_or kids.now result.0 d).chars }
+{
+    let mut rest = at;
+    for (k, kid) in kids.iter().enumerate() {
+        if rest < kid.len() {
+            return (k, rest);
+        }
+        rest -= kid.len();
+    }
+    unreachable!()
+}
+
+/// The first branch into which a character at an index may be put, and its index there.
+pub fn kid_open(kids: &[Branch], at: u32) -> (usize, u32)
+    requires some { 0 < length kids.now }
+    requires in_range { at ≤ length (all_chars kids.now) }
+    ensures within { result.0 < length kids.now }
+    ensures before { at ≡ length (all_chars (take result.0 kids.now)) + result.1 }
+    ensures inside { (d : Seen) → result.1 ≤ length (slice_index_or kids.now result.0 d).chars }
+{
+    let mut rest = at;
+    for (k, kid) in kids.iter().enumerate() {
+        if rest <= kid.len() {
+            return (k, rest);
+        }
+        rest -= kid.len();
+    }
+    unreachable!()
+}
+
+/// How many full nodes stand right above the branches of a node, where so many stand right above it.
+pub fn above_kids(kids: &[Branch], above: u32) -> u32
+    requires { above + 1 < 2 ^ 32 }
+    ensures { result ≡ (if nat_lt (length kids.now) 16 then 0 else above + 1) }
+{
+    if kids.len() < MOST_KIDS { 0 } else { above + 1 }
+}
+
+/// What the branches have together.
+pub fn sizes_in(depth: u32, kids: &[Branch]) -> Sizes
+    requires below { AllBelow depth kids.now }
+    requires small { length (all_chars kids.now) < 2 ^ 32 }
+    ensures chars { result.chars ≡ length (all_chars kids.now) }
+    ensures leaves { result.leaves ≡ all_leaves kids.now }
+{
+    let mut sizes = Sizes {
+        chars: 0,
+        leaves: 0,
+    };
+    for kid in kids {
+        sizes.chars += kid.len();
+        sizes.leaves += kid.leaves();
+    }
+    sizes
+}
+
+/// The block, where one more branch needs it.
+pub fn needed(kids: &[Branch], block: Vec<Branch>) -> Option<Vec<Branch>>
+    requires few { length kids.now ≤ 16 }
+    requires block { IsRoomy block }
+    ensures { HasPlace kids.now result }
+{
+    if kids.len() < MOST_KIDS {
+        None
+    } else {
+        Some(block)
+    }
+}

@@ -1,0 +1,162 @@
+//! Changes of a whole tree, which has no node where there are no characters.
+
+ghost use Rattle.std.specs.Prelude.{◌≡◌, ◌+◌, ◌*◌, ◌^◌, ◌<◌, ◌≤◌, [], ◌++◌, length, insert, remove, IfOk, IsOk, OnOk, OnErr};
+ghost use Rattle.ew_model.specs.Operations.{changed_by, changed_by_all};
+ghost use Rattle.ew_model.specs.TextLaws.{Fits, AllFit};
+ghost use Rattle.rope.specs.Changes.{room_for, room_for_all};
+ghost use Rattle.rope.specs.Lengths.{most_chars, AllStayShort};
+ghost use Rattle.rope.specs.Whole.{chars_of_root, depth_of, IsRoot, IsRooted};
+ghost use Rattle.rope.specs.Rights.{IsLike, IsLeft, chars_of_right};
+
+use crate::branch::Branch;
+use crate::spares::Spares;
+use ew_model::NoMem;
+use ew_model::text_op::TextOp;
+use std::alloc::Global;
+
+/// How many blocks one insertion needs at most.
+pub const MOST_BLOCKS: u32 = 25;
+
+/// A tree with the same nodes.
+pub fn copy_root(root: &Option<Branch>, alloc: Global) -> Result<Option<Branch>, NoMem>
+    ensures { IfOk result (λ copy. copy ≡ root.now) }
+{
+    match root {
+        None => Ok(None),
+        Some(branch) => Ok(Some(branch.copy(alloc)?)),
+    }
+}
+
+/// Puts a character at an index. What is wanting for it is taken before the first change.
+pub fn insert_char(
+    root: &mut Option<Branch>,
+    at: u32,
+    ch: char,
+    spares: &mut Spares,
+) -> Result<(), NoMem>
+    requires within { at ≤ length (chars_of_root root.old) }
+    requires short { length (chars_of_root root.old) < most_chars }
+    requires root { IsRoot root.old }
+    ensures ok { OnOk result (chars_of_root root.new ≡ insert (chars_of_root root.old) at ch) }
+    ensures err { OnErr result (root.new ≡ root.old) }
+    ensures root { IsRoot root.new }
+    ensures leaves { spares.old.leaves ≤ spares.new.leaves + 1 }
+    ensures nodes { spares.old.nodes ≤ spares.new.nodes + 25 }
+    ensures sure { 1 ≤ spares.old.leaves → 25 ≤ spares.old.nodes → IsOk result }
+{
+    let Some(branch) = root else {
+        return plant(root, ch, spares);
+    };
+    let right = branch.insert(at, ch, 1, spares)?;
+    raise(root, right, spares);
+    Ok(())
+}
+
+/// Puts the first character.
+fn plant(root: &mut Option<Branch>, ch: char, spares: &mut Spares) -> Result<(), NoMem>
+    requires { chars_of_root root.old ≡ [] }
+    ensures ok { OnOk result (chars_of_root root.new ≡ insert [] 0 ch) }
+    ensures err { OnErr result (root.new ≡ root.old) }
+    ensures root { IsRoot root.old → IsRoot root.new }
+    ensures leaves { spares.old.leaves ≤ spares.new.leaves + 1 }
+    ensures nodes { spares.old.nodes ≤ spares.new.nodes }
+    ensures sure { 1 ≤ spares.old.leaves → IsOk result }
+{
+    spares.hold(1, 0)?;
+    let mut leaf = spares.take_leaf();
+    leaf.insert(0, ch);
+    *root = Some(Branch::leaf(leaf));
+    Ok(())
+}
+
+/// Puts a new root above the old one and its second half, where it was cut in two.
+fn raise(root: &mut Option<Branch>, right: Option<Branch>, spares: &mut Spares)
+    requires root { IsRooted root.old }
+    requires like { IsLike (depth_of root.old) right }
+    requires left { IsLeft 1 right spares.old.nodes }
+    requires small { length (chars_of_root root.old) + length (chars_of_right right) < 2 ^ 32 }
+    requires deep { depth_of root.old + 1 < 2 ^ 32 }
+    ensures chars { chars_of_root root.new ≡ chars_of_root root.old ++ chars_of_right right }
+    ensures root { IsRooted root.new }
+    ensures leaves { spares.new.leaves ≡ spares.old.leaves }
+    ensures nodes { spares.old.nodes ≤ spares.new.nodes + 1 }
+{
+    let Some(right) = right else { return };
+    let Some(left) = root.take() else {
+        unreachable!()
+    };
+    let depth = left.depth() + 1;
+    let mut kids = spares.take_block();
+    kids.push_reserved(left);
+    kids.push_reserved(right);
+    *root = Some(Branch::inner(depth, kids));
+}
+
+/// Takes the character at an index out.
+pub fn remove_char(root: &mut Option<Branch>, at: u32)
+    requires within { at < length (chars_of_root root.old) }
+    requires small { length (chars_of_root root.old) < 2 ^ 32 }
+    requires root { IsRoot root.old }
+    ensures chars { chars_of_root root.new ≡ remove (chars_of_root root.old) at }
+    ensures root { IsRoot root.new }
+{
+    let Some(mut branch) = root.take() else {
+        unreachable!()
+    };
+    branch.remove(at);
+    *root = lowered(branch);
+}
+
+/// The tree of a branch after a removal: a root with one branch gives way to it, and a leaf without characters to nothing.
+fn lowered(branch: Branch) -> Option<Branch>
+    ensures chars { chars_of_root result ≡ branch.chars }
+    ensures root { IsRoot result }
+{
+    if branch.is_sound() {
+        return Some(branch);
+    }
+    match branch.into_last() {
+        None => None,
+        Some((kid, _)) => Some(kid),
+    }
+}
+
+/// Does an operation.
+fn change(root: &mut Option<Branch>, op: TextOp, spares: &mut Spares) -> Result<(), NoMem>
+    requires fits { Fits (length (chars_of_root root.old)) op }
+    requires short { length (changed_by op (chars_of_root root.old)) ≤ most_chars }
+    requires root { IsRoot root.old }
+    ensures ok { OnOk result (chars_of_root root.new ≡ changed_by op (chars_of_root root.old)) }
+    ensures root { IsRoot root.new }
+    ensures leaves { spares.old.leaves ≤ spares.new.leaves + room_for op }
+    ensures nodes { spares.old.nodes ≤ spares.new.nodes + 25 * room_for op }
+    ensures sure { room_for op ≤ spares.old.leaves → 25 * room_for op ≤ spares.old.nodes → IsOk result }
+{
+    match op {
+        TextOp::Ins { at, ch } => insert_char(root, at, ch, spares),
+        TextOp::Del { at } => {
+            remove_char(root, at);
+            Ok(())
+        }
+        TextOp::Nothing => Ok(()),
+    }
+}
+
+/// Does the operations one after another. After a refusal some of them are done.
+pub fn change_all(
+    root: &mut Option<Branch>,
+    ops: &[TextOp],
+    spares: &mut Spares,
+) -> Result<(), NoMem>
+    requires fit { AllFit (chars_of_root root.old) ops.now }
+    requires short { AllStayShort (chars_of_root root.old) ops.now }
+    requires root { IsRoot root.old }
+    ensures ok { OnOk result (chars_of_root root.new ≡ changed_by_all ops.now (chars_of_root root.old)) }
+    ensures root { IsRoot root.new }
+    ensures sure { room_for_all ops.now ≤ spares.old.leaves → 25 * room_for_all ops.now ≤ spares.old.nodes → IsOk result }
+{
+    for op in ops {
+        change(root, *op, spares)?;
+    }
+    Ok(())
+}
