@@ -40,6 +40,10 @@ length_found history count last d some is within =
     let more : suc last ≡ count = omega (arith, some, is) in
     length_after [] history last d (omega (arith, more, within)) ∙ ap (λ n. length (text_of (take n history))) more
 
+-- there is a length for each event
+pub length-prefix_lengths : (history : List Event) → length (prefix_lengths history) ≡ length history
+length-prefix_lengths history = length-lengths_after [] history
+
 -- the text of no events has no character
 pub length_of_none : (history : List Event) (count : ℕ) → (1 ≤ count → ⊥) → 0 ≡ length (text_of (take count history))
 length_of_none history zero none = sym (ap length no_text)
@@ -69,7 +73,7 @@ good_front held events zero h = tt
 good_front held [] (suc n) h = tt
 good_front held (e ∷ events) (suc n) h = (h.0, good_front (held ++ e ∷ []) events n h.1)
 
-front_is_good : (history : List Event) (n : ℕ) → IsGood history → IsGood (take n history)
+pub front_is_good : (history : List Event) (n : ℕ) → IsGood history → IsGood (take n history)
 unfolding IsGood
 front_is_good history n good = good_front [] history n good
 

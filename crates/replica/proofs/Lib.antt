@@ -16,10 +16,14 @@ pub mod Loading
 pub mod NotOut
 pub mod PastTexts
 pub mod Received
+pub mod ReceivedCounts
+pub mod RoundCounts
+pub mod RoundCuts
 pub mod RoundParts
 pub mod RoundTexts
 pub mod RoundWays
 pub mod RulingRows
+pub mod Sparing
 pub mod Steps
 pub mod Taking
 pub mod Ways

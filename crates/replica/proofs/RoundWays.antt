@@ -5,10 +5,12 @@ use Rattle.std.proofs.lemmas.Bool.{false≢true, eqb-true}
 use Rattle.ew_model.specs.declared.event.Event.{Event}
 use Rattle.ew_model.specs.declared.text_op.TextOp.{TextOp}
 use Rattle.ew_model.specs.Arrival.{Desk, Answer, Judgement, Outcome, next_judgement, judgements, judged, most_judgements}
+use Rattle.ew_model.specs.Cuts.{latest_cut}
 use Rattle.ew_model.specs.Kept.{IsOrderly}
 use Rattle.ew_model.specs.Limits.{LimitNumbers}
 use Rattle.ew_model.specs.Operations.{operations}
-use Rattle.ew_model.specs.Rounds.{is_out_of_range}
+use Rattle.ew_model.specs.Rounds.{is_out_of_range, after_out_of_range, round_touches}
+use Rattle.ew_model.specs.Touches.{touches}
 use Rattle.ew_model.specs.Verdicts.{is_verdict_good, first_bad}
 use Rattle.ew_model.specs.Verdicts.Ruling.{OutOfRange}
 use Rattle.ew_model.proofs.ArrivalLaws.{next_less}
@@ -24,6 +26,7 @@ use Rattle.replica.specs.Desks.Leads.{Here, Further}
 use Rattle.replica.specs.Reaching.{Reaches, IsRound}
 use Rattle.replica.proofs.Knowing.{knows, next_leads}
 use Rattle.replica.proofs.NotOut.{blind_in_range}
+use Rattle.replica.proofs.RoundCounts.{looked_at, looked_past}
 use Rattle.replica.proofs.Ways.{known_from}
 
 -- one judgement more
@@ -88,10 +91,11 @@ pub record IsSeen (limits : LimitNumbers) (out : Option (ℕ × ℕ)) (from to :
   pub told : option_map bad_at out ≡ first_bad (judged limits false to).desk.held
   pub end : (judged limits false from).desk ≡ (judged limits false to).desk
   pub fewer : most_judgements to ≤ most_judgements from
+  pub next : after_out_of_range limits (most_judgements from) from ≡ after_out_of_range limits (most_judgements to) to
 
 pub seen_way : (limits : LimitNumbers) (out : Option (ℕ × ℕ)) (from to : Desk) (answers : List Answer) → IsOrderly from.held from.waiting → option_map bad_at out ≡ first_bad (judged limits false from).desk.held → Leads limits out from answers to
     → IsSeen limits out from to answers
-seen_way limits out from to answers kept told (Here) = record { way = record { number = 0; made = refl }; kept = kept; told = told; end = refl; fewer = omega arith }
+seen_way limits out from to answers kept told (Here) = record { way = record { number = 0; made = refl }; kept = kept; told = told; end = refl; fewer = omega arith; next = refl }
 seen_way limits out from to answers kept told (Further before d j way next still) =
     let s = seen_way limits out from d before kept told way in
     let seeing : next_judgement limits true d ≡ Some j = sym (knows limits out d s.kept s.told) ∙ next in
@@ -104,6 +108,7 @@ seen_way limits out from to answers kept told (Further before d j way next still
       told = s.told ∙ ap (λ (x : Desk). first_bad x.held) (same_end limits d j blind);
       end = s.end ∙ same_end limits d j blind;
       fewer = omega (arith, less, most);
+      next = s.next ∙ looked_past limits d j seeing still;
     }
 
 -- What is known when none is left to make.
@@ -118,6 +123,11 @@ pub blind_end : (limits : LimitNumbers) (out : Option (ℕ × ℕ)) (from to : D
 blind_end limits out from to before after e =
     let w = blind_way limits out from to e.answers e.way in
     ap (λ (o : Outcome). o.desk) (all_made limits false w.number from to e.answers w.made (none_known out to (next_judgement limits false to) e.last))
+
+-- so a walk over it, from its latest cut that isn't above the number held before, takes the touches of the round
+pub round_is : (limits : LimitNumbers) (from to : Desk) (before after : Counted) → LeadsToEnd limits None from to before after → round_touches limits from ≡ touches to.held (latest_cut to.held (length from.held))
+unfolding round_touches
+round_is limits from to before after e = ap (λ (x : Desk). touches x.held (latest_cut x.held (length from.held))) (blind_end limits None from to before after e)
 
 pub ended : (limits : LimitNumbers) (out : Option (ℕ × ℕ)) (from to : Desk) (before after : Counted) → IsOrderly from.held from.waiting → option_map bad_at out ≡ first_bad (judged limits false from).desk.held → LeadsToEnd limits out from to before after
     → IsEnded limits out from to before after
@@ -142,6 +152,7 @@ pub record IsCut (limits : LimitNumbers) (from to : Desk) (before after : Counte
   pub kept : IsOrderly to.held to.waiting
   pub held : to.held ≡ take place whole
   pub fewer : most_judgements to < most_judgements from
+  pub next : after_out_of_range limits (most_judgements from) from ≡ Some to
 
 -- where the answer OutOfRange is given
 record IsStop (there : Desk) (o : ℕ × ℕ) (stop : Judgement) : Type 0 where
@@ -175,6 +186,7 @@ cut limits o from to before after kept told e =
       kept = kept_next limits there e.stop s.kept seeing;
       held = here;
       fewer = omega (arith, less, most);
+      next = s.next ∙ looked_at limits there e.stop seeing e.tells;
     })
 
 -- the first pass doesn't stop
@@ -206,6 +218,7 @@ last_round limits from to before after ops stopped kept told none are e =
       reached = end.reached;
       ops_are = are ∙ ap (λ (o : Option (ℕ × ℕ)). drop (length from.held) (operations (walked_of to.held o))) none;
       fewer = λ h. absurd (false≢true (sym (ap is_some none) ∙ h));
+      next = λ h. absurd (false≢true (sym (ap is_some none) ∙ h));
       last = λ h. end.last;
     }
 
@@ -225,6 +238,7 @@ cut_round limits from first to before mid after ops (Some o) b kept e told there
       reached = c.reached;
       ops_are = are ∙ ap (λ (es : List Event). drop (length from.held) (operations es)) (ap (λ (x : Desk). take o.0 x.held) (sym end) ∙ sym c.held);
       fewer = λ _. c.fewer;
+      next = λ _. c.next;
       last = λ n. absurd (false≢true (sym n));
     }
 

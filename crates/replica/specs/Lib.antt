@@ -9,3 +9,4 @@ pub mod Lengths
 pub mod Reaching
 pub mod Receiving
 pub mod Refusing
+pub mod Sparing

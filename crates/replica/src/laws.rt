@@ -1,8 +1,9 @@
-//! What holds of replicas that received events in whatever order.
+//! What holds of replicas that received events in whatever order, and of what receiving takes.
 
 ghost use Rattle.ew_model.specs.ArrivalLaw.{ArrivalAgrees};
 ghost use Rattle.ew_model.specs.ReceivingLaws.{AncestorsJudge};
 ghost use Rattle.ew_model.specs.TextLaws.{EqualSetsAgree};
+ghost use Rattle.replica.specs.Sparing.{CutsSpare};
 
 use ew_model::laws::{arrival, texts};
 
@@ -27,3 +28,9 @@ pub fn law_ancestors()
 {
     arrival::law_ancestors();
 }
+
+/// The touches of a walk from a critical cut on are those of the events behind the cut alone. So they don't depend on how many
+/// events stand before it.
+pub fn law_cuts()
+    ensures { CutsSpare }
+{}

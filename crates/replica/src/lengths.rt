@@ -1,10 +1,12 @@
 //! A text, and how long it was after each operation.
 
-ghost use Rattle.std.specs.Prelude.{◌≡◌, ℕ, ◌+◌, ◌<◌, ◌^◌, [], ◌++◌, List, length, take, IfOk, OnOk, OnErr};
+ghost use Rattle.std.specs.Prelude.{◌≡◌, ℕ, ◌+◌, ◌≤◌, ◌<◌, ◌^◌, [], ◌++◌, List, length, take, IfOk, OnOk, OnErr};
+ghost use Rattle.ew_model.specs.declared.event.Event.{Event};
 ghost use Rattle.ew_model.specs.Operations.{changed_by, changed_by_all};
 ghost use Rattle.ew_model.specs.TextLaws.{Fits, AllFit};
+ghost use Rattle.ew_model.specs.Texts.{text_of};
 ghost use Rattle.rope.specs.Lengths.{AllStayShort};
-ghost use Rattle.replica.specs.Lengths.{lengths_through};
+ghost use Rattle.replica.specs.Lengths.{lengths_through, prefix_lengths};
 
 use ew_model::NoMem;
 use ew_model::text_op::TextOp;
@@ -64,5 +66,16 @@ fn length_after(len: u32, op: &TextOp) -> u32
         TextOp::Ins { .. } => len + 1,
         TextOp::Del { .. } => len - 1,
         TextOp::Nothing => len,
+    }
+}
+
+/// How many characters the text of the first `count` events has, by the lengths kept: number i is that of the first i + 1.
+pub fn length_below(lengths: &[u32], count: u32) -> u32
+    requires { count ≤ length lengths.now }
+    ensures { (history : List Event) → lengths.now ≡ prefix_lengths history → result ≡ length (text_of (take count history)) }
+{
+    match count.checked_sub(1) {
+        Some(last) => lengths[last as usize],
+        None => 0,
     }
 }

@@ -17,7 +17,8 @@ use std::alloc::Global;
 use std::sync::ledger::Ledger;
 use transform::replay;
 
-/// The text of a version, in UTF-8, or the first of its ids that isn't held. It is that of the version's own events.
+/// The text of a version, in UTF-8, or the first of its ids that isn't held. It is made from the version's own events
+/// alone.
 pub fn text_at<L: Ledger>(
     alloc: Global,
     graph: &Graph,

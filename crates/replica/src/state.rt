@@ -4,7 +4,7 @@ ghost use Rattle.std.specs.Prelude.{◌≡◌, ◌+◌, ◌≤◌, ◌<◌, ◌^
 ghost use Rattle.std.specs.Option.{option_and_then};
 ghost use Rattle.std.specs.Str.{chars};
 ghost use Rattle.ew_model.specs.Ancestors.{heads, version_events};
-ghost use Rattle.ew_model.specs.Arrival.{most_judgements, next_judgement};
+ghost use Rattle.ew_model.specs.Arrival.{arrive, most_judgements, next_judgement};
 ghost use Rattle.ew_model.specs.Cuts.{latest_cut};
 ghost use Rattle.ew_model.specs.EditLaws.{edited, size_of};
 ghost use Rattle.ew_model.specs.Edits as model;
@@ -12,9 +12,11 @@ ghost use Rattle.ew_model.specs.declared.id.Id.{Id};
 ghost use Rattle.ew_model.specs.Ids.{id_cmp};
 ghost use Rattle.ew_model.specs.File.{IsWritable};
 ghost use Rattle.ew_model.specs.Kept.{IsKept, is_awaited};
+ghost use Rattle.ew_model.specs.Rounds.{after_out_of_range, most_touches, round_touches, rounds_touches};
 ghost use Rattle.ew_model.specs.Sets.{SameElements};
 ghost use Rattle.ew_model.specs.Sorting.{sort_by};
 ghost use Rattle.ew_model.specs.Texts.{text_at, text_of};
+ghost use Rattle.ew_model.specs.TouchLaws.{NoneOutOfRange};
 ghost use Rattle.ew_model.specs.Touches.{touches};
 ghost use Rattle.ew_model.specs.Verdicts.{IsGood, first_unknown};
 ghost use Rattle.replica.specs.Answers.{EditsBy, Loads, refusal_of};
@@ -34,6 +36,7 @@ use crate::desk::Progress;
 use crate::edit::{Edit, changes, characters};
 use crate::fault::{EditFault, LoadFault, VersionFault};
 use crate::heads::head_ids;
+use crate::lengths::length_below;
 use crate::listed::listed;
 use crate::load::load;
 use crate::made::events_by;
@@ -131,6 +134,10 @@ impl Replica {
     /// Receives events, one after another. An event whose parents are all held is appended; one with an unknown parent waits,
     /// and is judged as soon as its parents are held; any other is refused, or was there before. Answers what was answered.
     ///
+    /// The text is found by a walk from the latest critical cut of the events held then that isn't above the number held before,
+    /// and a further one behind each event that is out of range. The steps taken are at most the touches of these walks, and
+    /// just those of the one walk where no index is out of range.
+    ///
     /// For want of memory receiving stops between two judgements: what was judged stands, and the other received events are
     /// handed back.
     pub fn receive<L: Ledger>(
@@ -141,6 +148,8 @@ impl Replica {
         requires { length events.items < 2 ^ 32 }
         ensures received { IfOk result (Receives self.old events.items self.new) }
         ensures stopped { IfErr result (StopsBetween self.old events.items self.new) }
+        ensures touches { IfOk result (λ took. NoneOutOfRange (arrive self.old.limits self.old.held self.old.waiting events.items).answers → steps.new ≡ steps.old + touches self.new.held took.cut) }
+        ensures most { steps.new ≤ steps.old + most_touches self.old.limits self.old.held self.old.waiting events.items }
     {
         let before = self.count();
         let mut progress = Progress::new(self.alloc);
@@ -167,6 +176,8 @@ impl Replica {
         ensures begun { IsBegun events.now progress.new }
         ensures reaches { Reaches self.old.limits (desk_of_replica self.old events.now progress.old) (desk_of_replica self.new events.now progress.new) progress.old progress.new }
         ensures ends { OnOk result (next_judgement self.old.limits true (desk_of_replica self.new events.now progress.new) ≡ None) }
+        ensures touches { OnOk result (after_out_of_range self.old.limits (most_judgements (desk_of_replica self.old events.now progress.old)) (desk_of_replica self.old events.now progress.old) ≡ None → steps.new ≡ steps.old + round_touches self.old.limits (desk_of_replica self.old events.now progress.old)) }
+        ensures most { steps.new ≤ steps.old + rounds_touches self.old.limits (most_judgements (desk_of_replica self.old events.now progress.old)) (desk_of_replica self.old events.now progress.old) }
     {
         while self.round(events, progress, steps)? {}
         Ok(())
@@ -186,6 +197,9 @@ impl Replica {
         ensures reaches { OnOk result (Reaches self.old.limits (desk_of_replica self.old events.now progress.old) (desk_of_replica self.new events.now progress.new) progress.old progress.new) }
         ensures fewer { IfOk result (λ more. more ≡ true → most_judgements (desk_of_replica self.new events.now progress.new) < most_judgements (desk_of_replica self.old events.now progress.old)) }
         ensures last { IfOk result (λ more. more ≡ false → next_judgement self.old.limits true (desk_of_replica self.new events.now progress.new) ≡ None) }
+        ensures next { IfOk result (λ more. more ≡ true → after_out_of_range self.old.limits (most_judgements (desk_of_replica self.old events.now progress.old)) (desk_of_replica self.old events.now progress.old) ≡ Some (desk_of_replica self.new events.now progress.new)) }
+        ensures touches { IfOk result (λ more. more ≡ false → steps.new ≡ steps.old + round_touches self.old.limits (desk_of_replica self.old events.now progress.old)) }
+        ensures most { steps.new ≤ steps.old + round_touches self.old.limits (desk_of_replica self.old events.now progress.old) }
         ensures same { OnErr result (self.new ≡ self.old) }
         ensures same_progress { OnErr result (progress.new ≡ progress.old) }
     {
@@ -267,10 +281,7 @@ impl Replica {
         requires { count ≤ length self.now.held }
         ensures { result ≡ length (text_of (take count self.now.held)) }
     {
-        match count.checked_sub(1) {
-            Some(last) => self.lengths[last as usize],
-            None => 0,
-        }
+        length_below(&self.lengths, count)
     }
 
     /// The positions of the heads among the events held, rising.
