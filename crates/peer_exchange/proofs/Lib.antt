@@ -1,0 +1,5 @@
+pub mod Ascending
+pub mod Lengths
+pub mod MissingLaw
+pub mod PieceLaws
+pub mod Refused

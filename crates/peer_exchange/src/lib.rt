@@ -1,0 +1,12 @@
+//! What two peers say to each other: `ask` makes the question for what a replica lacks, and `answer` the reply to a frame.
+//! `specs/Answering.antt` says what is answered to each frame.
+#![tactic(auto)]
+
+mod answering;
+mod events;
+pub mod laws;
+mod reply;
+mod sound;
+
+pub use answering::{answer, ask};
+pub use reply::{End, Reply};
