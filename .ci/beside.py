@@ -166,7 +166,7 @@ def shape_of(text):
     return re.sub(rb"[0-9a-f]{64}|[0-9]+", b"N", text).decode(errors="replace").strip()
 
 
-LISTINGS = ("cat", "heads", "log", "check", "replay")
+LISTINGS = ("cat", "heads", "log", "check", "replay", "ask")
 
 
 def list_all(beside, name):

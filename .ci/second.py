@@ -171,16 +171,19 @@ def people(beside, draws):
             beside.run("merge", draws.one_of(agents), draws.one_of(agents))
     for agent in agents:
         list_all(beside, agent)
-    texts = set()
+    texts, haves = set(), set()
     for order in itertools.permutations(agents):
         beside.copy("start", "whole")
         for agent in order:
             beside.run("merge", "whole", agent)
         texts.add(beside.run("cat", "whole"))
+        haves.add(beside.run("ask", "whole"))
         beside.run("check", "whole")
         beside.run("replay", "whole")
     if len(texts) != 1:
         beside.wrong("the orders of merging came to several texts")
+    if len(haves) != 1:
+        beside.wrong("the orders of merging came to several Haves")
     list_versions(beside, draws, "whole")
     beside.run("merge", agents[0], "whole")
     beside.run("merge", "whole", agents[0])
@@ -405,11 +408,15 @@ def page_versions(beside, events, texts, changes, orders):
     for version, text in re.findall(r"`([^`]*)` (?:`([^`]*)`|nothing)", texts):
         if beside.run("cat", "row", "--at", version) != (0, text.encode()):
             beside.wrong(f"the text of {version} in docs/FORMATS.md is another")
+    haves = set()
     for told, order in itertools.zip_longest(changes.split("; with "), orders):
         beside.file("row", file_of(sorted(events, key=lambda event: order.index(event.id.agent))))
+        haves.add(beside.run("ask", "row"))
         wanted = re.findall(r"`(ins [^`]*|del [^`]*|nothing)`", told)
         if beside.run("replay", "row")[1].decode().splitlines()[-len(wanted) :] != wanted:
             beside.wrong(f"the changes {told} of docs/FORMATS.md are others")
+    if len(haves) != 1:
+        beside.wrong("two orders of one history came to several Haves")
 
 
 def event_of(line):
@@ -458,7 +465,7 @@ def scripts(beside, draws):
 # Lines of words
 
 
-WORDS = ["new", "edit", "cat", "heads", "log", "check", "merge", "replay", "F", "F", "F", "G", "--agent", "--agent", "--agent=a", "--agent=", "--agent==a", "a",
+WORDS = ["new", "edit", "cat", "heads", "log", "check", "merge", "replay", "ask", "F", "F", "F", "G", "--agent", "--agent", "--agent=a", "--agent=", "--agent==a", "a",
          "-", "--", "--", "", "-h", "--help", "help", "-V", "--version", "--at", "--at", "--at=", "--at=root", "--at=a:1", "root", "a:0", "a:2,a:0", "b:0", "-F", "--agents", "--agen", "-agent", "---", "--=", "a" * 32, "a" * 33, "-1", "ä", "-ä", "=", "a b"]
 TAKEN = [["edit", "F", "--agent", "a"], ["edit", "--agent", "a", "F"], ["edit", "--agent=a", "--", "F"], ["edit", "F", "--agent=a"], ["edit", "--agent", "a", "--", "-F"],
          ["edit", "F", "--", "--agent", "a"], ["edit", "F", "--agent", "--", "a"], ["edit", "F", "--agent", "a", "--agent", "a"], ["edit", "F", "--agent", "a", "--agent=a"],
@@ -482,7 +489,11 @@ TAKEN = [["edit", "F", "--agent", "a"], ["edit", "--agent", "a", "F"], ["edit", 
          ["cat", "F", "--at", "help"], ["cat", "F", b"--at=\xff"], ["cat", "F", "--at", b"a:0\xff"], ["cat", b"\xff", "--at", "a:0"], ["--at", "a:0", "cat", "F"],
          ["replay"], ["replay", "F", "G"], ["replay", "--", "F"], ["replay", "F", "--"], ["replay", "--", "-F"], ["replay", "-F"], ["replay", "G"], ["replay", "nowhere"], ["replay", ""], ["replay", "-"],
          ["replay", "F", "--agent", "a"], ["replay", "--agent=a", "F"], ["replay", "F", "--help"], ["Replay", "F"], ["replay ", "F"], ["replays", "F"], [b"replay", b"\xff"], ["help", "replay"],
-         ["ask", "F"], ["serve", "F"], ["net"], ["make", "--seed", "1", "--count", "1"], [b"cat", b"\xff"], [b"\xff", b"F"]]
+         ["ask", "F"], ["ask"], ["ask", "F", "G"], ["ask", "F", "F"], ["ask", "--", "F"], ["ask", "F", "--"], ["ask", "--", "--"], ["ask", "--"], ["ask", "--", "-F"], ["ask", "--", "F", "G"], ["ask", "-F"],
+         ["ask", "G"], ["ask", "nowhere"], ["ask", ""], ["ask", "-"], ["ask", "F", "--agent", "a"], ["ask", "--agent=a", "F"], ["ask", "F", "--at", "a:0"], ["ask", "F", "--at=a:0"],
+         ["ask", "--at", "root", "F"], ["ask", "F", "--", "--at"], ["ask", "F", "--help"], ["ask", "F", "-h"], ["ask", "help"], ["help", "ask"], ["Ask", "F"], ["ASK", "F"], ["ask ", "F"], [" ask", "F"],
+         ["ask\n", "F"], ["asks", "F"], ["as", "F"], ["--", "ask", "F"], [b"ask", b"\xff"],
+         ["serve", "F"], ["net"], ["make", "--seed", "1", "--count", "1"], [b"cat", b"\xff"], [b"\xff", b"F"]]
 
 
 def words(beside, draws):
@@ -490,7 +501,7 @@ def words(beside, draws):
     beside.run("new", "F")
     beside.run("edit", "F", "--agent", "a", input=b"ins 0 abc")
     beside.copy("F", "kept")
-    lines = TAKEN + [[draws.one_of(WORDS[:8])] + [draws.one_of(WORDS) for _ in range(draws.below(6))] for _ in range(400)]
+    lines = TAKEN + [[draws.one_of(WORDS[:9])] + [draws.one_of(WORDS) for _ in range(draws.below(6))] for _ in range(400)]
     lines += [["edit"] + [draws.one_of(["F", "--agent", "--agent=a", "a", "--", "-", "-x", ""]) for _ in range(1 + draws.below(5))] for _ in range(200)]
     lines += [["cat"] + [draws.one_of(["F", "F", "--at", "--at=a:1", "a:0", "root", "b:0", "--", "-", "-x", ""]) for _ in range(1 + draws.below(5))] for _ in range(200)]
     for line in lines:
@@ -511,6 +522,7 @@ def limits(beside):
         for script in (b"ins 0 x", b"ins 0 ", b"del 0 1", b"del 0 0", b"ins 99 x", b"ins 99 "):
             beside.run("edit", "heads", "--agent", "a", input=script)
         beside.run("replay", "heads")
+        beside.run("ask", "heads")
         beside.run("cat", "heads", "--at", ",".join(f"p{n}:0" for n in reversed(range(agents))))
     beside.run("edit", "F", "--agent", "a", input=b"\n" * MOST_INPUT)
     beside.run("edit", "F", "--agent", "a", input=b"\n" * (MOST_INPUT + 1))
@@ -523,6 +535,7 @@ def limits(beside):
         beside.run("cat", "large", "--at", "a:0")
         beside.run("cat", "large", "--at", "a:00")
         beside.run("replay", "large")
+        beside.run("ask", "large")
         beside.run("new", "large")
     beside.clear()
 
@@ -541,6 +554,7 @@ def refusals(beside):
         beside.run("cat", name, "--at", "a:0")
         beside.run("cat", name, "--at", "b:0")
         beside.run("replay", name)
+        beside.run("ask", name)
         beside.run("edit", name, "--agent", "a", input=b"ins 0 x")
         beside.run("merge", name, "F")
         beside.run("merge", "F", name)
@@ -552,17 +566,21 @@ def refusals(beside):
         for version in ("a:2", "root", "b:0", "b"):
             beside.run("cat", "F", "--at", version, out=full)
         beside.run("replay", "F", out=full)
+        beside.run("ask", "F", out=full)
         beside.run("new", "unseen", out=full)
         beside.run("replay", "unseen", out=full)
+        beside.run("ask", "unseen", out=full)
         beside.run("cat", "F", "--at", "b:0", err=full)
         beside.run("edit", "F", "--agent", "a", input=b"ins 0 z", out=full)
         beside.run("cat", "nowhere", err=full)
+        beside.run("ask", "nowhere", err=full)
         beside.run("cat", err=full)
     beside.run("edit", "F", "--agent", "a", input=FOLDER)
     beside.run("edit", "nowhere", "--agent", "a", input=FOLDER)
     beside.run("cat", "F", input=FOLDER)
     beside.run("cat", "F", "--at", "a:0", input=FOLDER)
     beside.run("replay", "F", input=FOLDER)
+    beside.run("ask", "F", input=FOLDER)
     beside.clear()
 
 
@@ -575,7 +593,7 @@ WANTED += [(5, "egw: line N: unreadable"), (5, "egw: line N: out of range, lengt
 WANTED += [(6, f"egw: {what} failed") for what in ("shelf", "source", "sink")]
 WANTED += [(7, "egw: F: more than N bytes"), (7, "egw: F: more than N events"), (7, "egw: input: more than N bytes"), (7, "egw: more than N events"), (7, "egw: N heads, more than N")]
 # And each status that a command may come to, but for memory.
-STATUSES = {"cat --at": (0, 2, 3, 4, 5, 6, 7), "replay": (0, 2, 3, 4, 6, 7)}
+STATUSES = {"cat --at": (0, 2, 3, 4, 5, 6, 7), "replay": (0, 2, 3, 4, 6, 7), "ask": (0, 2, 3, 4, 6, 7)}
 
 
 def main():

@@ -1,7 +1,7 @@
 #!/usr/bin/env python3
 """A second implementation of `egw`, written from docs/FORMATS.md alone.
 
-It has new, edit, cat, heads, log, replay, check and merge. Its authors had never seen the program.
+It has new, edit, cat, heads, log, replay, check, ask and merge. Its authors had never seen the program.
 The sections follow those of the page. Python 3, nothing else.
 """
 
@@ -21,6 +21,7 @@ MAX_NUMBER = 4294967295
 ESCAPE = re.compile(r'\\(.?)', re.DOTALL)
 PLAIN = {'n': '\n', '\\': '\\'}
 INSERT, DELETE, LEFT, RIGHT = 0, 1, 0, 1
+HAVE = 1
 NAME = re.compile('[a-zA-Z0-9_][a-zA-Z0-9_-]{0,31}')
 NUMBER = '(0|[1-9][0-9]{0,9})'
 IDENT = re.compile('(%s):%s' % (NAME.pattern, NUMBER))
@@ -43,6 +44,11 @@ class Refusal(Exception):
 def spell(ident):
     """An id as it is written."""
     return '%s:%d' % ident
+
+
+def name_bytes(name):
+    """A name as it stands in files and frames."""
+    return bytes([len(name)]) + name.encode()
 
 
 def spell_operation(kind, index, char):
@@ -313,8 +319,7 @@ def file_bytes(events):
         if event.kind == INSERT:
             records.append(struct.pack('<I', ord(event.char)))
         where[event.id] = len(where)
-    names = [bytes([len(name)]) + name.encode() for name in agents]
-    body = b''.join([b'EGWFILE\1', struct.pack('<I', len(agents)), *names,
+    body = b''.join([b'EGWFILE\1', struct.pack('<I', len(agents)), *map(name_bytes, agents),
                      struct.pack('<I', len(events)), *records])
     return body + hashlib.sha256(body).digest()
 
@@ -360,6 +365,16 @@ def do_edit(history, agent, number, edit):
         at = index if kind == DELETE else index + step
         parents = tuple(sorted(history.heads))
         history.add(Event(ident, parents, kind, at, text[step:step + 1]))
+
+
+# Frames
+
+
+def have_frame(counts):
+    """The Have of how many events of each agent there are."""
+    held = [name_bytes(name) + struct.pack('<I', count) for name, count in sorted(counts.items())]
+    body = struct.pack('<I', len(held)) + b''.join(held)
+    return struct.pack('<BI', HAVE, len(body)) + body
 
 
 # Files, input and output
@@ -426,7 +441,7 @@ def store(file, events):
             raise
 
 
-# Commands: each takes the files and the values of its option, and gives what is printed
+# Commands: each takes the files and the values of its option, and gives what is printed, a text or bytes
 
 
 def run_new(files, _values):
@@ -490,6 +505,12 @@ def run_check(files, _values):
     return ''.join('%s %d\n' % (word, len(things)) for word, things in counted.items())
 
 
+def run_ask(files, _values):
+    """Print the Have of the events."""
+    by_agent = load(files[0]).by_agent
+    return have_frame({name: len(places) for name, places in by_agent.items()})
+
+
 def run_merge(files, _values):
     """Add the events of the other file that the first one lacks."""
     history, other = load(files[0]), load(files[1])
@@ -530,7 +551,8 @@ NO_OPTION = None, 0, None
 COMMANDS = {'new': (run_new, 1, *NO_OPTION), 'edit': (run_edit, 1, '--agent', 1, parse_name),
             'cat': (run_cat, 1, '--at', 0, parse_version), 'heads': (run_heads, 1, *NO_OPTION),
             'log': (run_log, 1, *NO_OPTION), 'replay': (run_replay, 1, *NO_OPTION),
-            'check': (run_check, 1, *NO_OPTION), 'merge': (run_merge, 2, *NO_OPTION)}
+            'check': (run_check, 1, *NO_OPTION), 'ask': (run_ask, 1, *NO_OPTION),
+            'merge': (run_merge, 2, *NO_OPTION)}
 
 
 def take(words):
@@ -560,9 +582,9 @@ def main():
     try:
         words = [os.fsencode(word).decode('utf-8') for word in sys.argv[1:]]
         command, files, values = take(words or [''])
-        text = command(files, values)
+        printed = command(files, values)
         with using('sink'):
-            write_all(1, text.encode('utf-8'))
+            write_all(1, printed if isinstance(printed, bytes) else printed.encode('utf-8'))
         return 0
     except UnicodeDecodeError:
         status, text = 2, USAGE

@@ -4,7 +4,7 @@ ghost use Rattle.std.specs.FinMap.{get};
 ghost use Rattle.command_table.specs.Loads.{File, whole_of};
 ghost use Rattle.command_table.specs.Possible.{MayReplyTo};
 ghost use Rattle.command_table.specs.Table as table;
-ghost use Rattle.command_table.specs.Table.{create_reply, open_file, over_events, past, show_reply};
+ghost use Rattle.command_table.specs.Table.{create_reply, listing_text, open_file, over_events, past, question, show_reply};
 ghost use Rattle.opened_files.specs.Views.{IsCommandPlan, LostBy, MissesBy, ShelfCauses, plan_view, status_of};
 ghost use Rattle.ew_outside.specs.Counts.{next};
 ghost use Rattle.command_words.specs.Words.{listing_view};
@@ -22,6 +22,8 @@ use history_view::{check_text, heads_text, log_text, replay_text};
 use opened_files::load::{Loaded, load_whole};
 use opened_files::open::{Found, open};
 use opened_files::reply::{Plan, Stop};
+use peer_exchange::ask;
+use peer_frames::encode as encode_frame;
 use replica::{Replica, VersionFault};
 use std::alloc::Global;
 use std::sync::ledger::Ledger;
@@ -35,6 +37,14 @@ fn past_text<L: Ledger>(
     ensures { Shows (show_reply (past version.now) replica.now.held) result }
 {
     replica.text_at(version, steps)
+}
+
+/// The frame that asks a peer for the events which the replica lacks.
+fn question_bytes(alloc: Global, replica: &Replica) -> Result<Vec<u8>, NoMem>
+    ensures { IfOk result (λ bytes. bytes.items ≡ listing_text question replica.now.held) }
+{
+    let question = ask(replica)?;
+    encode_frame(alloc, &question)
 }
 
 /// What is shown of a replica, or the first id of a version that isn't held.
@@ -53,6 +63,7 @@ fn list<L: Ledger>(
         Listing::Log => Ok(log_text(alloc, replica)?),
         Listing::Replay => Ok(replay_text(alloc, replica, steps)?),
         Listing::Numbers => Ok(check_text(alloc, replica)?),
+        Listing::Question => Ok(question_bytes(alloc, replica)?),
     }
 }
 
@@ -87,7 +98,8 @@ fn shown<'a, L: Ledger>(
     plan_of(alloc, listed)
 }
 
-/// Shows a file: its text now or at a version, its heads, its events, its replay or its numbers.
+/// Shows a file: its text now or at a version, its heads, its events, its replay, its numbers, or what it asks a
+/// peer for.
 pub fn show<'a, H: Shelf, L: Ledger>(
     alloc: Global,
     listing: Listing,

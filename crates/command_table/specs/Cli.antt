@@ -43,5 +43,5 @@ then_app app more = with_subcommand app more.top
 
 unfoldable pub egw_app : App
 egw_app =
-    then_app (then_app (then_app (then_app (then_app (then_app (then_app (then_app bare_app
-    (file_app (codes "new"))) edit_app) cat_app) (file_app (codes "heads"))) (file_app (codes "log"))) (file_app (codes "replay"))) (file_app (codes "check"))) merge_app
+    then_app (then_app (then_app (then_app (then_app (then_app (then_app (then_app (then_app bare_app
+    (file_app (codes "new"))) edit_app) cat_app) (file_app (codes "heads"))) (file_app (codes "log"))) (file_app (codes "replay"))) (file_app (codes "check"))) merge_app) (file_app (codes "ask"))

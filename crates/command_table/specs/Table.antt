@@ -21,6 +21,9 @@ use Rattle.ew_model.specs.File.{file_of}
 use Rattle.ew_model.specs.FileFaults.{FileFinding, file_finding}
 use Rattle.ew_model.specs.FileFaults.FileFinding.{IsFile, Short, BadMagic, BadVersion, BadDigest, BadRecord, TooMany}
 use Rattle.ew_outside.specs.Files.{Files}
+use Rattle.event_graph.specs.Summary.{summary_of}
+use Rattle.peer_frames.specs.declared.frame.Frame.TheVariants.{Have}
+use Rattle.peer_frames.specs.Spelling.{frame_bytes}
 use Rattle.history_words.specs.Listings.{check_text, heads_text, log_text}
 use Rattle.history_words.specs.Replays.{replay_text}
 use Rattle.history_words.specs.Tallies.{accepted_in, repeats_in, refused_in}
@@ -41,6 +44,7 @@ pub data Listing : Type 0 where
   log : Listing
   replay : Listing
   numbers : Listing
+  question : Listing
 
 -- a command line that is taken
 pub data Command : Type 0 where
@@ -83,7 +87,8 @@ line_in (Some p) =
     else (if bytes_eq p.0 (codes "log") then file_line (show log) p.1
     else (if bytes_eq p.0 (codes "replay") then file_line (show replay) p.1
     else (if bytes_eq p.0 (codes "check") then file_line (show numbers) p.1
-    else (if bytes_eq p.0 (codes "merge") then merge_line p.1 else None)))))))
+    else (if bytes_eq p.0 (codes "merge") then merge_line p.1
+    else (if bytes_eq p.0 (codes "ask") then file_line (show question) p.1 else None))))))))
 
 abbrev pub where_none : Kinds → Option Command → Option Command
 where_none [] l = l
@@ -140,6 +145,7 @@ listing_text head_ids events = heads_text events
 listing_text log events = log_text events
 listing_text replay events = replay_text events
 listing_text numbers events = check_text events
+listing_text question events = frame_bytes (Have (summary_of events))
 
 -- the first id of a version, in the order written, that isn't held
 abbrev pub unknown_in : Listing → List Event → Option Id

@@ -5,7 +5,7 @@ use Rattle.clap.specs.Words.{Row, Kinds, IsAmong, fault_of, subcommand_of, is_si
 use Rattle.clap.specs.declared.error.kind.ErrorKind.{ErrorKind}
 use Rattle.clap.specs.declared.error.kind.ErrorKind.TheVariants.{OutOfMemory}
 use Rattle.clap.proofs.OnLiterals.{clap_on_literals}
-use Rattle.command_table.specs.Table.{Text, content, past, log, replay, numbers, Command, edit, show, merge, line_in, where_none, line_of}
+use Rattle.command_table.specs.Table.{Text, content, past, log, replay, numbers, question, Command, edit, show, merge, line_in, where_none, line_of}
 use Rattle.command_table.specs.Cli.{cat_app, edit_app, egw_app, merge_app}
 use Rattle.command_table.specs.VersionWords.{version_in}
 
@@ -107,6 +107,10 @@ a_check_of_two = refl
 two_files : line_of (codes "merge" ∷ codes "F" ∷ codes "G" ∷ []) ≡ Some (merge (codes "F") (codes "G"))
 unfolding line_of egw_app edit_app cat_app merge_app clap_on_literals
 two_files = refl
+
+a_question : line_of (codes "ask" ∷ codes "F" ∷ []) ≡ Some (show question (codes "F"))
+unfolding line_of egw_app edit_app cat_app merge_app clap_on_literals
+a_question = refl
 
 a_merge_of_one : line_of (codes "merge" ∷ codes "F" ∷ []) ≡ None
 unfolding line_of egw_app edit_app cat_app merge_app clap_on_literals

@@ -1,7 +1,7 @@
 -- What the words of a command line were read as.
 use Rattle.std.specs.Prelude.{◌≡◌, ⊤, true, Option, Some}
 use Rattle.ew_model.specs.Names.{is_name}
-use Rattle.command_table.specs.Table.{Listing, content, past, head_ids, log, replay, numbers, Command, create, edit, show, merge}
+use Rattle.command_table.specs.Table.{Listing, content, past, head_ids, log, replay, numbers, question, Command, create, edit, show, merge}
 use Rattle.command_words.specs.declared.words as words
 use Rattle.command_words.specs.declared.words.Listing.TheVariants as shown
 use Rattle.command_words.specs.declared.words.Taken.{Taken}
@@ -15,6 +15,7 @@ listing_view shown.Heads = head_ids
 listing_view shown.Log = log
 listing_view shown.Replay = replay
 listing_view shown.Numbers = numbers
+listing_view shown.Question = question
 
 -- the command that the words were read as
 abbrev pub line_view : Taken → Command

@@ -109,5 +109,6 @@ pub fn egw_command<'a>(alloc: Global) -> Result<Command<'a>, AllocError>
     let command = with_edit(alloc, command)?;
     let command = with_cat(alloc, command)?;
     let command = with_shows(alloc, command)?;
-    with_merge(alloc, command)
+    let command = with_merge(alloc, command)?;
+    with_file_command(alloc, command, "ask")
 }

@@ -29,6 +29,8 @@ pub enum Listing {
     Replay,
     /// How many events, agents, heads, cuts and characters there are.
     Numbers,
+    /// What a peer is asked for the events that the file lacks.
+    Question,
 }
 
 /// A command line that is taken.
@@ -145,6 +147,9 @@ fn read_matches<'a>(
     }
     if name == "merge" {
         return Ok(read_merge(values));
+    }
+    if name == "ask" {
+        return Ok(read_show(Listing::Question, values));
     }
     Ok(None)
 }
