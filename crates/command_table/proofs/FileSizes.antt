@@ -1,5 +1,5 @@
 -- No file of a history within the limits has more bytes than the limits allow.
-use Rattle.std.proofs.Common.{◌≡◌, ℕ, ◌+◌, ◌*◌, ◌≤◌, nat_le, nat_lt, not, Bool, true, false, ◌&&◌, if◌then◌else◌, List, [], ◌∷◌, ◌++◌, length, fold, flat_map, refl, arith, length-append}
+use Rattle.std.proofs.Common.{◌≡◌, ℕ, ◌+◌, ◌*◌, ◌≤◌, nat_le, not, Bool, true, false, ◌&&◌, if◌then◌else◌, List, [], ◌∷◌, ◌++◌, length, fold, flat_map, refl, arith, length-append}
 use Rattle.std.specs.List.{list_any, list_all, AllByRecursion, position_or_len}
 use Rattle.std.proofs.lemmas.Bool.{and_parts}
 use Rattle.std.proofs.lemmas.Bool.Decides.{nat_tests}
@@ -11,11 +11,11 @@ use Rattle.ew_model.specs.declared.event.Op.TheVariants.{Ins, Del}
 use Rattle.ew_model.specs.declared.event.Event.{Event}
 use Rattle.ew_model.specs.Ancestors.{ids_of, is_held}
 use Rattle.ew_model.specs.Ids.{id_eq, name_eq, ids_ascend}
-use Rattle.ew_model.specs.Names.{is_name, is_name_byte, begins_with_dash}
 use Rattle.ew_model.specs.Sound.{AreSound}
 use Rattle.ew_model.specs.File.{four_bytes, name_bytes, with_agent, agents_of, op_bytes, record_bytes, file_content, file_of, are_writable_after, IsWritable}
 use Rattle.ew_model.specs.Limits.{most_file_bytes}
 use Rattle.ew_model.proofs.FileEvents.{agents_few_from}
+use Rattle.peer_frames.proofs.ShortNames.{name_short}
 
 four-long : (n : ℕ) → length (four_bytes n) ≡ 4
 four-long n = refl
@@ -24,15 +24,6 @@ at_most : (m n : ℕ) → nat_le m n ≡ true → m ≤ n
 at_most m n h = grind (arith, nat_tests)
 
 -- ---- names
-
-name_short : (name : List ℕ) → is_name name ≡ true → length name ≤ 32
-name_short name h =
-    let some = nat_lt 0 (length name) in
-    let few = nat_le (length name) 32 in
-    let letters = list_all is_name_byte name in
-    let bytes = and_parts (some && few && letters) (not (begins_with_dash name)) h in
-    let lengths = and_parts (some && few) letters bytes.0 in
-    at_most (length name) 32 (and_parts some few lengths.0).1
 
 names_length : (agents : List (List ℕ)) → AllByRecursion (λ name. length name ≤ 32) agents → length (flat_map name_bytes agents) ≤ 33 * length agents
 names_length [] h = omega arith

@@ -13,7 +13,7 @@ use Rattle.event_words.proofs.IdTexts.{id_lacks_space, id_once, version_once, ve
 use Rattle.history_words.specs.Listings.{event_line, log_text, op_words}
 use Rattle.history_view.specs.LogLaw.{LogsDiffer}
 
-same_heads : {a b : ℕ} {xs ys : List ℕ} → a ∷ xs ≡ b ∷ ys → a ≡ b
+pub same_heads : {a b : ℕ} {xs ys : List ℕ} → a ∷ xs ≡ b ∷ ys → a ≡ b
 same_heads e = cc
 
 heads_differ : (xs ys : List ℕ) → 105 ∷ xs ≡ 100 ∷ ys → ⊥

@@ -12,11 +12,7 @@ use Rattle.ew_model.proofs.GoodLaws.{operations_make_text}
 use Rattle.ew_model.proofs.TextLengths.{length_changed, length_operations}
 use Rattle.history_words.specs.Replays.{change_words, change_line, change_lines}
 use Rattle.history_view.specs.ReplayLaw.{HasSmallIndex, ReplaysMakeText}
-use Rattle.history_view.proofs.LogReading.{op_once}
-
--- the first bytes differ
-firsts : {a b : ℕ} {xs ys : List ℕ} → a ∷ xs ≡ b ∷ ys → a ≡ b
-firsts e = cc
+use Rattle.history_view.proofs.LogReading.{op_once, same_heads}
 
 no_byte : {a : ℕ} {xs : List ℕ} → [] ≡ a ∷ xs → ⊥
 no_byte e = cc
@@ -33,13 +29,13 @@ same_rests e = cc
 
 line_once : (a b : TextOp) (r t : List ℕ) → HasSmallIndex a → HasSmallIndex b → change_line a ++ r ≡ change_line b ++ t → (a ≡ b) × (r ≡ t)
 line_once (Ins at c) (Ins to d) r t s u e = let same = op_once (op.Ins at c) (op.Ins to d) r t s u (both (Ins at c) (Ins to d) r t e) in (ap own_change same.0, same.1)
-line_once (Ins at c) (Del to) r t s u e = let no : 105 ≡ 100 = firsts e in absurd (omega (arith, no))
-line_once (Ins at c) Nothing r t s u e = let no : 105 ≡ 110 = firsts e in absurd (omega (arith, no))
-line_once (Del at) (Ins to d) r t s u e = let no : 100 ≡ 105 = firsts e in absurd (omega (arith, no))
+line_once (Ins at c) (Del to) r t s u e = let no : 105 ≡ 100 = same_heads e in absurd (omega (arith, no))
+line_once (Ins at c) Nothing r t s u e = let no : 105 ≡ 110 = same_heads e in absurd (omega (arith, no))
+line_once (Del at) (Ins to d) r t s u e = let no : 100 ≡ 105 = same_heads e in absurd (omega (arith, no))
 line_once (Del at) (Del to) r t s u e = let same = op_once (op.Del at) (op.Del to) r t s u (both (Del at) (Del to) r t e) in (ap own_change same.0, same.1)
-line_once (Del at) Nothing r t s u e = let no : 100 ≡ 110 = firsts e in absurd (omega (arith, no))
-line_once Nothing (Ins to d) r t s u e = let no : 110 ≡ 105 = firsts e in absurd (omega (arith, no))
-line_once Nothing (Del to) r t s u e = let no : 110 ≡ 100 = firsts e in absurd (omega (arith, no))
+line_once (Del at) Nothing r t s u e = let no : 100 ≡ 110 = same_heads e in absurd (omega (arith, no))
+line_once Nothing (Ins to d) r t s u e = let no : 110 ≡ 105 = same_heads e in absurd (omega (arith, no))
+line_once Nothing (Del to) r t s u e = let no : 110 ≡ 100 = same_heads e in absurd (omega (arith, no))
 line_once Nothing Nothing r t s u e = (refl, same_rests e)
 
 -- a line has a byte

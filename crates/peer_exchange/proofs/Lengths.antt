@@ -1,7 +1,6 @@
 -- How long things are in a frame.
-use Rattle.std.proofs.Common.{◌≡◌, ℕ, zero, suc, ◌-◌, ◌*◌, ◌<◌, ◌≤◌, ◌^◌, nat_le, nat_lt, not, true, ◌&&◌, List, [], ◌∷◌, ◌++◌, length, map, take, drop, flat_map, Option, Some, None, refl, arith}
-use Rattle.std.specs.List.{list_all, AllByRecursion}
-use Rattle.std.proofs.lemmas.Bool.{and_parts, leb-true}
+use Rattle.std.proofs.Common.{◌≡◌, ℕ, zero, suc, ◌-◌, ◌*◌, ◌<◌, ◌≤◌, ◌^◌, nat_le, true, List, [], ◌∷◌, ◌++◌, length, map, take, drop, flat_map, Option, Some, None, refl, arith}
+use Rattle.std.specs.List.{AllByRecursion}
 use Rattle.std.proofs.lemmas.List.{length-append, length-take}
 use Rattle.std.proofs.Math.Nat.{div-mul-le_self}
 use Rattle.ew_model.specs.declared.id.Id.{Id}
@@ -11,29 +10,24 @@ use Rattle.ew_model.specs.declared.event.Event.{Event}
 use Rattle.ew_model.specs.File.{four_bytes, name_bytes, op_bytes}
 use Rattle.ew_model.specs.Kept.{ReplicaState}
 use Rattle.ew_model.specs.Limits.{LimitNumbers, AreLimits}
-use Rattle.ew_model.specs.Names.{is_name, is_name_byte, begins_with_dash}
 use Rattle.ew_model.specs.Sound.{IsSoundId, IsSound, AreSound}
 use Rattle.ew_model.specs.Verdicts.{IsGoodAfter, IsGood}
 use Rattle.ew_model.proofs.GoodLaws.{next_from_good}
 use Rattle.ew_model.proofs.SortingLaws.{all_filter}
 use Rattle.event_graph.specs.Missing.{count_in, missing}
 use Rattle.event_graph.specs.Summary.{summary_of}
+use Rattle.event_graph.proofs.Tails.{all_first}
 use Rattle.peer_frames.specs.declared.frame.Frame.{Frame}
 use Rattle.peer_frames.specs.declared.frame.Frame.TheVariants.{Have, Events, Done, Took, Clash, Bye}
 use Rattle.peer_frames.specs.Laws.{IsTaken}
 use Rattle.peer_frames.specs.Spelling.{AgentCount, id_bytes, event_bytes, count_bytes, events_body, body_of, names_ascend, IsSoundCount, IsSoundFrame}
+use Rattle.peer_frames.proofs.ShortNames.{name_short}
 use Rattle.peer_exchange.specs.Answering.{question, frame_for}
 use Rattle.peer_exchange.specs.Pieces.{frame_room, pieces_from, pieces}
 use Rattle.peer_exchange.proofs.Ascending.{summary_up, summary_some, summary_few}
 
 pub four_long : (n : ℕ) → length (four_bytes n) ≡ 4
 four_long n = refl
-
-name_short : (name : List ℕ) → is_name name ≡ true → length name ≤ 32
-name_short name h =
-    let sizes = nat_lt 0 (length name) && nat_le (length name) 32 in
-    let letters = list_all is_name_byte name in
-    leb-true (length name) 32 (and_parts (nat_lt 0 (length name)) (nat_le (length name) 32) (and_parts sizes letters (and_parts (sizes && letters) (not (begins_with_dash name)) h).0).0).1
 
 id_short : (x : Id) → IsSoundId x → length (id_bytes x) ≤ 37
 id_short x h = let name = name_short x.agent h.agent in let whole = length-append (name_bytes x.agent) (four_bytes x.seq) in omega (arith, name, whole, four_long x.seq)
@@ -88,11 +82,6 @@ events_taken limits events are sound few fits =
       short = short;
     }
 
-all_take : {A : Type 0} (P : A → Type 0) (n : ℕ) (xs : List A) → AllByRecursion P xs → AllByRecursion P (take n xs)
-all_take P zero xs h = tt
-all_take P (suc n) [] h = tt
-all_take P (suc n) (x ∷ xs) h = (h.0, all_take P n xs h.1)
-
 all_drop : {A : Type 0} (P : A → Type 0) (n : ℕ) (xs : List A) → AllByRecursion P xs → AllByRecursion P (drop n xs)
 all_drop P zero xs h = h
 all_drop P (suc n) [] h = tt
@@ -104,7 +93,7 @@ pieces_taken limits zero events are sound few = tt
 pieces_taken limits (suc k) events are sound few =
     let n = frame_room limits in
     let len = length-take n events in (
-      events_taken limits (take n events) are (all_take IsSound n events sound) (all_take HasFew n events few) (omega (arith, len)),
+      events_taken limits (take n events) are (all_first IsSound n events sound) (all_first HasFew n events few) (omega (arith, len)),
       pieces_taken limits k (drop n events) are (all_drop IsSound n events sound) (all_drop HasFew n events few),
     )
 
@@ -172,6 +161,9 @@ few_after before (e ∷ events) good = ((next_from_good before e good.0).few, fe
 pub missing_few : (history : List Event) (counts : List AgentCount) → IsGood history → AllByRecursion HasFew (missing history counts)
 unfolding IsGood
 missing_few history counts good = all_filter HasFew (λ (e : Event). nat_le (count_in counts e.id.agent) e.id.seq) history (few_after [] history good)
+
+pub missing_sound : (history : List Event) (counts : List AgentCount) → AreSound history → AreSound (missing history counts)
+missing_sound history counts sound = all_filter IsSound (λ (e : Event). nat_le (count_in counts e.id.agent) e.id.seq) history sound
 
 -- what is told of received events
 pub told_taken : (limits : LimitNumbers) (a b c d : ℕ) (clash : Option Id) → AreLimits limits → IsSoundFrame (frame_for (Took a b c d) clash) → IsTaken limits (frame_for (Took a b c d) clash)

@@ -63,9 +63,6 @@ events_few events h =
     let both = length-append (four_bytes (length events)) (flat_map event_bytes events) in
     omega (arith, h, each, both)
 
-pub spelled_few : (events : List Event) → length (events_body events) < 2 ^ 32 → length events < 2 ^ 32
-spelled_few events h = let few = events_few events h in omega (arith, few)
-
 -- fewer than a number of 32 bits are refused of the events of a frame and of those that waited
 pub refused_few : (limits : LimitNumbers) (held waiting events : List Event) → length waiting ≤ 16777216 → length (events_body events) < 2 ^ 32
     → length (refused_in (arrive limits held waiting events).answers) < 2 ^ 32

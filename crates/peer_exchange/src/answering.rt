@@ -2,7 +2,6 @@
 
 ghost use Rattle.std.specs.Prelude.{◌≡◌, ◌<◌, ◌^◌, [], ◌∷◌, false, length, option_map, Some, IfOk, OnErr};
 ghost use Rattle.std.specs.List.{All, AllByRecursion};
-ghost use Rattle.ew_model.specs.Sound.{AreSound};
 ghost use Rattle.event_graph.specs.Missing.{missing};
 ghost use Rattle.event_graph.specs.Summary.{summary_of};
 ghost use Rattle.peer_frames.specs.Laws.{IsTaken};
@@ -13,7 +12,7 @@ ghost use Rattle.peer_exchange.specs.Answering.{answer_to, brings_events, questi
 
 use crate::events::all_frames;
 use crate::reply::{End, Reply};
-use crate::sound::{note_counts, note_events, note_id};
+use crate::sound::{note_counts, note_id};
 use ew_model::NoMem;
 use ew_model::event::Event;
 use ew_model::id::Id;
@@ -104,6 +103,7 @@ fn answer_have(alloc: Global, replica: &Replica, counts: &Counts) -> Result<Repl
     ensures taken { IfOk result (λ reply. All (IsTaken replica.now.limits) reply.frames.items) }
 {
     let _most = replica.limits().events();
+    let _sound = replica.graph().count();
     let missing = missing(replica, counts)?;
     let frames = all_frames(alloc, &replica.limits(), missing)?;
     Ok(Reply { frames, end: None })
@@ -112,12 +112,9 @@ fn answer_have(alloc: Global, replica: &Replica, counts: &Counts) -> Result<Repl
 /// The events that the counts leave out.
 fn missing(replica: &Replica, counts: &Counts) -> Result<Vec<Event>, NoMem>
     requires { HasSpelling (frame.Have counts.now) }
-    ensures events { IfOk result (λ v. v.items ≡ missing replica.now.held counts.now) }
-    ensures sound { IfOk result (λ v. AreSound v.items) }
+    ensures { IfOk result (λ v. v.items ≡ missing replica.now.held counts.now) }
 {
-    let missing = replica.graph().missing(counts.as_slice())?;
-    note_events(&missing);
-    Ok(missing)
+    replica.graph().missing(counts.as_slice())
 }
 
 /// Receives events. The room for what is told comes first: once they are received, no memory is wanting.

@@ -1,13 +1,11 @@
 //! Names, numbers and characters are in their ranges, as their types tell: so it is known how long they are in a frame.
 
 ghost use Rattle.std.specs.Prelude.{◌≡◌, ◌<◌, ◌^◌, true};
-ghost use Rattle.std.specs.Char.{IsScalar};
 ghost use Rattle.std.specs.List.{AllByRecursion};
 ghost use Rattle.ew_model.specs.Names.{is_name};
-ghost use Rattle.ew_model.specs.Sound.{IsSound, IsSoundId, IsSoundOp, AreSound};
+ghost use Rattle.ew_model.specs.Sound.{IsSoundId};
 ghost use Rattle.peer_frames.specs.Spelling.{IsSoundCount};
 
-use ew_model::event::{Event, Op};
 use ew_model::id::Id;
 use ew_model::name::Name;
 
@@ -28,31 +26,6 @@ fn note_count(count: &(Name, u32))
     note_number(*number);
 }
 
-/// The events are sound.
-pub fn note_events(events: &[Event])
-    ensures { AreSound events.now }
-{
-    for event in events {
-        note_event(event);
-    }
-}
-
-fn note_event(event: &Event)
-    ensures { IsSound event.now }
-{
-    note_id(&event.id);
-    note_ids(event.parents.as_slice());
-    note_op(&event.op);
-}
-
-fn note_ids(ids: &[Id])
-    ensures { AllByRecursion IsSoundId ids.now }
-{
-    for id in ids {
-        note_id(id);
-    }
-}
-
 /// The id is sound.
 pub fn note_id(id: &Id)
     ensures { IsSoundId id.now }
@@ -67,26 +40,8 @@ fn note_name(name: &Name)
     let _bytes = name.as_slice();
 }
 
-fn note_op(op: &Op)
-    ensures { IsSoundOp op.now }
-{
-    match *op {
-        Op::Ins { at, ch } => {
-            note_number(at);
-            note_character(ch);
-        }
-        Op::Del { at } => note_number(at),
-    }
-}
-
 fn note_number(number: u32)
     ensures { number < 2 ^ 32 }
 {
     let _ = number;
-}
-
-fn note_character(ch: char)
-    ensures { IsScalar ch }
-{
-    let _ = ch;
 }

@@ -4,6 +4,7 @@ pub mod Lists
 pub mod Ascending
 pub mod Bodies
 pub mod Heads
+pub mod ShortNames
 pub mod Cuts
 pub mod Answering
 pub mod Written

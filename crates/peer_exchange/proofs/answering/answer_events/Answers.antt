@@ -9,11 +9,12 @@ use Rattle.peer_frames.specs.Laws.{IsTaken}
 use Rattle.peer_frames.specs.Spelling.{IsSoundFrame}
 use Rattle.peer_exchange.specs.Answering.{first_clash}
 use Rattle.peer_exchange.proofs.Lengths.{told_taken}
-use Rattle.peer_exchange.proofs.Refused.{spelled_few, refused_few}
+use Rattle.peer_frames.proofs.Bodies.{events_few}
+use Rattle.peer_exchange.proofs.Refused.{refused_few}
 use Rattle.peer_exchange.proofs.answering.answer_events.Goals as goal
 
 pub receive-requires : goal.receive-requires
-receive-requires c x = spelled_few x.args.events.items x.requires.body
+receive-requires c x = events_few x.args.events.items x.requires.body
 
 pub told-frame-requires : goal.told-frame-requires
 told-frame-requires c x =

@@ -7,15 +7,15 @@ use Rattle.event_graph.specs.Missing.{missing}
 use Rattle.peer_frames.specs.declared.frame.Frame.TheVariants.{Done}
 use Rattle.peer_frames.specs.Laws.{IsTaken}
 use Rattle.peer_exchange.specs.Answering.{event_frames}
-use Rattle.peer_exchange.proofs.Lengths.{sent_taken, missing_few}
+use Rattle.peer_exchange.proofs.Lengths.{sent_taken, missing_few, missing_sound}
 use Rattle.peer_exchange.proofs.answering.answer_have.Goals as goal
 
 pub returns-clause-taken : goal.returns-clause-taken
 returns-clause-taken c =
     let r = c.args.replica.now in
     let limits = subst AreLimits c.limits.ensures.limits c.events-most.ensures.range in
-    let events = c.in_ok-missing.ensures.events in
-    let sound = subst AreSound events c.in_ok-missing.ensures.sound in
+    let events = c.in_ok-missing.ensures in
+    let sound = missing_sound r.held c.args.counts.now (subst AreSound c.graph.ensures.graph c.count-sound.ensures.sound) in
     let items = c.in_ok-frames.ensures ∙ (λ i. event_frames (c.limits-2.ensures.limits i) (events i) ++ Done ∷ []) in
     All-from_recursion (IsTaken r.limits) c.in_ok-frames.frames.items
     (subst (AllByRecursion (IsTaken r.limits)) (sym items) (sent_taken r.limits (missing r.held c.args.counts.now) limits sound (missing_few r.held c.args.counts.now c.limits.ensures.kept.orderly.good)))
