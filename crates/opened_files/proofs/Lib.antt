@@ -1,2 +1,3 @@
 pub mod FileBytes
 pub mod Shown
+pub mod Touches

@@ -1,12 +1,14 @@
 //! Opening an event file: its bytes, its grammar, its events.
-ghost use Rattle.std.specs.Prelude.{◌≡◌, ◌≤◌, ◌<◌, ◌^◌, length, IfOk, IfSome, IsSomeAnd};
+ghost use Rattle.std.specs.Prelude.{◌≡◌, ◌≤◌, ◌<◌, ◌+◌, ◌^◌, length, IfOk, IfSome, IsSomeAnd};
 ghost use Rattle.ew_model.specs.FileFaults.{file_finding};
 ghost use Rattle.ew_model.specs.Limits.{most_file_bytes};
+ghost use Rattle.ew_model.specs.Touches.{touches};
 ghost use Rattle.ew_model.specs.Verdicts.{first_bad};
 ghost use Rattle.opened_files.specs.Faults.{finding_of};
 ghost use Rattle.command_table.specs.Possible.{MayOpen};
 ghost use Rattle.command_table.specs.Table.{judged, open_file, read_as, refused};
 ghost use Rattle.opened_files.specs.Views.{IsFileStatus, IsFresh, IsJudged, IsOpenable, IsRead, LostBy, OpenMisses, ShelfCauses, opened_view};
+ghost use Rattle.opened_files.specs.Touches.{TouchesAtMost, file_touches, found_touches};
 ghost use Rattle.ew_outside.specs.Counts.{next};
 
 use crate::load::{Loaded, load_whole};
@@ -43,6 +45,7 @@ fn judge<L: Ledger>(
     ensures told { IfOk result (λ f. opened_view f ≡ judged name.now events.items (first_bad events.items)) }
     ensures status { IfOk result IsJudged }
     ensures fresh { IfOk result (λ f. IsFresh limits f) }
+    ensures most { steps.new ≤ steps.old + touches events.items 0 }
 {
     match Replica::from_events(alloc, events, limits, steps) {
         Ok(replica) => Ok(Found::Open(replica)),
@@ -90,6 +93,7 @@ fn read<L: Ledger>(
     ensures told { IfOk result (λ f. opened_view f ≡ read_as name.now limits.now (file_finding limits.now.events bytes.now)) }
     ensures status { IfOk result IsRead }
     ensures fresh { IfOk result (λ f. IsFresh limits.now f) }
+    ensures most { steps.new ≤ steps.old + found_touches (file_finding limits.now.events bytes.now) }
 {
     match decode(alloc, bytes, limits.events()) {
         Ok(events) => judge(alloc, name, *limits, events, steps),
@@ -100,7 +104,7 @@ fn read<L: Ledger>(
     }
 }
 
-/// Opens the file of a name. The shelf is left as it was.
+/// Opens the file of a name. The shelf is left as it was. The steps taken are at most the touches of its events.
 pub fn open<H: Shelf, L: Ledger>(
     alloc: Global,
     name: &str,
@@ -117,6 +121,7 @@ pub fn open<H: Shelf, L: Ledger>(
     ensures misses { OpenMisses (H.misses shelf.old) (H.misses shelf.new) result }
     ensures loads { H.loads shelf.new ≡ next (H.loads shelf.old) }
     ensures lost { LostBy (H.lost shelf.old) (H.lost shelf.new) result }
+    ensures most { TouchesAtMost (file_touches name.now limits.now) (H.files shelf.old) steps.old steps.new }
 {
     let most = most_bytes(limits);
     match load_whole(shelf, name, most)? {

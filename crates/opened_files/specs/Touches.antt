@@ -1,0 +1,55 @@
+-- At most how often walkers are touched on a line, where the shelf tells its files.
+use Rattle.std.specs.Prelude.{◌≤◌, ⊤, ℕ, ◌+◌, List, [], Option, None, Some}
+use Rattle.std.specs.FinMap.{get}
+use Rattle.ew_model.specs.declared.event.Event.{Event}
+use Rattle.ew_model.specs.Ancestors.{version_events}
+use Rattle.ew_model.specs.FileFaults.{FileFinding, file_finding}
+use Rattle.ew_model.specs.FileFaults.FileFinding.{IsFile}
+use Rattle.ew_model.specs.Limits.{LimitNumbers, most_file_bytes}
+use Rattle.ew_model.specs.Rounds.{most_touches}
+use Rattle.ew_model.specs.Touches.{touches}
+use Rattle.ew_outside.specs.Files.{Files}
+use Rattle.command_table.specs.Loads.{File, missing, too_long, whole, whole_of}
+use Rattle.command_table.specs.Table.{Text, Command, create, edit, show, merge, Listing, past, replay, Opened, opened, refused, open_file}
+
+-- a file that is found is walked over from its start, also where one of its events isn't good
+abbrev pub found_touches : FileFinding → ℕ
+found_touches (IsFile events) = touches events 0
+found_touches finding = 0
+
+abbrev pub load_touches : LimitNumbers → File → ℕ
+load_touches limits missing = 0
+load_touches limits too_long = 0
+load_touches limits (whole bytes) = found_touches (file_finding limits.events bytes)
+
+-- those of loading the file of a name
+abbrev pub file_touches : Text → LimitNumbers → Files → ℕ
+file_touches name limits files = load_touches limits (whole_of (most_file_bytes limits.events) (get files name))
+
+-- none behind a file that is refused
+abbrev pub touches_over : (List Event → ℕ) → Opened → ℕ
+touches_over count (opened events) = count events
+touches_over count (refused status text) = 0
+
+-- a past text is walked over its version's events, and a replay over all
+abbrev pub listing_touches : Listing → List Event → ℕ
+listing_touches (past version) events = touches (version_events events version) 0
+listing_touches replay events = touches events 0
+listing_touches listing events = 0
+
+-- those of merging another file into events: of loading it, and of receiving what it holds
+abbrev pub merge_touches : Text → LimitNumbers → Files → List Event → ℕ
+merge_touches other limits files events = file_touches other limits files + touches_over (most_touches limits events []) (open_file other limits files)
+
+-- those of a line; an edit walks nothing but the load
+abbrev pub line_touches : Option Command → LimitNumbers → Files → ℕ
+line_touches (Some (create name)) limits files = 0
+line_touches (Some (edit name agent)) limits files = file_touches name limits files
+line_touches (Some (show listing name)) limits files = file_touches name limits files + touches_over (listing_touches listing) (open_file name limits files)
+line_touches (Some (merge name other)) limits files = file_touches name limits files + touches_over (merge_touches other limits files) (open_file name limits files)
+line_touches None limits files = 0
+
+-- where the files are told, the steps rose by no more
+abbrev pub TouchesAtMost : (Files → ℕ) → Option Files → ℕ → ℕ → Type 0
+TouchesAtMost most (Some files) before now = now ≤ before + most files
+TouchesAtMost most None before now = ⊤
