@@ -7,6 +7,7 @@ ghost use Rattle.command_table.specs.Reads.{IfRefused, LeavesInput, TakesAtMost}
 ghost use Rattle.command_table.specs.Possible.{MayEdit, MayReplyTo};
 ghost use Rattle.command_table.specs.Table as table;
 ghost use Rattle.command_table.specs.Table.{input_reply, made_reply, open_file, opened, over_events};
+ghost use Rattle.opened_files.specs.Touches.{TouchesAtMost, file_touches};
 ghost use Rattle.opened_files.specs.Views.{IsCommandPlan, LostBy, MissesBy, plan_view, status_of};
 ghost use Rattle.edit_plans.specs.Sources.{Causes, KeepsInput, PlansBy, ReadsAll, SourceCauses};
 ghost use Rattle.ew_outside.specs.Counts.{next};
@@ -37,7 +38,8 @@ fn do_edit<L: Ledger>(
     steps: &mut Steps<L>,
 ) -> Result<u32, EditFault>
     requires { replica.old.waiting ≡ [] }
-    ensures { EditsBy agent (edit_meant edit.now) replica.old replica.new result }
+    ensures done { EditsBy agent (edit_meant edit.now) replica.old replica.new result }
+    ensures steps { steps.new ≡ steps.old }
 {
     match edit {
         Edit::Ins { at, text } => replica.insert(agent, *at, text.as_str(), steps),
@@ -83,6 +85,7 @@ fn do_edits<'a, L: Ledger>(
     requires { replica.old.waiting ≡ [] }
     ensures done { EditsTo agent (numbered_edits edits.now) replica.old replica.new result }
     ensures plan { IfOk result (λ o. IfSome o IsCommandPlan) }
+    ensures steps { steps.new ≡ steps.old }
 {
     let limits = replica.limits();
     for (line, edit) in edits {
@@ -125,6 +128,7 @@ fn run_edits<'a, L: Ledger>(
     ensures told { IfOk result (λ p. plan_view p ≡ edits_reply name.now agent replica.old (numbered_edits edits.now)) }
     ensures plan { IfOk result IsCommandPlan }
     ensures found { IfOk result (λ p. status_of p ≢ 3) }
+    ensures steps { steps.new ≡ steps.old }
 {
     let before = replica.count();
     match do_edits(alloc, replica, agent, edits, steps)? {
@@ -148,6 +152,7 @@ fn run_script<'a, L: Ledger>(
     ensures some { MayScript name.now agent replica.old script.now result }
     ensures plan { IfOk result IsCommandPlan }
     ensures found { IfOk result (λ p. status_of p ≢ 3) }
+    ensures steps { steps.new ≡ steps.old }
 {
     let edits = match read_script(alloc, script) {
         Ok(edits) => edits,
@@ -181,6 +186,7 @@ fn take_input<'a, S: Source, L: Ledger>(
     ensures cause { SourceCauses (S.faults input.old) (S.faults input.new) result }
     ensures found { IfOk result (λ p. status_of p ≢ 3) }
     ensures plan { IfOk result IsCommandPlan }
+    ensures steps { steps.new ≡ steps.old }
 {
     let most = limits.input();
     match read_input(alloc, input, most)? {
@@ -192,7 +198,7 @@ fn take_input<'a, S: Source, L: Ledger>(
     }
 }
 
-/// Edits a file by the script that the input is.
+/// Edits a file by the script that the input is. The steps taken are at most those of loading the file.
 pub fn edit<'a, H: Shelf, S: Source, L: Ledger>(
     alloc: Global,
     name: &'a str,
@@ -214,6 +220,7 @@ pub fn edit<'a, H: Shelf, S: Source, L: Ledger>(
     ensures untouched { IfSome (H.files shelf.old) (λ m. IfRefused (open_file name.now limits.now m) (LeavesInput (S.left input.old) (S.left input.new) (S.faults input.old) (S.faults input.new))) }
     ensures loads { H.loads shelf.new ≡ next (H.loads shelf.old) }
     ensures lost { LostBy (H.lost shelf.old) (H.lost shelf.new) result }
+    ensures most { TouchesAtMost (file_touches name.now limits.now) (H.files shelf.old) steps.old steps.new }
 {
     match open(alloc, name, limits, shelf, steps)? {
         Found::Refused { status, text } => Ok(Plan::Refuses { status, text }),

@@ -1,5 +1,5 @@
 //! The command that merges another file into a file.
-ghost use Rattle.std.specs.Prelude.{◌≡◌, ◌≢◌, ◌<◌, ◌^◌, [], ◌∷◌, find, length, IfOk, IfSome};
+ghost use Rattle.std.specs.Prelude.{◌≡◌, ◌≢◌, ◌<◌, ◌≤◌, ◌+◌, ◌^◌, [], ◌∷◌, find, length, IfOk, IfSome};
 ghost use Rattle.std.specs.List.{list_any};
 ghost use Rattle.std.specs.Option.{option_copied};
 ghost use Rattle.merge_plans.specs.Merging.{took_reply, LoadsAll};
@@ -8,6 +8,8 @@ ghost use Rattle.command_table.specs.Loads.{File};
 ghost use Rattle.command_table.specs.Possible.{MayReplyTo};
 ghost use Rattle.command_table.specs.Table.{merge_reply, open_file, opened_as, over_both, over_events, received_reply};
 ghost use Rattle.command_table.specs.Table as table;
+ghost use Rattle.ew_model.specs.Rounds.{most_touches};
+ghost use Rattle.opened_files.specs.Touches.{TouchesAtMost, file_touches, merge_touches, touches_over};
 ghost use Rattle.opened_files.specs.Views.{IsCommandPlan, LostBy, MissesBy, ShelfCauses, plan_view, status_of};
 ghost use Rattle.command_table.specs.Reads.{LoadsFront, loads_behind};
 ghost use Rattle.ew_outside.specs.Counts.{next};
@@ -122,6 +124,7 @@ fn receive<'a, L: Ledger>(
     ensures told { IfOk result (λ p. plan_view p ≡ merge_reply name.now limits.now replica.old.held other.held) }
     ensures plan { IfOk result IsCommandPlan }
     ensures found { IfOk result (λ p. status_of p ≢ 3) }
+    ensures most { steps.new ≤ steps.old + most_touches limits.now replica.old.held [] other.held }
 {
     match replica.receive(events_of(other)?, steps) {
         Ok(took) => took_plan(alloc, name, limits, replica, &took),
@@ -149,6 +152,7 @@ fn take_other<'a, H: Shelf, L: Ledger>(
     ensures misses { MissesBy (H.misses shelf.old) (H.misses shelf.new) result }
     ensures loads { H.loads shelf.new ≡ next (H.loads shelf.old) }
     ensures lost { LostBy (H.lost shelf.old) (H.lost shelf.new) result }
+    ensures most { TouchesAtMost (λ m. merge_touches other.now limits.now m replica.old.held) (H.files shelf.old) steps.old steps.new }
 {
     match open(alloc, other, limits, shelf, steps)? {
         Found::Refused { status, text } => Ok(Plan::Refuses { status, text }),
@@ -159,7 +163,7 @@ fn take_other<'a, H: Shelf, L: Ledger>(
     }
 }
 
-/// Merges the events of another file into a file.
+/// Merges the events of another file into a file. The steps taken are at most those of loading both, and those of receiving.
 pub fn merge<'a, H: Shelf, L: Ledger>(
     alloc: Global,
     name: &'a str,
@@ -177,6 +181,7 @@ pub fn merge<'a, H: Shelf, L: Ledger>(
     ensures front { LoadsFront (name.now ∷ other.now ∷ []) (H.loads shelf.old) (H.loads shelf.new) }
     ensures loads { LoadsAll (λ m. loads_behind name.now other.now (open_file name.now limits.now m)) (H.files shelf.old) (H.loads shelf.old) (H.loads shelf.new) result }
     ensures lost { LostBy (H.lost shelf.old) (H.lost shelf.new) result }
+    ensures most { TouchesAtMost (λ m. file_touches name.now limits.now m + touches_over (merge_touches other.now limits.now m) (open_file name.now limits.now m)) (H.files shelf.old) steps.old steps.new }
 {
     match open(alloc, name, limits, shelf, steps)? {
         Found::Refused { status, text } => Ok(Plan::Refuses { status, text }),

@@ -16,7 +16,7 @@ returns-in-Err-clause-done g c =
     let now = c.loop-line.replica in
     let left : drop k edits ≡ item ∷ drop (k + 1) edits =
     drop_more edits k item c.loop-line-test.true ∙ ap (λ x. x ∷ drop (k + 1) edits) (sym c.loop-line-item.is) in
-    let by = subst (EditsBy c.args.agent (edit_meant item.1) now c.do_edit.new.replica) c.in-Err.is c.do_edit.ensures in
+    let by = subst (EditsBy c.args.agent (edit_meant item.1) now c.do_edit.new.replica) c.in-Err.is c.do_edit.ensures.done in
     let stop =
     stops c.limits-limits.result c.args.agent now c.do_edit.new.replica item.0 (edit_meant item.1) (numbered_edits (drop (k + 1) edits)) c.in_ok-refuse_line.field-0 c.in-Err.fault by c.in_ok-refuse_line.ensures.told in (
       stop.0,

@@ -9,3 +9,4 @@ invariant-loop-line g l =
     × (l.replica.limits ≡ l.initial.replica.limits)
     × (l.replica.waiting ≡ [])
     × (l.limits ≡ l.initial.replica.limits)
+    × (l.steps ≡ l.initial.steps)

@@ -1,6 +1,8 @@
-use Rattle.std.proofs.Common.{Ok}
+use Rattle.std.proofs.Common.{Ok, subst}
 use Rattle.opened_files.specs.declared.reply.Plan.TheVariants as plan
+use Rattle.opened_files.specs.Touches.{TouchesAtMost, merge_touches}
 use Rattle.command_table.specs.Table.{merge_reply}
+use Rattle.opened_files.proofs.Touches.{opened_touched}
 use Rattle.merge_plans.proofs.Loads.{both_front, first_front, loads_opened, loads_refused}
 use Rattle.merge_plans.proofs.Merges.{both_opened, later_causes, later_lost, later_misses, opened_merges, refused_merges}
 use Rattle.merge_plans.proofs.merge.merge.Goals as goal
@@ -42,3 +44,10 @@ returns-in-Refused-clause-some g c =
 pub returns-in-Open-clause-some : goal.returns-in-Open-clause-some
 returns-in-Open-clause-some g c =
     opened_merges c.args.name.now c.args.limits.now c.args.other.now c.in-Open.replica.held c.take_other.result (rw c.in-Open.is at c.in_ok-status.ensures.some) c.take_other.ensures.some
+
+pub returns-in-Open-clause-most : goal.returns-in-Open-clause-most
+returns-in-Open-clause-most g c =
+    let others = merge_touches c.args.other.now c.args.limits.now in
+    let held = c.in-Open.replica.held in
+    let later = subst (λ files. TouchesAtMost (λ m. others m held) files c.open.new.steps c.take_other.new.steps) c.in_ok-status.ensures.same c.take_other.ensures.most in
+    opened_touched c.args.name.now c.args.limits.now others held (g.H.Shelf.files c.args.shelf.now) c.args.steps.now c.open.new.steps c.take_other.new.steps (rw c.in-Open.is at c.in_ok-status.ensures.told) c.in_ok-status.ensures.most later
