@@ -1,10 +1,13 @@
 //! The commands that reach the shelf alone.
-ghost use Rattle.std.specs.Prelude.{◌≡◌, ◌≢◌, ◌≤◌, IfOk, IfSome};
+ghost use Rattle.std.specs.Prelude.{◌≡◌, ◌≢◌, ◌≤◌, ◌+◌, IfOk, IfSome};
 ghost use Rattle.std.specs.FinMap.{get};
 ghost use Rattle.command_table.specs.Loads.{File, whole_of};
 ghost use Rattle.command_table.specs.Possible.{MayReplyTo};
 ghost use Rattle.command_table.specs.Table as table;
 ghost use Rattle.command_table.specs.Table.{create_reply, listing_text, open_file, over_events, past, question, show_reply};
+ghost use Rattle.ew_model.specs.Ancestors.{version_events};
+ghost use Rattle.ew_model.specs.Touches.{touches};
+ghost use Rattle.opened_files.specs.Touches.{TouchesAtMost, file_touches, listing_touches, touches_over};
 ghost use Rattle.opened_files.specs.Views.{IsCommandPlan, LostBy, MissesBy, ShelfCauses, plan_view, status_of};
 ghost use Rattle.ew_outside.specs.Counts.{next};
 ghost use Rattle.command_words.specs.Words.{listing_view};
@@ -34,7 +37,8 @@ fn past_text<L: Ledger>(
     replica: &Replica,
     steps: &mut Steps<L>,
 ) -> Result<Vec<u8>, VersionFault>
-    ensures { Shows (show_reply (past version.now) replica.now.held) result }
+    ensures shown { Shows (show_reply (past version.now) replica.now.held) result }
+    ensures most { steps.new ≤ steps.old + touches (version_events replica.now.held version.now) 0 }
 {
     replica.text_at(version, steps)
 }
@@ -54,7 +58,8 @@ fn list<L: Ledger>(
     replica: &Replica,
     steps: &mut Steps<L>,
 ) -> Result<Vec<u8>, VersionFault>
-    ensures { Shows (show_reply (listing_view listing.now) replica.now.held) result }
+    ensures shown { Shows (show_reply (listing_view listing.now) replica.now.held) result }
+    ensures most { steps.new ≤ steps.old + listing_touches (listing_view listing.now) replica.now.held }
 {
     match listing {
         Listing::Content => Ok(replica.text()?),
@@ -93,6 +98,7 @@ fn shown<'a, L: Ledger>(
     ensures told { IfOk result (λ p. plan_view p ≡ show_reply (listing_view listing) replica.held) }
     ensures found { IfOk result (λ p. status_of p ≢ 3) }
     ensures plan { IfOk result IsCommandPlan }
+    ensures most { steps.new ≤ steps.old + listing_touches (listing_view listing) replica.held }
 {
     let listed = list(alloc, &listing, &replica, steps);
     plan_of(alloc, listed)
@@ -116,6 +122,7 @@ pub fn show<'a, H: Shelf, L: Ledger>(
     ensures misses { MissesBy (H.misses shelf.old) (H.misses shelf.new) result }
     ensures loads { H.loads shelf.new ≡ next (H.loads shelf.old) }
     ensures lost { LostBy (H.lost shelf.old) (H.lost shelf.new) result }
+    ensures most { TouchesAtMost (λ m. file_touches name.now limits.now m + touches_over (listing_touches (listing_view listing)) (open_file name.now limits.now m)) (H.files shelf.old) steps.old steps.new }
 {
     match open(alloc, name, limits, shelf, steps)? {
         Found::Refused { status, text } => Ok(Plan::Refuses { status, text }),

@@ -4,6 +4,7 @@ ghost use Rattle.std.specs.Option.{option_map};
 ghost use Rattle.ew_model.specs.Names.{is_name};
 ghost use Rattle.command_table.specs.Reads.{IfEditRefused, LeavesInput, LoadsFront, TakesAtMost, files_of, loads_of};
 ghost use Rattle.command_table.specs.Table.{needs_file, reads_input, reply_of, reply_to};
+ghost use Rattle.opened_files.specs.Touches.{TouchesAtMost, line_touches};
 ghost use Rattle.opened_files.specs.Views.{IsCommandPlan, LostBy, ShelfCauses};
 ghost use Rattle.edit_plans.specs.Sources.{Causes, KeepsInput, PlansBy};
 ghost use Rattle.merge_plans.specs.Merging.{LoadsAll};
@@ -48,6 +49,7 @@ pub fn make_plan<'a, H: Shelf, S: Source, L: Ledger>(
     ensures front { LoadsFront (files_of (option_map line_view line.entry)) (H.loads shelf.old) (H.loads shelf.new) }
     ensures loads { LoadsAll (loads_of (option_map line_view line.entry) limits.now) (H.files shelf.old) (H.loads shelf.old) (H.loads shelf.new) result }
     ensures lost { LostBy (H.lost shelf.old) (H.lost shelf.new) result }
+    ensures most { TouchesAtMost (line_touches (option_map line_view line.entry) limits.now) (H.files shelf.old) steps.old steps.new }
 {
     match line {
         None => Ok(Plan::Refuses {
@@ -83,6 +85,7 @@ fn plan_taken<'a, H: Shelf, S: Source, L: Ledger>(
     ensures front { LoadsFront (files_of (Some (line_view line.entry))) (H.loads shelf.old) (H.loads shelf.new) }
     ensures loads { LoadsAll (loads_of (Some (line_view line.entry)) limits.now) (H.files shelf.old) (H.loads shelf.old) (H.loads shelf.new) result }
     ensures lost { LostBy (H.lost shelf.old) (H.lost shelf.new) result }
+    ensures most { TouchesAtMost (line_touches (Some (line_view line.entry)) limits.now) (H.files shelf.old) steps.old steps.new }
 {
     match line {
         Taken::Edit { file, agent } => edit(
@@ -116,6 +119,7 @@ fn plan_unread<'a, H: Shelf, L: Ledger>(
     ensures front { LoadsFront (files_of (Some (line_view line.entry))) (H.loads shelf.old) (H.loads shelf.new) }
     ensures loads { LoadsAll (loads_of (Some (line_view line.entry)) limits.now) (H.files shelf.old) (H.loads shelf.old) (H.loads shelf.new) result }
     ensures lost { LostBy (H.lost shelf.old) (H.lost shelf.new) result }
+    ensures most { TouchesAtMost (line_touches (Some (line_view line.entry)) limits.now) (H.files shelf.old) steps.old steps.new }
 {
     match line {
         Taken::New(name) => create(alloc, name, shelf),

@@ -2,7 +2,9 @@
 ghost use Rattle.std.specs.Prelude.{map, string_bytes};
 ghost use Rattle.std.specs.Option.{option_map};
 ghost use Rattle.command_table.specs.Headline.{IsLineRun, IsRun, seen};
+ghost use Rattle.command_table.specs.Table.{line_of};
 ghost use Rattle.command_words.specs.Words.{IsNamed, line_view};
+ghost use Rattle.opened_files.specs.Touches.{TouchesAtMost, line_touches};
 
 use crate::ending::{Ending, carry_out, tell};
 use command_plans::plan::make_plan;
@@ -25,12 +27,13 @@ fn run_line<H: Shelf, S: Source, K: Sink, E: Sink, L: Ledger>(
     steps: &mut Steps<L>,
 ) -> u8
     requires { IsNamed (option_map line_view line) }
-    ensures { IsLineRun (option_map line_view line.entry) limits.now
+    ensures run { IsLineRun (option_map line_view line.entry) limits.now
         (seen (H.files shelf.old) (H.faults shelf.old) (H.misses shelf.old) (H.loads shelf.old) (H.lost shelf.old) (S.left input.old) (S.faults input.old)
         (K.taken out.old) (K.flushed out.old) (K.faults out.old) (E.taken err.old) (E.faults err.old))
         (seen (H.files shelf.new) (H.faults shelf.new) (H.misses shelf.new) (H.loads shelf.new) (H.lost shelf.new) (S.left input.new) (S.faults input.new)
         (K.taken out.new) (K.flushed out.new) (K.faults out.new) (E.taken err.new) (E.faults err.new))
         result }
+    ensures most { TouchesAtMost (line_touches (option_map line_view line.entry) limits.now) (H.files shelf.old) steps.old steps.new }
 {
     let planned = make_plan(alloc, line, limits, shelf, input, steps);
     let ending = carry_out(planned, shelf, out);
@@ -39,6 +42,7 @@ fn run_line<H: Shelf, S: Source, K: Sink, E: Sink, L: Ledger>(
 
 /// Runs one command line, without the program's name, and answers the status. What it prints, says, stores and answers is
 /// what the command table says, except where a count of faults rose (status 6) or memory was wanted (status 8).
+/// The steps taken are at most the touches of loading the files, and of what the command walks behind that.
 pub fn run<H: Shelf, S: Source, K: Sink, E: Sink, L: Ledger>(
     alloc: Global,
     words: &[String],
@@ -49,12 +53,13 @@ pub fn run<H: Shelf, S: Source, K: Sink, E: Sink, L: Ledger>(
     err: &mut E,
     steps: &mut Steps<L>,
 ) -> u8
-    ensures { IsRun (map string_bytes words.now) limits.now
+    ensures run { IsRun (map string_bytes words.now) limits.now
         (seen (H.files shelf.old) (H.faults shelf.old) (H.misses shelf.old) (H.loads shelf.old) (H.lost shelf.old) (S.left input.old) (S.faults input.old)
         (K.taken out.old) (K.flushed out.old) (K.faults out.old) (E.taken err.old) (E.faults err.old))
         (seen (H.files shelf.new) (H.faults shelf.new) (H.misses shelf.new) (H.loads shelf.new) (H.lost shelf.new) (S.left input.new) (S.faults input.new)
         (K.taken out.new) (K.flushed out.new) (K.faults out.new) (E.taken err.new) (E.faults err.new))
         result }
+    ensures most { TouchesAtMost (line_touches (line_of (map string_bytes words.now)) limits.now) (H.files shelf.old) steps.old steps.new }
 {
     match read_words(alloc, words) {
         Err(AllocError) => tell(Ending::OutOfMemory, err),

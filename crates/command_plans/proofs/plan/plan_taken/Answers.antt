@@ -42,3 +42,6 @@ returns-in_default-clause-kept g c = keeps_same (g.S.Source.left c.args.input.no
 pub returns-in-Edit-clause-some : goal.returns-in-Edit-clause-some
 returns-in-Edit-clause-some g c =
     rw c.in-Edit.is (subst (λ (agent : List ℕ). MayPlan (Some (edit c.in-Edit.file.now agent)) c.args.limits.now c.edit.result) c.name_of.ensures (may_plan (edit c.in-Edit.file.now c.name_of.result) c.args.limits.now c.edit.result c.edit.ensures.some))
+
+pub returns-in-Edit-clause-most : goal.returns-in-Edit-clause-most
+returns-in-Edit-clause-most g c = rw c.in-Edit.is c.edit.ensures.most

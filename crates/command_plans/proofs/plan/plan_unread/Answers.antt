@@ -3,6 +3,7 @@ use Rattle.command_table.specs.Loads.{whole_of}
 use Rattle.command_table.specs.Table.{create, merge, show, create_reply, merge_reply, open_file, over_both, over_events, show_reply}
 use Rattle.command_words.specs.Words.{listing_view}
 use Rattle.command_plans.proofs.Lines.{plans_alone, loads_one, one_front, may_plan}
+use Rattle.opened_files.proofs.Touches.{untouched}
 use Rattle.command_plans.proofs.plan.plan_unread.Goals as goal
 
 pub returns-in-New-clause-told : goal.returns-in-New-clause-told
@@ -47,3 +48,12 @@ returns-in-Show-clause-some g c = rw c.in-Show.is (may_plan (show (listing_view 
 
 pub returns-in-Merge-clause-some : goal.returns-in-Merge-clause-some
 returns-in-Merge-clause-some g c = rw c.in-Merge.is (may_plan (merge c.in-Merge.file.now c.in-Merge.other.now) c.args.limits.now c.merge.result c.merge.ensures.some)
+
+pub returns-in-New-clause-most : goal.returns-in-New-clause-most
+returns-in-New-clause-most g c = rw c.in-New.is (untouched (λ m. 0) (g.H.Shelf.files c.args.shelf.now) c.args.steps.now)
+
+pub returns-in-Show-clause-most : goal.returns-in-Show-clause-most
+returns-in-Show-clause-most g c = rw c.in-Show.is c.show.ensures.most
+
+pub returns-in-Merge-clause-most : goal.returns-in-Merge-clause-most
+returns-in-Merge-clause-most g c = rw c.in-Merge.is c.merge.ensures.most
