@@ -2,7 +2,7 @@
 
 ghost use Rattle.std.specs.Prelude.{◌≡◌, ◌<◌};
 
-use crate::walk_rows;
+use crate::{cut_rows, walk_rows};
 use ew_model::NoMem;
 use ew_model::steps::Steps;
 use std::alloc::Global;
@@ -10,7 +10,6 @@ use std::marker::Brand;
 use std::sync::ledger::{Blank, Ledger};
 use trial_rows::fault::Fault;
 use trial_rows::report::Report;
-use trial_rows::words::first_word;
 
 /// Carries out all groups of a text in UTF-8. Answers what is told of them, and how many rows were wrong.
 pub fn carry_out(alloc: Global, text: &[u8]) -> Result<(String, u32), NoMem> {
@@ -69,11 +68,10 @@ fn run_rows<'a, L: Ledger>(
     report: &mut Report<'a>,
     steps: &mut Steps<L>,
 ) -> Result<(), Fault> {
-    let (kind, words) = first_word(about);
-    match kind {
+    match about {
         "walk" => walk_rows::run(alloc, rows, report, steps),
         "replay" => walk_rows::run_replays(alloc, rows, report, steps),
-        "drawn" => walk_rows::run_drawn(alloc, words, rows, report, steps),
+        "cut" => cut_rows::run(alloc, rows, report, steps),
         _ => Err(Fault::Unreadable),
     }
 }

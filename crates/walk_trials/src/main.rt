@@ -1,8 +1,8 @@
-//! Rows of walks over whole histories: carried out, and compared.
+//! Rows of walks over histories: carried out, and compared.
 #![tactic(auto)]
 
+mod cut_rows;
 mod groups;
-mod histories;
 mod walk_rows;
 
 use crate::groups::carry_out;
