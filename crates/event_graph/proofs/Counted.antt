@@ -65,7 +65,7 @@ missing_more : (history : List Event) (counts : List (List ℕ × ℕ)) (place :
 missing_more history counts place e at = ap (λ es. missing es counts) (take_next history place e at) ∙ filter_more (λ (f : Event). nat_le (count_in counts f.id.agent) f.id.seq) (take place history) e
 
 -- the event whose id stands at a place
-event_there : (history : List Event) (place : ℕ) (x : Id) → slice_get (ids_of history) place ≡ Some x → (e : Event) × (slice_get history place ≡ Some e) × (e.id ≡ x)
+pub event_there : (history : List Event) (place : ℕ) (x : Id) → slice_get (ids_of history) place ≡ Some x → (e : Event) × (slice_get history place ≡ Some e) × (e.id ≡ x)
 event_there [] place x at = absurd (none_is_some at)
   where
     none_is_some : {A : Type 0} {y : A} → None ≡ Some y → ⊥

@@ -84,13 +84,15 @@ row_of_clash history e f place there h id other =
     (ap (λ (l : List Event). is_held l e.id) (append-nil history) ∙ (ap (is_held history) id ∙ held_of history f m))
 
 -- none with its id is held
-pub row_of_new : (history : List Event) (e : Event) → position (id_eq e.id) (ids_of history) ≡ None → row_in (id_rows history [] e) ≡ None
+pub row_of_unheld : (history : List Event) (e : Event) → is_held history e.id ≡ false → row_in (id_rows history [] e) ≡ None
 unfolding id_rows
-row_of_new history e h =
-    let new : is_held history e.id ≡ false = sym (is_some-position (id_eq e.id) (ids_of history)) ∙ ap is_some h in
+row_of_unheld history e new =
     neither (list_any (event_eq e) (history ++ [])) (is_held (history ++ []) e.id)
     (ap (λ (l : List Event). list_any (event_eq e) l) (append-nil history) ∙ no_repeat history e new)
     (ap (λ (l : List Event). is_held l e.id) (append-nil history) ∙ new)
+
+pub row_of_new : (history : List Event) (e : Event) → position (id_eq e.id) (ids_of history) ≡ None → row_in (id_rows history [] e) ≡ None
+row_of_new history e h = row_of_unheld history e (sym (is_some-position (id_eq e.id) (ids_of history)) ∙ ap is_some h)
 
 -- what isn't held is no ancestor
 pub not_known : (history : List Event) (named : List Id) (x : Id) → position (id_eq x) (ids_of history) ≡ None → is_among (ancestors history named) x ≡ false

@@ -3,6 +3,7 @@ pub mod Ascending
 mod CutBack
 pub mod Places
 pub mod Found
+pub mod GoingOn
 pub mod Rebuilt
 pub mod Grown
 pub mod Numbers

@@ -31,7 +31,7 @@ get_none (x ∷ xs) (suc k) h = let more = get_none xs k h in omega (arith, more
 told : (ids : List Id) (y : Id) → AreNumbered ids → is_some (slice_get (positions_of ids y.agent) y.seq) ≡ is_among ids y
 told ids y numbered = ap is_some (position_at ids y numbered) ∙ is_some-position (id_eq y) ids
 
-below_count : (ids : List Id) (y : Id) → AreNumbered ids → is_among ids y ≡ true → y.seq < count_of ids y.agent
+pub below_count : (ids : List Id) (y : Id) → AreNumbered ids → is_among ids y ≡ true → y.seq < count_of ids y.agent
 below_count ids y numbered h = let less = get_some (positions_of ids y.agent) y.seq (told ids y numbered ∙ h) in omega (arith, less, positions-length ids y.agent)
 
 from_count : (ids : List Id) (y : Id) → AreNumbered ids → is_among ids y ≡ false → count_of ids y.agent ≤ y.seq

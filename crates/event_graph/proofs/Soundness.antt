@@ -1,6 +1,5 @@
 -- An event that is judged good is sound where its id and operation are: its parents are held.
 use Rattle.std.proofs.Common.{◌≡◌, true, List, sym, subst}
-use Rattle.std.specs.List.{AllByRecursion}
 use Rattle.ew_model.specs.declared.event.Event.{Event}
 use Rattle.ew_model.specs.Ancestors.{is_held}
 use Rattle.ew_model.specs.Sound.{IsSoundId, IsSoundOp, IsSound, AreSound}

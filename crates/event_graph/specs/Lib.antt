@@ -1,4 +1,5 @@
 pub mod Finding
+pub mod GoingOn
 pub mod Keeping
 pub mod Missing
 pub mod Rows

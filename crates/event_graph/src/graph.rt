@@ -222,6 +222,10 @@ impl Graph {
     fn judge_form(&self, e: &Event) -> Result<Option<Verdict>, NoMem>
         ensures { IfOk result (λ v. option_map ruling_of v ≡ row_in (id_rows self.now [] e.now ++ parent_rows self.now e.now)) }
     {
+        let _count = self.count();
+        if self.goes_on(e) {
+            return Ok(None);
+        }
         match self.judge_id(e)? {
             Some(verdict) => Ok(Some(verdict)),
             None => self.judge_parents(e),
@@ -316,9 +320,25 @@ impl Graph {
         ensures ok { OnOk result (self.new ≡ self.old ++ e.now ∷ []) }
         ensures err { OnErr result (self.new ≡ self.old) }
     {
+        let parents = e.parents.as_slice();
+        match self.find_last(parents) {
+            Some(last) => self.put(e, &[last]),
+            None => {
+                let positions = self.positions_of(parents)?;
+                self.put(e, positions.as_slice())
+            }
+        }
+    }
+
+    /// Puts an event behind the others whose parents stand at these positions.
+    fn put(&mut self, e: &Event, positions: &[u32]) -> Result<(), NoMem>
+        requires good { graph_verdict self.old e.now ≡ Good }
+        requires room { length self.old + 1 < 2 ^ 32 }
+        requires parents { positions.now ≡ positions_in self.old e.now.parents }
+        ensures ok { OnOk result (self.new ≡ self.old ++ e.now ∷ []) }
+        ensures err { OnErr result (self.new ≡ self.old) }
+    {
         fits(e);
-        let parents = self.positions_of(e.parents.as_slice())?;
-        let positions = parents.as_slice();
         if self.heads.equals(positions) {
             self.put_on_heads(e, positions)
         } else {

@@ -3,6 +3,7 @@
 
 pub mod graph;
 mod ids;
+mod last;
 mod missing;
 mod parts;
 mod subgraph;

@@ -1,8 +1,12 @@
 use Rattle.std.proofs.Common.{◌≡◌, [], Option, IfOk, option_map, sym, ap, ◌∙◌, subst}
 use Rattle.ew_model.specs.Answers.{ruling_of}
 use Rattle.ew_model.specs.Verdicts.{Ruling, id_rows, parent_rows}
+use Rattle.event_graph.proofs.GoingOn.{none_holds}
 use Rattle.event_graph.proofs.RowLaws.{row_in-none, row_in-some}
 use Rattle.event_graph.proofs.graph.Graph.judge_form.Goals as goal
+
+pub returns-then-goes_on : goal.returns-then-goes_on
+returns-then-goes_on c = sym (none_holds c.args.self.now c.args.e.now c.count-count.ensures.admitted (c.goes_on.ensures.0 c.if-goes_on.true))
 
 pub returns-in-Some : goal.returns-in-Some
 returns-in-Some c =

@@ -1,0 +1,125 @@
+-- No row holds for an event that goes on right behind the last one.
+use Rattle.std.proofs.Common.{◌≡◌, ℕ, suc, ◌+◌, ◌-◌, ◌<◌, nat_lt, Bool, true, false, not, cond, ◌&&◌, ◌||◌, List, [], ◌∷◌, ◌++◌, find, length, position, Option, Some, None, option_map, refl, sym, ap, ◌∙◌, subst, arith, nat_cmp, IsSorted}
+use Rattle.std.specs.Prelude.{slice_get}
+use Rattle.std.specs.Bool.{then_some}
+use Rattle.std.specs.List.Sorted.{IsPermutation}
+use Rattle.std.specs.Option.{option_to_list}
+use Rattle.std.proofs.lemmas.Bool.{false_from_ne_true}
+use Rattle.std.proofs.lemmas.List.{length-map}
+use Rattle.std.proofs.lemmas.List.Sorted.{IsPermutation-refl}
+use Rattle.ew_model.specs.declared.id.Id.{Id}
+use Rattle.ew_model.specs.declared.event.Event.{Event}
+use Rattle.ew_model.specs.Ids.{id_eq, is_among, ids_ascend}
+use Rattle.ew_model.specs.Ancestors.{ids_of, is_held, is_reduced, ancestors}
+use Rattle.ew_model.specs.Positions.{positions_in}
+use Rattle.ew_model.specs.Verdicts.{id_rows, parent_rows, has_number_below, follows_its_agent}
+use Rattle.ew_model.specs.Verdicts.Ruling.{SelfParent, TooManyParents, ParentsUnsorted, Unknown, NotReduced, Skipped}
+use Rattle.ew_model.proofs.CoverLaws.{ids_alike, event_of, held_by}
+use Rattle.ew_model.proofs.GoodLaws.{no_parent}
+use Rattle.ew_model.proofs.GraphVersions.{taken_named}
+use Rattle.ew_model.proofs.IdLaws.{is_same_id}
+use Rattle.agent_ids.specs.Agents.{count_of, AreNumbered}
+use Rattle.agent_ids.proofs.Agents.{names_alike, count_push}
+use Rattle.agent_ids.proofs.Numbers.{numbered_next}
+use Rattle.event_graph.specs.Finding.{found_in}
+use Rattle.event_graph.specs.GoingOn.{last_id, next_id, GoesOn}
+use Rattle.event_graph.specs.Keeping.{IsAdmitted}
+use Rattle.event_graph.specs.Rows.{row_in}
+use Rattle.event_graph.proofs.Admitted.{laid}
+use Rattle.event_graph.proofs.Counted.{event_there}
+use Rattle.event_graph.proofs.Found.{sorted_found}
+use Rattle.event_graph.proofs.IdRows.{row_of_unheld}
+use Rattle.event_graph.proofs.Numbers.{below_count, numbered_ids}
+use Rattle.event_graph.proofs.Places.{place_of}
+use Rattle.event_graph.proofs.RowLaws.{row_in-none}
+
+-- the last of some ids stands behind the others
+last_split : (ids : List Id) (x : Id) → slice_get ids (length ids - 1) ≡ Some x → (front : List Id) × (ids ≡ front ++ x ∷ [])
+last_split [] x h = let no : ⊥ = cc in absurd no
+last_split (y ∷ []) x h = let one : y ≡ x = cc in ([], ap (λ z. z ∷ []) one)
+last_split (y ∷ z ∷ ids) x h =
+    let place : length (y ∷ z ∷ ids) - 1 ≡ suc (length (z ∷ ids) - 1) = omega arith in
+    let rest = last_split (z ∷ ids) x (sym (ap (slice_get (y ∷ z ∷ ids)) place) ∙ h) in
+    (y ∷ rest.0, ap (λ xs. y ∷ xs) rest.1)
+
+-- the last of numbered ids is its agent's last
+next_free : (ids front : List Id) (x : Id) → AreNumbered ids → ids ≡ front ++ x ∷ [] → is_among ids (next_id x) ≡ false
+next_free ids front x numbered split =
+    let own : x.seq ≡ count_of front x.agent = numbered_next front x [] (subst AreNumbered split numbered) in
+    let all : count_of ids x.agent ≡ count_of front x.agent + 1 =
+    ap (λ xs. count_of xs x.agent) split ∙ count_push front x x.agent ∙ ap (λ b. count_of front x.agent + cond b 1 0) (names_alike.refl x.agent) in
+    false_from_ne_true (is_among ids (next_id x)) (λ q. let less : suc x.seq < count_of ids x.agent = below_count ids (next_id x) numbered q in omega (arith, own, all, less))
+
+module _ (history : List Event) (admitted : IsAdmitted history) (x : Id) (last : last_id history ≡ Some x) where
+  split : (front : List Id) × (ids_of history ≡ front ++ x ∷ [])
+  split =
+      let few : length history ≡ length (ids_of history) = sym (length-map history (λ (e : Event). e.id)) in
+      last_split (ids_of history) x (ap (λ n. slice_get (ids_of history) (n - 1)) (sym few) ∙ last)
+
+  next_unheld : is_held history (next_id x) ≡ false
+  next_unheld = next_free (ids_of history) split.0 x (numbered_ids history admitted) split.1
+
+  last_held : is_held history x ≡ true
+  last_held = ap (λ ids. is_among ids x) split.1 ∙ at split.0
+    where
+      at : (front : List Id) → is_among (front ++ x ∷ []) x ≡ true
+      at [] = ap (λ b. b || false) (ids_alike.refl x)
+      at (y ∷ front) = by (id_eq x y) (at front)
+        where
+          by : (b : Bool) → is_among (front ++ x ∷ []) x ≡ true → (b || is_among (front ++ x ∷ []) x) ≡ true
+          by true h = refl
+          by false h = h
+
+  -- what is named and held is known
+  last_known : is_among (ancestors history (x ∷ [])) x ≡ true
+  last_known =
+      let f = event_of history x last_held in
+      let named : is_among (x ∷ []) f.0.id ≡ true = ap (λ y. is_among (y ∷ []) f.0.id) ((is_same_id x f.0.id).0 f.2) ∙ ap (λ b. b || false) (ids_alike.refl f.0.id) in
+      held_by _ x f.0 (taken_named (λ (e : Event). e.id) (λ (e : Event). e.parents) id_eq history (x ∷ []) f.0 f.1 named) f.2
+
+-- a row that doesn't hold is none
+none_of : (a b c d f : Bool) (o : Option Id) → a ≡ false → b ≡ false → c ≡ false → o ≡ None → d ≡ false → f ≡ false
+    → row_in (then_some a SelfParent ∷ then_some b TooManyParents ∷ then_some c ParentsUnsorted ∷ option_map Unknown o ∷ then_some d NotReduced ∷ then_some f Skipped ∷ []) ≡ None
+none_of a b c d f o pa pb pc po pd pf =
+    λ j. row_in (then_some (pa j) SelfParent ∷ then_some (pb j) TooManyParents ∷ then_some (pc j) ParentsUnsorted ∷ option_map Unknown (po j) ∷ then_some (pd j) NotReduced ∷ then_some (pf j) Skipped ∷ [])
+
+itself : (b c : Bool) → b ≡ true → not (((b || c) && true) && true) ≡ false
+itself true c h = refl
+itself false c h = let no : ⊥ = cc in absurd no
+
+-- no row by the parents holds where the one parent is held, the event isn't, and it is the next one of the parent's agent
+no_parent_row : (held : List Event) (e : Event) (x : Id) → is_held held x ≡ true → is_held held e.id ≡ false → is_among (ancestors held (x ∷ [])) x ≡ true → e.id ≡ next_id x → e.parents ≡ x ∷ [] → row_in (parent_rows held e) ≡ None
+unfolding parent_rows is_reduced follows_its_agent
+no_parent_row held e x there new known next one =
+    none_of (is_among e.parents e.id) (nat_lt 16 (length e.parents)) (not (ids_ascend e.parents)) (not (is_reduced held e.parents)) (not (follows_its_agent held e)) (find (λ p. not (is_held held p)) e.parents)
+    (ap (λ ps. is_among ps e.id) one ∙ no_parent held (x ∷ []) e.id (there, tt) new)
+    (ap (λ (ps : List Id). nat_lt 16 (length ps)) one)
+    (ap (λ ps. not (ids_ascend ps)) one)
+    (ap (find (λ p. not (is_held held p))) one ∙ ap (λ b. cond (not b) (Some x) None) there)
+    (ap (λ ps. not (is_reduced held ps)) one ∙ itself (id_eq x x) (not (is_among (ancestors held (x ∷ [])) x)) (ids_alike.refl x))
+    (ap (λ ps. not (has_number_below (ancestors held ps) e.id.agent e.id.seq)) one
+    ∙ ap (λ (y : Id). not (has_number_below (ancestors held (x ∷ [])) y.agent y.seq)) next
+    ∙ ap not known)
+
+-- NO ROW holds for an event that goes on right behind the last one.
+pub none_holds : (history : List Event) (e : Event) → IsAdmitted history → GoesOn history e → row_in (id_rows history [] e ++ parent_rows history e) ≡ None
+none_holds history e admitted on =
+    let x = on.0 in
+    let last = on.1 in
+    let next = on.2 in
+    let new : is_held history e.id ≡ false = ap (is_held history) next ∙ next_unheld history admitted x last in
+    row_in-none (id_rows history [] e) (parent_rows history e) (sym (row_of_unheld history e new))
+    ∙ no_parent_row history e x (last_held history admitted x last) new (last_known history admitted x last) next on.3
+
+one_sorted : (q : ℕ) → IsSorted nat_cmp (q ∷ [])
+one_sorted q = λ k d low less. absurd (omega (arith, less))
+
+-- the last event's id alone has the last position alone
+pub last_alone : (history : List Event) (x : Id) → IsAdmitted history → last_id history ≡ Some x → (length history - 1) ∷ [] ≡ positions_in history (x ∷ [])
+last_alone history x admitted last =
+    let q = length history - 1 in
+    let there = laid history admitted in
+    let f = event_there history q x last in
+    let place : position (id_eq x) (ids_of history) ≡ Some q = ap (λ y. position (id_eq y) (ids_of history)) (sym f.2) ∙ place_of history there q f.0 f.1 in
+    let found : found_in history (x ∷ []) ≡ q ∷ [] = ap (λ (o : Option ℕ). option_to_list o ++ []) place in
+    sorted_found history (x ∷ []) (q ∷ []) there refl (subst (λ ps. IsPermutation ps (q ∷ [])) (sym found) (IsPermutation-refl (q ∷ []))) (one_sorted q)
