@@ -2,8 +2,7 @@
 use Rattle.std.proofs.Common.{◌≡◌, ◌≢◌, ℕ, ◌<◌, List, [], ◌∷◌, ◌++◌, length, Option, Some, None, IfSome, IfNone, unwrap_or, Bor, sym, ap, subst, ◌∙◌, append-nil, arith}
 use Rattle.std.specs.List.{All}
 use Rattle.std.proofs.lemmas.List.Elements.{recursion_from_All}
-use Rattle.ew_model.specs.Edits.{Edit}
-use Rattle.ew_model.specs.Scripts.{Numbered, LinesMean, MeansEdit, IsScript, lines_of}
+use Rattle.ew_model.specs.Scripts.{Numbered, LinesMean, lines_of}
 use Rattle.ew_model.proofs.LineLaws.{lines_of-cut, lines_of-uncut}
 
 -- what stands before the first newline is a line, if there is one, and else all is
@@ -22,8 +21,8 @@ pub lines_of-split : (bytes : List ℕ) (found : Option (Bor (List ℕ) × Bor (
 lines_of-split bytes found whole parts some cut uncut e p q =
     lines_of-found bytes found whole some cut uncut p q ∙ ap (λ x. x.0.now ∷ lines_of x.1.now) (sym e)
 
--- where no line is left, the edits so far are the script
-pub finished : (bytes rest : List ℕ) (n : ℕ) (edits : List (Numbered Edit)) → length rest ≡ 0
-    → ((items : List (Numbered Edit)) → LinesMean MeansEdit n (lines_of rest) items → IsScript bytes (edits ++ items)) → IsScript bytes edits
-finished bytes [] n edits none script = subst (IsScript bytes) (append-nil edits) (script [] tt)
-finished bytes (b ∷ rest) n edits none script = absurd (omega arith)
+-- where no line is left, the items so far are what the lines mean
+pub finished : {A : Type 0} (Means : List ℕ → A → Type 0) (bytes rest : List ℕ) (n : ℕ) (items : List (Numbered A)) → length rest ≡ 0
+    → ((more : List (Numbered A)) → LinesMean Means n (lines_of rest) more → LinesMean Means 1 (lines_of bytes) (items ++ more)) → LinesMean Means 1 (lines_of bytes) items
+finished Means bytes [] n items none mean = subst (LinesMean Means 1 (lines_of bytes)) (append-nil items) (mean [] tt)
+finished Means bytes (b ∷ rest) n items none mean = absurd (omega arith)

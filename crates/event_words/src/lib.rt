@@ -8,4 +8,4 @@ pub mod print;
 pub mod script;
 pub mod text;
 pub mod version;
-mod words;
+pub mod words;

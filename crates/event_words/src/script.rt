@@ -67,7 +67,7 @@ pub fn read_script(alloc: Global, b: &[u8]) -> Result<Vec<(u32, Edit)>, ScriptFa
 }
 
 /// The first line, and what stands behind its newline.
-fn split_line(bytes: &[u8]) -> (&[u8], &[u8])
+pub fn split_line(bytes: &[u8]) -> (&[u8], &[u8])
     requires { 0 < length bytes.now }
     ensures lines { lines_of bytes.now ≡ result.0.now ∷ lines_of result.1.now }
     ensures less { length result.1.now < length bytes.now }

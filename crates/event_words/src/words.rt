@@ -13,7 +13,7 @@ use std::str;
 use std::str::Chars;
 
 /// What stands before the first byte of this value, and what stands behind it.
-pub(crate) fn split_once(bytes: &[u8], at: u8) -> Option<(&[u8], &[u8])>
+pub fn split_once(bytes: &[u8], at: u8) -> Option<(&[u8], &[u8])>
     ensures found { IfSome result (λ parts. All (λ x. x ≢ at) parts.0.now × (bytes.now ≡ parts.0.now ++ at ∷ parts.1.now)) }
     ensures none { IfNone result (All (λ x. x ≢ at) bytes.now) }
 {
@@ -22,7 +22,7 @@ pub(crate) fn split_once(bytes: &[u8], at: u8) -> Option<(&[u8], &[u8])>
 }
 
 /// The number of 32 bits that the word spells: decimal digits, with no sign, and no zero in front of others.
-pub(crate) fn read_number(word: &[u8]) -> Option<u32>
+pub fn read_number(word: &[u8]) -> Option<u32>
     ensures number { IfSome result (λ n. decimal n ≡ word.now) }
     ensures none { IfNone result ((n : ℕ) → n < 2 ^ 32 → decimal n ≢ word.now) }
 {
@@ -40,7 +40,7 @@ fn begins_with_extra(word: &[u8]) -> bool
 }
 
 /// The text that the bytes spell, in which a newline and a backslash are escaped.
-pub(crate) fn read_text(alloc: Global, bytes: &[u8]) -> Result<Option<Text>, NoMem>
+pub fn read_text(alloc: Global, bytes: &[u8]) -> Result<Option<Text>, NoMem>
     ensures text { IfOk result (λ found. IfSome found (λ text. (all_scalars text ≡ true) × (escaped_text text ≡ bytes.now))) }
     ensures none { IfOk result (λ found. IfNone found ((text : List ℕ) → all_scalars text ≡ true → escaped_text text ≢ bytes.now)) }
 {

@@ -1,0 +1,2 @@
+pub mod NetScripts
+pub mod Verbs
