@@ -10,6 +10,7 @@ use Rattle.ew_model.specs.declared.event.Event.{Event}
 use Rattle.ew_model.specs.Ids.{name_eq, id_eq, id_lt, ids_ascend}
 use Rattle.ew_model.specs.Ancestors.{ids_of, is_held}
 use Rattle.ew_model.specs.File.{agents_of}
+use Rattle.ew_model.specs.Distinct.{AreDistinct}
 use Rattle.ew_model.specs.FileFaults.{open_agents}
 use Rattle.ew_model.proofs.FileLists.{some_is, none_is_some, none_in_front, get-take_within, there_among}
 use Rattle.ew_model.proofs.FileRecords.{names_equal, name_exact}
@@ -46,6 +47,10 @@ held_push events e has new old up x =
     swapped true false = refl
     swapped false true = refl
     swapped false false = refl
+
+-- before the first event no id is among the seen ones
+pub none_indexed : (agents : List (List ℕ)) (has : Id → Bool) → AreDistinct name_eq agents → ((x : Id) → has x ≡ false) → IsIndexed agents [] 0 has
+none_indexed agents has distinct none = record { distinct = distinct; begin = refl; count = refl; ids = none }
 
 -- with an event of the next agent one agent more is used
 pub next_indexed : (agents : List (List ℕ)) (events : List Event) (used : ℕ) (has new : Id → Bool) (e : Event) → IsIndexed agents events used has → slice_get agents used ≡ Some e.id.agent → ((x : Id) → new x ≡ cond (id_eq e.id x) true (has x)) → IsIndexed agents (events ++ e ∷ []) (used + 1) new

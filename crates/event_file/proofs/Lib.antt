@@ -1,6 +1,9 @@
 pub mod Found
 pub mod Indexes
+pub mod Known
 pub mod Loops
 pub mod NameLoop
-pub mod RecordLoops
+pub mod ParentLoop
+pub mod Rest
+pub mod SeenCounts
 pub mod Tables

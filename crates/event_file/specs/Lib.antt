@@ -1,4 +1,7 @@
 pub mod Faults
-pub mod Reading
-pub mod Progress
+pub mod Known
 pub mod Places
+pub mod Progress
+pub mod Reading
+pub mod Rest
+pub mod SeenIds

@@ -85,6 +85,16 @@ pub(crate) fn bad_field(field: &[u8], kind: RecordFault) -> Stop
     }
 }
 
+impl From<AllocError> for FileFault {
+    ghost use Rattle.event_file.specs.declared.fault.FileFault.TheVariants.{OutOfMemory};
+
+    ghost from_gives = { λ _ fault. fault ≡ OutOfMemory };
+
+    fn from(_e: AllocError) -> FileFault {
+        FileFault::OutOfMemory
+    }
+}
+
 impl From<AllocError> for Stop {
     ghost from_gives = { λ _ stop. stop ≡ OutOfMemory };
 

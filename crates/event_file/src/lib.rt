@@ -1,5 +1,5 @@
 //! The event file: a whole history in one string of bytes, closed by its digest. `encode` writes it, `decode` reads it
-//! back, or tells the first fault of bytes that are no file.
+//! back, or tells the first fault of bytes that are no file. `EventReader` hands out one event at a time.
 #![tactic(auto)]
 
 mod agents;
@@ -8,9 +8,13 @@ mod format;
 mod input;
 mod names;
 mod progress;
+mod reader;
 mod reading;
+mod seen;
+mod short_id;
 mod writing;
 
 pub use fault::{FileFault, RecordFault};
+pub use reader::EventReader;
 pub use reading::decode;
 pub use writing::encode;

@@ -1,83 +1,95 @@
 //! What is read of a content so far.
 
-ghost use Rattle.std.specs.Prelude.{◌≡◌, [], ◌∷◌, ◌++◌, true, not, nat_le, length, slice_get, Some, OnOk, IfOk, IsTrue, ◌↔◌};
-ghost use Rattle.std.specs.List.{list_any};
+ghost use Rattle.std.specs.Prelude.{◌≡◌, [], ◌∷◌, ◌++◌, true, not, nat_le, cond, get_or, slice_get, Some, None, OnOk, OnErr, IfOk};
 ghost use Rattle.ew_model.specs.Ids.{name_eq, ids_ascend};
 ghost use Rattle.ew_model.specs.Ancestors.{ids_of, is_held};
 ghost use Rattle.ew_model.specs.Distinct.{AreDistinct};
-ghost use Rattle.ew_model.specs.File.{agents_of};
-ghost use Rattle.ew_model.specs.FileFaults.{field, only, number, byte, open_agents, read_parents, read_record, read_records, read_end};
+ghost use Rattle.ew_model.specs.FileFaults.{field, only, number, byte, open_agents, read_parents, read_record, read_end};
 ghost use Rattle.ew_model.specs.FileFaults.RecordFault.{AgentNumber, IdTwice, ParentCount, ParentPosition, ParentOrder};
 ghost use Rattle.event_file.specs.Reading.{Gives};
-ghost use Rattle.event_file.specs.Progress.{Known};
+ghost use Rattle.event_file.specs.Known.{known_by};
+ghost use Rattle.event_file.specs.Progress.{Known, IsOpenAt};
 
 use crate::fault::{RecordFault, Stop, bad_field};
 use crate::input::Input;
+use crate::seen::SeenIds;
+use crate::short_id::ShortId;
 use ew_model::NoMem;
 use ew_model::event::Event;
 use ew_model::id::Id;
 use ew_model::name::Name;
 use ew_model::parents::Parents;
 use std::alloc::Global;
-use std::collections::BTreeSet;
 use std::marker::Model;
 
 /// The most parents of an event.
 const MOST_PARENTS: u8 = 16;
 
-/// The agents of a file and its events so far. Contracts see these two lists.
+/// The agents of a file and the ids of its events so far, in their order. Contracts see the agents, and events of which the ids
+/// are known.
 #[derive(Drop)]
 pub(crate) struct Progress {
     agents: Vec<Name>,
     /// How many of the agents have an event.
     used: usize,
-    ids: BTreeSet<Id>,
-    events: Vec<Event>,
+    seen: SeenIds,
+    ids: Vec<ShortId>,
 }
 
 impl Model for Progress {
+    ghost use Rattle.std.specs.Prelude.{◌≡◌, length};
     ghost use Rattle.std.specs.BTreeSet.{contains};
     ghost use Rattle.ew_model.specs.Ids.{id_cmp};
+    ghost use Rattle.event_file.specs.Known.{known, AreWithin};
     ghost use Rattle.event_file.specs.Progress.{Known, IsIndexed};
+    ghost use Rattle.event_file.specs.SeenIds.{is_seen};
 
     ghost Value = { Known };
 
-    ghost view = { λ p. record { agents = p.agents.items; events = p.events.items } };
+    ghost view = { λ p. record { agents = p.agents.items; events = known p.agents.items p.ids.items } };
 
-    ghost invariant = { λ p. IsIndexed p.agents.items p.events.items p.used (contains id_cmp p.ids) };
+    ghost invariant = { λ p. IsIndexed p.agents.items (known p.agents.items p.ids.items) p.used (is_seen p.agents.items p.seen.counts.items (contains id_cmp p.seen.further))
+        × (length p.seen.counts.items ≡ length p.agents.items) × AreWithin (length p.agents.items) p.ids.items };
 }
 
 impl Progress {
     /// The agents, and no events yet.
-    pub(crate) fn new(alloc: Global, agents: Vec<Name>) -> Progress
+    pub(crate) fn new(alloc: Global, agents: Vec<Name>) -> Result<Progress, NoMem>
         requires { AreDistinct name_eq agents.items }
-        ensures { result ≡ record { agents = agents.items; events = [] } }
+        ensures { IfOk result (λ p. p ≡ record { agents = agents.items; events = [] }) }
     {
-        Progress {
+        let seen = SeenIds::new(alloc, agents.len())?;
+        Ok(Progress {
             agents,
             used: 0,
-            ids: BTreeSet::new(alloc),
-            events: Vec::new(alloc),
-        }
+            seen,
+            ids: Vec::new(alloc),
+        })
     }
 
-    /// Reads so many records.
-    pub(crate) fn read_records(&mut self, count: u32, input: &mut Input) -> Result<(), Stop>
-        ensures exact { Gives (λ _. (self.new.events, input.new.left.now)) result
-            (read_records self.old.agents self.old.events count input.old.left.now) }
-        ensures agents { OnOk result (self.new.agents ≡ self.old.agents) }
+    /// Reads a record and keeps its id. Where it can't be read, nothing changes.
+    #[tactic(auto, unfolding(ew_model::specs::FileFaults::read_record))]
+    pub(crate) fn next(&mut self, input: &mut Input) -> Result<Event, Stop>
+        ensures exact { Gives (λ e. (e, input.new.left.now)) result (read_record self.old.agents self.old.events input.old.left.now) }
+        ensures kept { IfOk result (λ e. self.new ≡ record { agents = self.old.agents; events = self.old.events ++ known_by e.id ∷ [] }) }
+        ensures err { OnErr result ((self.new ≡ self.old) × (input.new.left.now ≡ input.old.left.now)) }
     {
-        for _ in 0..count {
-            let event = self.record(input)?;
-            self.push(event)?;
-        }
-        Ok(())
+        let mut ahead = Input { left: input.left };
+        let place = self.agent(&mut ahead)?;
+        let id = self.id(place, &mut ahead)?;
+        let count = parent_count(&mut ahead)?;
+        let parents = self.parents(count, &mut ahead)?;
+        let op = ahead.operation()?;
+        let event = Event { id, parents, op };
+        self.keep(place, event.id)?;
+        input.left = ahead.left;
+        Ok(event)
     }
 
-    /// The events, where nothing is left and each agent has an event.
+    /// Whether nothing is left, and each agent has an event.
     #[tactic(auto, unfolding(ew_model::specs::FileFaults::read_end))]
-    pub(crate) fn finish(self, input: &Input) -> Result<Vec<Event>, Stop>
-        ensures { Gives (λ events. (events.items, [])) result (read_end self.agents self.events input.now.left.now) }
+    pub(crate) fn end(&self, input: &Input) -> Result<(), Stop>
+        ensures { Gives (λ _. (self.now.events, [])) result (read_end self.now.agents self.now.events input.now.left.now) }
     {
         if !input.left.is_empty() {
             return Err(bad_field(input.left, RecordFault::Trailing));
@@ -85,93 +97,83 @@ impl Progress {
         if self.used != self.agents.len() {
             return Err(bad_field(input.left, RecordFault::UnusedAgent));
         }
-        Ok(self.events)
+        Ok(())
     }
 
-    #[tactic(auto, unfolding(ew_model::specs::FileFaults::read_record))]
-    fn record(&self, input: &mut Input) -> Result<Event, Stop>
-        ensures exact { Gives (λ e. (e, input.new.left.now)) result (read_record self.now.agents self.now.events input.old.left.now) }
-        ensures agent { IfOk result (λ e. list_any (name_eq e.id.agent) (open_agents self.now.agents self.now.events) ≡ true) }
+    /// Keeps the id of an event of one of the open agents.
+    fn keep(&mut self, place: u32, id: Id) -> Result<(), NoMem>
+        requires { IsOpenAt self.old.agents self.old.events place id.agent }
+        ensures ok { OnOk result (self.new ≡ record { agents = self.old.agents; events = self.old.events ++ known_by id ∷ [] }) }
+        ensures err { OnErr result (self.new ≡ self.old) }
     {
-        let agent = self.agent(input)?;
-        let id = self.id(agent, input)?;
-        let count = parent_count(input)?;
-        let parents = self.parents(count, input)?;
-        let op = input.operation()?;
-        Ok(Event { id, parents, op })
-    }
-
-    /// Puts an event of one of the open agents behind the others.
-    fn push(&mut self, event: Event) -> Result<(), NoMem>
-        requires { list_any (name_eq event.id.agent) (open_agents self.old.agents self.old.events) ≡ true }
-        ensures { OnOk result (self.new ≡ record { agents = self.old.agents; events = self.old.events ++ event ∷ [] }) }
-    {
-        let is_next = self.is_next(&event.id.agent);
-        self.events.reserve(1)?;
-        self.ids.insert(event.id)?;
-        self.events.push_reserved(event);
-        if is_next {
+        let short = ShortId {
+            agent: place,
+            seq: id.seq,
+        };
+        self.ids.reserve(1)?;
+        self.seen.insert(place as usize, id)?;
+        self.ids.push_reserved(short);
+        if place as usize == self.used {
             self.used += 1;
         }
         Ok(())
     }
 
-    /// Whether the agent is the first without an event.
-    fn is_next(&self, agent: &Name) -> bool
-        ensures { IsTrue result ↔ (slice_get self.now.agents (length (agents_of self.now.events)) ≡ Some agent.now) }
-    {
-        match self.agents.get(self.used) {
-            Some(next) => next.is(agent),
-            None => false,
-        }
-    }
-
-    /// The agent of a record: one that has an event, or the next.
-    fn agent(&self, input: &mut Input) -> Result<Name, Stop>
-        ensures agent { Gives (λ agent. (agent, input.new.left.now)) result
+    /// The place of a record's agent: one that has an event, or the next.
+    fn agent(&self, input: &mut Input) -> Result<u32, Stop>
+        ensures agent { Gives (λ place. (get_or self.now.agents place [], input.new.left.now)) result
             (field number (slice_get (open_agents self.now.agents self.now.events)) AgentNumber input.old.left.now) }
-        ensures known { IfOk result (λ agent. list_any (name_eq agent) (open_agents self.now.agents self.now.events) ≡ true) }
+        ensures open { IfOk result (λ place. IsOpenAt self.now.agents self.now.events place (get_or self.now.agents place [])) }
     {
         let field = input.left;
         let place = input.number()?;
-        match self.open_agent(place as usize) {
-            Some(agent) => Ok(agent),
-            None => Err(bad_field(field, RecordFault::AgentNumber)),
+        if !self.is_open(place as usize) {
+            return Err(bad_field(field, RecordFault::AgentNumber));
         }
+        Ok(place)
     }
 
-    fn open_agent(&self, place: usize) -> Option<Name>
-        ensures { result ≡ slice_get (open_agents self.now.agents self.now.events) place }
+    fn is_open(&self, place: usize) -> bool
+        ensures { slice_get (open_agents self.now.agents self.now.events) place ≡ cond result (Some (get_or self.now.agents place [])) None }
     {
         if place > self.used {
-            return None;
+            return false;
         }
-        match self.agents.get(place) {
-            Some(agent) => Some(*agent),
-            None => None,
-        }
+        place < self.agents.len()
     }
 
-    /// The id of a record of this agent, which isn't that of an event before.
-    fn id(&self, agent: Name, input: &mut Input) -> Result<Id, Stop>
+    /// The id of a record of the agent at this place, which isn't that of an event before.
+    fn id(&self, place: u32, input: &mut Input) -> Result<Id, Stop>
+        requires { slice_get self.now.agents place ≡ Some (get_or self.now.agents place []) }
         ensures id { Gives (λ id. (id, input.new.left.now)) result
-            (field number (λ seq. only (λ x. not (is_held self.now.events x)) (record { agent = agent; seq = seq })) IdTwice input.old.left.now) }
-        ensures agent { IfOk result (λ id. id.agent ≡ agent) }
+            (field number (λ seq. only (λ x. not (is_held self.now.events x)) (record { agent = get_or self.now.agents place []; seq = seq })) IdTwice input.old.left.now) }
+        ensures agent { IfOk result (λ id. id.agent ≡ get_or self.now.agents place []) }
     {
         let field = input.left;
         let seq = input.number()?;
-        let id = Id { agent, seq };
-        if self.ids.contains(&id) {
+        let id = Id {
+            agent: self.agents[place as usize],
+            seq,
+        };
+        if self.is_seen(place as usize, &id) {
             return Err(bad_field(field, RecordFault::IdTwice));
         }
         Ok(id)
+    }
+
+    /// Whether an event of the agent at this place has the id.
+    fn is_seen(&self, place: usize, id: &Id) -> bool
+        requires { slice_get self.now.agents place ≡ Some id.now.agent }
+        ensures { result ≡ is_held self.now.events id.now }
+    {
+        self.seen.contains(place, id)
     }
 
     /// So many parents, ascending.
     fn parents(&self, count: u8, input: &mut Input) -> Result<Parents, Stop>
         ensures { Gives (λ parents. (parents, input.new.left.now)) result (read_parents (ids_of self.now.events) [] count input.old.left.now) }
     {
-        let mut parents = Vec::with_capacity(*self.events.allocator(), count as usize)?;
+        let mut parents = Vec::with_capacity(*self.ids.allocator(), count as usize)?;
         for _ in 0..count {
             let parent = self.parent(parents.as_slice(), input)?;
             parents.push(parent)?;
@@ -199,8 +201,11 @@ impl Progress {
     fn id_at(&self, place: usize) -> Option<Id>
         ensures { result ≡ slice_get (ids_of self.now.events) place }
     {
-        match self.events.get(place) {
-            Some(event) => Some(event.id),
+        match self.ids.get(place) {
+            Some(id) => Some(Id {
+                agent: self.agents[id.agent as usize],
+                seq: id.seq,
+            }),
             None => None,
         }
     }

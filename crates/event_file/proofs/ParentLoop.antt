@@ -1,11 +1,10 @@
--- Reading parents and records one after the other.
+-- Reading parents one after the other.
 use Rattle.std.proofs.Common.{◌≡◌, ℕ, zero, suc, ◌+◌, ◌-◌, ◌<◌, ◌≤◌, true, List, [], ◌∷◌, ◌++◌, Result, Ok, refl}
 use Rattle.std.specs.Prelude.{slice_get}
 use Rattle.ew_model.specs.declared.id.Id.{Id}
-use Rattle.ew_model.specs.declared.event.Event.{Event}
 use Rattle.ew_model.specs.Ids.{ids_ascend}
 use Rattle.ew_model.specs.FileFaults as model
-use Rattle.ew_model.specs.FileFaults.{Reader, number, field, only, go_on, read_parents, read_record, read_records}
+use Rattle.ew_model.specs.FileFaults.{Reader, number, field, only, go_on, read_parents}
 use Rattle.ew_model.specs.FileFaults.RecordFault.{ParentPosition, ParentOrder}
 use Rattle.ew_model.proofs.FileFields.{tested_ok}
 use Rattle.event_file.specs.declared.fault.Stop.{Stop}
@@ -37,22 +36,3 @@ parents_done ids = is_done (read_parents ids) (one_parent ids) (parents_step ids
 -- a parent that was read is above those before it
 pub parent_ascends : (ids parents : List Id) (bytes left : List ℕ) (x : Id) → one_parent ids parents bytes ≡ Ok (x, left) → ids_ascend (parents ++ x ∷ []) ≡ true
 parent_ascends ids parents bytes left x e = (tested_ok (field number (slice_get ids) ParentPosition) (λ y. ids_ascend (parents ++ y ∷ [])) ParentOrder bytes (x, left) e).1
-
-records_step : (agents : List (List ℕ)) (before : List Event) (n : ℕ) (bytes : List ℕ) → read_records agents before (suc n) bytes ≡ go_on (read_record agents before bytes) (λ e. read_records agents (before ++ e ∷ []) n)
-unfolding read_records
-records_step agents before n bytes = refl
-
-records_last : (agents : List (List ℕ)) (before : List Event) (bytes : List ℕ) → read_records agents before zero bytes ≡ Ok (before, bytes)
-unfolding read_records
-records_last agents before bytes = refl
-
-pub records_go_on : (agents : List (List ℕ)) (before : List Event) (count i : ℕ) (bytes left : List ℕ) (e : Event) (whole : Result (List Event × List ℕ) model.Stop) → i < count → read_record agents before bytes ≡ Ok (e, left)
-    → read_records agents before (count - i) bytes ≡ whole → read_records agents (before ++ e ∷ []) (count - (i + 1)) left ≡ whole
-records_go_on agents = goes_on (read_records agents) (read_record agents) (records_step agents) (records_last agents)
-
-pub records_end : (agents : List (List ℕ)) (stop : Stop) (before : List Event) (count i : ℕ) (bytes : List ℕ) (whole : Result (List Event × List ℕ) model.Stop) → i < count → Stops stop (read_record agents before bytes)
-    → read_records agents before (count - i) bytes ≡ whole → Stops stop whole
-records_end agents = ends (read_records agents) (read_record agents) (records_step agents) (records_last agents)
-
-pub records_done : (agents : List (List ℕ)) (before : List Event) (count i : ℕ) (bytes : List ℕ) (whole : Result (List Event × List ℕ) model.Stop) → count ≤ i → read_records agents before (count - i) bytes ≡ whole → whole ≡ Ok (before, bytes)
-records_done agents = is_done (read_records agents) (read_record agents) (records_step agents) (records_last agents)

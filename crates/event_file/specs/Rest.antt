@@ -1,0 +1,42 @@
+-- What is still to come of a file.
+use Rattle.std.specs.Prelude.{◌≡◌, ℕ, suc, List, [], ◌∷◌, ◌++◌, length, drop, Option, Some, None, Result, Ok, Err}
+use Rattle.ew_model.specs.declared.event.Event.{Event}
+use Rattle.ew_model.specs.FileFaults.{FileFinding, go_on, finding_of, read_records, read_end}
+use Rattle.ew_model.specs.FileFaults.FileFinding.{IsFile, Short, BadMagic, BadVersion, BadDigest, BadRecord, TooMany}
+use Rattle.event_file.specs.declared.fault.FileFault.{FileFault}
+use Rattle.event_file.specs.Faults.{IsFault}
+
+-- what a reader has still to hand out: so many records, and what is found of them and of the end behind them
+pub record Rest : Type 0 where
+  pub records : ℕ
+  pub found : FileFinding
+
+-- the same finding, without the first of its events
+abbrev pub beyond : ℕ → FileFinding → FileFinding
+beyond n (IsFile events) = IsFile (drop n events)
+beyond n (Short len) = Short len
+beyond n BadMagic = BadMagic
+beyond n (BadVersion version) = BadVersion version
+beyond n (BadDigest stored other) = BadDigest stored other
+beyond n (BadRecord offset kind) = BadRecord offset kind
+beyond n (TooMany count) = TooMany count
+
+-- the same finding, with more events in front of its own
+abbrev pub in_front : List Event → FileFinding → FileFinding
+in_front before (IsFile events) = IsFile (before ++ events)
+in_front before (Short len) = Short len
+in_front before BadMagic = BadMagic
+in_front before (BadVersion version) = BadVersion version
+in_front before (BadDigest stored other) = BadDigest stored other
+in_front before (BadRecord offset kind) = BadRecord offset kind
+in_front before (TooMany count) = TooMany count
+
+-- what is found of so many records behind those of these events, in a content of that many bytes
+abbrev pub rest_found : List (List ℕ) → List Event → ℕ → ℕ → List ℕ → FileFinding
+rest_found agents before records len bytes = beyond (length before) (finding_of len (go_on (read_records agents before records bytes) (read_end agents)))
+
+-- the next event of the rest, its end, or its fault; only an event changes what is still to come
+abbrev pub IsNext : Result (Option Event) FileFault → Rest → Rest → Type 0
+IsNext (Ok (Some e)) old new = (old.found ≡ in_front (e ∷ []) new.found) × (old.records ≡ suc new.records)
+IsNext (Ok None) old new = (old.found ≡ IsFile []) × (old.records ≡ 0) × (new ≡ old)
+IsNext (Err fault) old new = IsFault fault old.found × (new ≡ old)
