@@ -23,7 +23,7 @@ use Rattle.walker_record.specs.Stretches.{Stretch}
 use Rattle.fugue_place.specs.Attachments.{node_eq}
 use Rattle.advance_retreat.specs.declared.target.Target.{Target}
 use Rattle.advance_retreat.specs.declared.change.Change.TheVariants.{Strike}
-use Rattle.advance_retreat.specs.Kept.{Kept, deletion_by, single, is_visible, visible_in, shown_in, changed, changed_at}
+use Rattle.advance_retreat.specs.Kept.{Kept, with_deletion, deletion_by, single, is_visible, visible_in, shown_in, changed, changed_at}
 use Rattle.advance_retreat.specs.Spots.{IsVisibleAt}
 use Rattle.advance_retreat.specs.Standing.{most, node_of, kept_record, kept_target, about, AreChildren, StandsFor}
 use Rattle.advance_retreat.proofs.Lists.{count, count_above}
@@ -58,15 +58,8 @@ strike_one ns lv t v r h =
     at true = refl
     at false = refl
 
-abbrev pub about_node : ℕ → Node → Target
+abbrev about_node : ℕ → Node → Target
 about_node lv v = record { lv = lv; node = v }
-
--- a state with other records and targets; one whose character at a node is deleted by an event
-abbrev pub with_both : Kept → List Stretch → List Target → Kept
-with_both s rs ts = record { base = s.base; records = rs; attached = s.attached; targets = ts; lost = s.lost }
-
-abbrev pub struck_state : Kept → ℕ → Node → Kept
-struck_state s lv v = with_both s (map (changed_at v Strike) s.records) (s.targets ++ about_node lv v ∷ [])
 
 module _ (s : Kept) (b : ℕ) (events : List (Applied ℕ)) (prepared : List ℕ) (st : StandsFor s b events prepared) (lv : ℕ) (may : CanDelete events lv) (at k : ℕ) (found : IsVisibleAt s.records at k) where
   abbrev ns : List (Noted ℕ)
@@ -166,7 +159,7 @@ module _ (s : Kept) (b : ℕ) (events : List (Applied ℕ)) (prepared : List ℕ
       let short = st.short_text in
       omega (arith, new, old, counted, fewer, short)
 
-  pub deleted : StandsFor (struck_state s lv found.0.from) b (events ++ next_of lv (DeleteAt at) prepared ∷ []) (lv ∷ prepared)
+  pub deleted : StandsFor (with_deletion s lv found.0.from) b (events ++ next_of lv (DeleteAt at) prepared ∷ []) (lv ∷ prepared)
   deleted = record {
     run = apply.run_kept s b events prepared st lv (DeleteAt at) (Deletion t) may_apply entry may.room;
     closed = apply.closed_kept s b events prepared st lv (DeleteAt at) (Deletion t) may_apply entry may.room;

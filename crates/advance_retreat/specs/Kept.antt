@@ -1,5 +1,5 @@
 -- What a state keeps: a record for each character, in order, and which character each event is about.
-use Rattle.std.specs.Prelude.{ℕ, zero, suc, ◌+◌, ◌<◌, ◌^◌, nat_eq, nat_lt, Bool, true, false, ◌&&◌, if◌then◌else◌, List, [], ◌∷◌, ◌++◌, filter, find, length, Option, option_map}
+use Rattle.std.specs.Prelude.{◌≡◌, ℕ, zero, suc, ◌+◌, ◌<◌, ◌^◌, nat_eq, nat_lt, Bool, true, false, ◌&&◌, if◌then◌else◌, List, [], ◌∷◌, ◌++◌, map, filter, find, length, Option, option_map}
 use Rattle.std.specs.List.{list_any}
 use Rattle.ew_model.specs.declared.node.Node.{Node}
 use Rattle.ew_model.specs.declared.node.Node.TheVariants.{Base}
@@ -66,6 +66,10 @@ base_records (suc n) = base_records n ++ single (Base n) 1 true ∷ []
 abbrev pub target_at : List Target → ℕ → Option Node
 target_at targets n = option_map (λ (t : Target). t.node) (find (λ (t : Target). nat_eq t.lv n) targets)
 
+-- such a search finds what the list tells
+abbrev pub AreFound : List Target → (ℕ → Option Node) → Type 0
+AreFound targets node_at = (n : ℕ) → node_at n ≡ target_at targets n
+
 -- a record after a change
 abbrev pub changed : Change → Stretch → Stretch
 changed Raise r = record { from = r.from; len = r.len; prepared = suc r.prepared; effect = r.effect }
@@ -78,3 +82,13 @@ changed_at v change r = if is_of v r then changed change r else r
 -- the number of deletions has room for one more
 abbrev pub HasRoom : Stretch → Type 0
 HasRoom r = r.prepared + 1 < 2 ^ 32
+
+-- the same but that the event at this position, the latest, deletes the character
+abbrev pub with_deletion : Kept → ℕ → Node → Kept
+with_deletion s lv v = record {
+  base = s.base;
+  records = map (changed_at v Strike) s.records;
+  attached = s.attached;
+  targets = s.targets ++ record { lv = lv; node = v } ∷ [];
+  lost = s.lost;
+}

@@ -1,5 +1,10 @@
 pub mod Conditions
+pub mod Entering
 pub mod Kept
+pub mod Labelled
+pub mod Laid
+pub mod Loose
 pub mod Refusals
+pub mod Replacing
 pub mod Spots
 pub mod Standing

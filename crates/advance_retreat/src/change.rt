@@ -18,26 +18,8 @@ pub enum Change {
     Strike,
 }
 
-/// Changes the record of a node.
-pub fn change_at(records: &mut [Record], node: Node, change: Change)
-    requires { AllByRecursion HasRoom records.old }
-    ensures { records.new ≡ map (changed_at node change) records.old }
-{
-    for k in 0..records.len() {
-        let record = records[k];
-        if is_of(&record, node) {
-            records[k] = changed(record, change);
-        }
-    }
-}
-
-fn is_of(record: &Record, node: Node) -> bool
-    ensures { result ≡ is_of node «record».now }
-{
-    record.from == node
-}
-
-fn changed(before: Record, change: Change) -> Record
+/// A record after a change.
+pub fn changed(before: Record, change: Change) -> Record
     requires { HasRoom before }
     ensures { result ≡ changed change before }
 {

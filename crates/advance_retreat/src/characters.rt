@@ -1,42 +1,46 @@
 //! The characters that a state keeps, in order.
 
-ghost use Rattle.std.specs.Prelude.{◌≡◌, ◌<◌, ◌≤◌, ◌^◌, true, false, ◌∷◌, [], ◌++◌, length, map, IfSome, IfNone, IfOk, OnOk, OnErr};
+ghost use Rattle.std.specs.Prelude.{◌≡◌, ◌+◌, ◌*◌, ◌<◌, ◌≤◌, ◌^◌, Bool, List, true, false, ◌∷◌, [], ◌++◌, length, map, IfSome, IfNone, IfOk, OnOk, OnErr};
 ghost use Rattle.std.specs.List.{AllByRecursion, list_any};
+ghost use Rattle.ew_model.specs.declared.node.Node.{Node as Nodes};
 ghost use Rattle.ew_model.specs.declared.node.Node.TheVariants as nodes;
 ghost use Rattle.fugue_place.specs.Attachments.{is_attached, is_there, has_id};
+ghost use Rattle.advance_retreat.specs.declared.target.Target.{Target};
 ghost use Rattle.advance_retreat.specs.Kept.{is_of, knows, visible_in, shown_in, base_records, changed_at, HasRoom};
+ghost use Rattle.advance_retreat.specs.Entering.{attached_by, IsNewChild};
+ghost use Rattle.advance_retreat.specs.Laid.{records_in};
+ghost use Rattle.advance_retreat.specs.Loose.{loose_in, is_told};
 ghost use Rattle.advance_retreat.specs.Spots.{IsGap, IsDeletion, Comes};
 
-use crate::change::{Change, change_at};
-use crate::records::{
-    base_records, count_visible, deletion_at, effects_before, find_known, find_visible, index_of,
-    is_known, node_at,
-};
+use crate::change::Change;
+use crate::runs::{Child, Runs};
 use crate::spot::Hold;
 use ew_model::NoMem;
 use ew_model::id::Id;
 use ew_model::node::Node;
+use ew_model::steps::Steps;
 use ew_model::text_op::TextOp;
 use fugue_place::{Place, Siblings};
 use std::alloc::Global;
-use std::marker::Model;
-use walker_record::Record;
+use std::marker::{Brand, Model};
+use std::sync::ledger::{Blank, Ledger};
 
-/// The characters in order, each with its states. Contracts see a record for each of them.
+/// The characters in order, each with its states. Contracts see a record for each of them, and the runs that they are kept in.
 #[derive(Drop)]
 pub struct Characters {
-    records: Vec<Record>,
+    runs: Runs,
+    visible: u32,
+    shown: u32,
 }
 
 impl Model for Characters {
-    ghost use Rattle.std.specs.Prelude.{List, length, ◌≤◌, ◌^◌};
-    ghost use Rattle.walker_record.specs.Stretches.{Stretch};
+    ghost use Rattle.advance_retreat.specs.Laid.{InRuns, in_runs, AreCounted};
 
-    ghost Value = { List Stretch };
+    ghost Value = { InRuns };
 
-    ghost view = { λ s. s.records.items };
+    ghost view = { λ s. in_runs s.runs.tree.pairs };
 
-    ghost invariant = { λ s. length s.records.items ≤ 2 ^ 25 };
+    ghost invariant = { λ s. AreCounted s.runs.tree.pairs s.runs.labels s.visible s.shown };
 }
 
 /// What stands around an index of what is prepared.
@@ -59,72 +63,77 @@ impl Characters {
     /// The characters of a base.
     pub fn base(alloc: Global, len: u32) -> Result<Characters, NoMem>
         requires { len ≤ 2 ^ 24 }
-        ensures { IfOk result (λ cs. cs ≡ base_records len) }
+        ensures records { IfOk result (λ cs. cs.records ≡ base_records len) }
+        ensures few { IfOk result (λ cs. length cs.runs ≤ 1) }
     {
-        Ok(Characters {
-            records: base_records(alloc, len)?,
-        })
+        base_by::<Brand>(alloc, len, Blank::new(1))
     }
 
     /// How many are visible in what is prepared.
     pub fn visible(&self) -> u32
-        ensures { result ≡ visible_in self.now }
+        ensures { result ≡ visible_in self.now.records }
     {
-        count_visible(&self.records)
+        self.visible
     }
 
     /// How many are in the text.
     pub fn shown(&self) -> u32
-        ensures { result ≡ shown_in self.now }
+        ensures { result ≡ shown_in self.now.records }
     {
-        effects_before(&self.records, self.records.len())
+        self.shown
+    }
+
+    /// How many runs they are kept in: at most two for the character of each of some events, and those that stand apart for none.
+    pub fn runs(&self) -> u32
+        ensures value { result ≡ length self.now.runs }
+        ensures kept { self.now.records ≡ records_in self.now.runs }
+        ensures few { (targets : List Target) → result ≤ loose_in (is_told targets) self.now.runs + 2 * length targets }
+    {
+        self.runs.count()
     }
 
     /// Whether the node is inserted in what is prepared.
     pub fn knows(&self, node: Node) -> bool
-        ensures { result ≡ knows self.now node }
+        ensures { result ≡ knows self.now.records node }
     {
-        is_known(&self.records, node)
+        self.knows_by::<Brand>(node, Blank::new(1))
     }
 
     /// What stands around an index of what is prepared. None where the index is past the end.
     pub fn gap_at(&self, at: u32) -> Option<Gap>
-        ensures some { IfSome result (IsGap self.now at) }
-        ensures none { IfNone result (visible_in self.now < at) }
+        ensures some { IfSome result (IsGap self.now.records at) }
+        ensures none { IfNone result (visible_in self.now.records < at) }
     {
-        if at == 0 {
-            return Some(Gap {
-                left: Node::Root,
-                next: find_known(&self.records, 0),
-            });
+        if at > self.visible {
+            None
+        } else if at == 0 {
+            Some(self.first_gap::<Brand>(Blank::new(1)))
+        } else {
+            Some(self.gap_behind::<Brand>(at - 1, Blank::new(1)))
         }
-        let k = find_visible(&self.records, at - 1)?;
-        Some(Gap {
-            left: node_at(&self.records, k),
-            next: find_known(&self.records, k + 1),
-        })
     }
 
     /// The deletion of the character at an index of what is prepared. None where no character is there.
     pub fn deletion_at(&self, at: u32) -> Option<Deletion>
-        ensures some { IfSome result (IsDeletion self.now at) }
-        ensures none { IfNone result (visible_in self.now ≤ at) }
+        ensures some { IfSome result (IsDeletion self.now.records at) }
+        ensures none { IfNone result (visible_in self.now.records ≤ at) }
     {
-        let k = find_visible(&self.records, at)?;
-        Some(Deletion {
-            node: node_at(&self.records, k),
-            op: deletion_at(&self.records, k),
-        })
+        if at < self.visible {
+            Some(self.deletion_by::<Brand>(at, Blank::new(1)))
+        } else {
+            None
+        }
     }
 
     /// Changes the states of a character.
     pub fn change(&mut self, node: Node, change: Change) -> Result<(), NoMem>
-        requires { AllByRecursion HasRoom self.old }
-        ensures ok { OnOk result (self.new ≡ map (changed_at node change) self.old) }
-        ensures err { OnErr result (self.new ≡ self.old) }
+        requires { AllByRecursion HasRoom self.old.records }
+        ensures ok { OnOk result (self.new.records ≡ map (changed_at node change) self.old.records) }
+        ensures err { OnErr result (self.new.records ≡ self.old.records) }
+        ensures loose { (among : Nodes → Bool) → loose_in among self.new.runs ≤ loose_in among self.old.runs + 2 }
+        ensures told { (among : Nodes → Bool) → among node ≡ true → loose_in among self.new.runs ≤ loose_in among self.old.runs }
     {
-        change_at(&mut self.records, node, change);
-        Ok(())
+        self.change_by::<Brand>(node, change, Blank::new(1))
     }
 
     /// Puts the character of a new event at a place, and attaches its node. Answers its index in the text.
@@ -139,27 +148,139 @@ impl Characters {
         requires parent { is_there siblings.old hold.parent ≡ true }
         requires unused { has_id siblings.old id ≡ false }
         requires new { is_attached siblings.old (nodes.Event lv) ≡ false }
-        requires unrecorded { list_any (is_of (nodes.Event lv)) self.old ≡ false }
-        requires room { length self.old < 2 ^ 25 }
-        ensures comes { IfOk result (Comes self.old self.new place lv) }
+        requires unrecorded { list_any (is_of (nodes.Event lv)) self.old.records ≡ false }
+        requires room { length self.old.records < 2 ^ 25 }
+        ensures comes { IfOk result (Comes self.old.records self.new.records place lv) }
         ensures attached { OnOk result (siblings.new ≡ siblings.old ++ record { parent = hold.parent; side = hold.side; id = id; node = nodes.Event lv } ∷ []) }
-        ensures err { OnErr result (self.new ≡ self.old) }
+        ensures err { OnErr result (self.new.records ≡ self.old.records) }
         ensures detached { OnErr result (siblings.new ≡ siblings.old) }
+        ensures told { OnOk result ((among : Nodes → Bool) → among (nodes.Event lv) ≡ true → loose_in among self.new.runs ≤ loose_in among self.old.runs) }
+        ensures loose { OnErr result ((among : Nodes → Bool) → loose_in among self.new.runs ≤ loose_in among self.old.runs + 2) }
     {
-        let index = index_of(&self.records, place);
-        let at = effects_before(&self.records, index);
-        let node = Node::Event(lv);
-        self.records.reserve(1)?;
-        siblings.attach(hold.parent, hold.side, id, node)?;
-        let record = Record {
-            from: node,
-            len: 1,
-            prepared: 1,
-            effect: true,
+        let child = Child { hold, id, lv };
+        self.insert_by::<Brand>(siblings, &child, place, Blank::new(1))
+    }
+}
+
+fn base_by<L: Ledger>(alloc: Global, len: u32, blank: Blank) -> Result<Characters, NoMem>
+    requires name { blank.name ≡ L.name }
+    requires parts { blank.parts ≡ L.parts }
+    requires some { 0 < blank.parts }
+    requires short { len ≤ 2 ^ 24 }
+    ensures records { IfOk result (λ cs. cs.records ≡ base_records len) }
+    ensures few { IfOk result (λ cs. length cs.runs ≤ 1) }
+{
+    let mut visits: Steps<L> = Steps::new(blank);
+    Ok(Characters {
+        runs: Runs::base(alloc, len, &mut visits)?,
+        visible: len,
+        shown: len,
+    })
+}
+
+impl Characters {
+    fn knows_by<L: Ledger>(&self, node: Node, blank: Blank) -> bool
+        requires name { blank.name ≡ L.name }
+        requires parts { blank.parts ≡ L.parts }
+        requires some { 0 < blank.parts }
+        ensures { result ≡ knows self.now.records node }
+    {
+        let mut visits: Steps<L> = Steps::new(blank);
+        self.runs.knows(node, &mut visits)
+    }
+
+    fn first_gap<L: Ledger>(&self, blank: Blank) -> Gap
+        requires name { blank.name ≡ L.name }
+        requires parts { blank.parts ≡ L.parts }
+        requires some { 0 < blank.parts }
+        ensures { IsGap self.now.records 0 result }
+    {
+        let mut visits: Steps<L> = Steps::new(blank);
+        let _runs = self.runs.count();
+        Gap {
+            left: Node::Root,
+            next: self.runs.first_known(0, &mut visits),
+        }
+    }
+
+    fn gap_behind<L: Ledger>(&self, at: u32, blank: Blank) -> Gap
+        requires name { blank.name ≡ L.name }
+        requires parts { blank.parts ≡ L.parts }
+        requires some { 0 < blank.parts }
+        requires within { at < visible_in self.now.records }
+        ensures { IsGap self.now.records (at + 1) result }
+    {
+        let mut visits: Steps<L> = Steps::new(blank);
+        let _runs = self.runs.count();
+        let spot = self.runs.visible_at(at, &mut visits);
+        Gap {
+            left: self.runs.node(spot, &mut visits),
+            next: self.runs.known_behind(spot, &mut visits),
+        }
+    }
+
+    fn deletion_by<L: Ledger>(&self, at: u32, blank: Blank) -> Deletion
+        requires name { blank.name ≡ L.name }
+        requires parts { blank.parts ≡ L.parts }
+        requires some { 0 < blank.parts }
+        requires within { at < visible_in self.now.records }
+        ensures { IsDeletion self.now.records at result }
+    {
+        let mut visits: Steps<L> = Steps::new(blank);
+        let _runs = self.runs.count();
+        let spot = self.runs.visible_at(at, &mut visits);
+        Deletion {
+            node: self.runs.node(spot, &mut visits),
+            op: self.runs.deletion(spot, &mut visits),
+        }
+    }
+
+    fn change_by<L: Ledger>(
+        &mut self,
+        node: Node,
+        change: Change,
+        blank: Blank,
+    ) -> Result<(), NoMem>
+        requires name { blank.name ≡ L.name }
+        requires parts { blank.parts ≡ L.parts }
+        requires some { 0 < blank.parts }
+        requires room { AllByRecursion HasRoom self.old.records }
+        ensures ok { OnOk result (self.new.records ≡ map (changed_at node change) self.old.records) }
+        ensures err { OnErr result (self.new.records ≡ self.old.records) }
+        ensures loose { (among : Nodes → Bool) → loose_in among self.new.runs ≤ loose_in among self.old.runs + 2 }
+        ensures told { (among : Nodes → Bool) → among node ≡ true → loose_in among self.new.runs ≤ loose_in among self.old.runs }
+    {
+        let mut visits: Steps<L> = Steps::new(blank);
+        let Some(altered) = self.runs.change(node, change, &mut visits)? else {
+            return Ok(());
         };
-        let Ok(()) = self.records.insert(index, record) else {
-            unreachable!()
-        };
+        self.visible = altered.visible(self.visible);
+        self.shown = altered.shown(self.shown);
+        Ok(())
+    }
+
+    fn insert_by<L: Ledger>(
+        &mut self,
+        siblings: &mut Siblings,
+        child: &Child,
+        place: Place,
+        blank: Blank,
+    ) -> Result<u32, NoMem>
+        requires name { blank.name ≡ L.name }
+        requires parts { blank.parts ≡ L.parts }
+        requires some { 0 < blank.parts }
+        requires new { IsNewChild self.old.records siblings.old child.now }
+        ensures comes { IfOk result (Comes self.old.records self.new.records place child.now.lv) }
+        ensures attached { OnOk result (siblings.new ≡ siblings.old ++ attached_by child.now ∷ []) }
+        ensures err { OnErr result (self.new.records ≡ self.old.records) }
+        ensures detached { OnErr result (siblings.new ≡ siblings.old) }
+        ensures told { OnOk result ((among : Nodes → Bool) → among (nodes.Event child.now.lv) ≡ true → loose_in among self.new.runs ≤ loose_in among self.old.runs) }
+        ensures loose { OnErr result ((among : Nodes → Bool) → loose_in among self.new.runs ≤ loose_in among self.old.runs + 2) }
+    {
+        let mut visits: Steps<L> = Steps::new(blank);
+        let at = self.runs.insert(siblings, child, place, &mut visits)?;
+        self.visible += 1;
+        self.shown += 1;
         Ok(at)
     }
 }

@@ -5,7 +5,9 @@
 mod change;
 mod characters;
 mod fault;
-mod records;
+mod labels;
+mod offsets;
+mod runs;
 mod spot;
 mod state;
 mod target;

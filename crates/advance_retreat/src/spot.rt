@@ -17,7 +17,7 @@ pub struct Hold {
 /// Where a character goes in this gap: it is a right child of its left neighbour, or a left child of the node that follows in
 /// what is prepared, where that is a right child already.
 pub fn hold_of(base: u32, characters: &Characters, siblings: &Siblings, gap: Gap) -> Hold
-    ensures { (left : Left) → gap.left ≡ left.node → gap.next ≡ first_known (drop left.behind characters.now) → result ≡ hold_of base characters.now siblings.now left }
+    ensures { (left : Left) → gap.left ≡ left.node → gap.next ≡ first_known (drop left.behind characters.now.records) → result ≡ hold_of base characters.now.records siblings.now left }
 {
     match gap.next {
         Some(next) if has_known_right(base, characters, siblings, gap.left) => Hold {
@@ -33,7 +33,7 @@ pub fn hold_of(base: u32, characters: &Characters, siblings: &Siblings, gap: Gap
 
 /// Whether the node has a right child in what is prepared.
 fn has_known_right(base: u32, characters: &Characters, siblings: &Siblings, node: Node) -> bool
-    ensures { result ≡ has_known_right base characters.now siblings.now node }
+    ensures { result ≡ has_known_right base characters.now.records siblings.now node }
 {
     has_next_base(base, node) || siblings.has_known_right(node, |child| characters.knows(child))
 }

@@ -1,15 +1,18 @@
 //! The state of a walker.
 
-ghost use Rattle.std.specs.Prelude.{◌≡◌, ℕ, ◌+◌, ◌<◌, ◌≤◌, ◌^◌, ◌↔◌, nat_eq, nat_lt, ◌&&◌, true, false, List, [], ◌∷◌, ◌++◌, length, Err, IfOk, OnOk, OnErr};
+ghost use Rattle.std.specs.Prelude.{◌≡◌, ℕ, None, ◌+◌, ◌*◌, ◌<◌, ◌≤◌, ◌^◌, ◌↔◌, nat_eq, nat_lt, ◌&&◌, true, false, List, [], ◌∷◌, ◌++◌, length, Err, IfOk, OnOk, OnErr};
+ghost use Rattle.std.specs.List.{AllByRecursion};
 ghost use Rattle.ew_model.specs.Operations.{next_operation};
 ghost use Rattle.ew_model.specs.Entries.{visible};
 ghost use Rattle.ew_model.specs.Places.Act.{InsertAs, DeleteAt};
 ghost use Rattle.ew_model.specs.Tree.{Applied, tree_of};
 ghost use Rattle.ew_model.specs.Records.{next_of, without, prepared_entries, applied_entries};
+ghost use Rattle.walker_record.specs.Stretches.{Stretch};
 ghost use Rattle.advance_retreat.specs.declared.fault.ApplyFault.TheVariants as apply;
-ghost use Rattle.advance_retreat.specs.Kept.{with_lost};
+ghost use Rattle.advance_retreat.specs.Kept.{with_lost, with_deletion, target_at, HasRoom};
+ghost use Rattle.advance_retreat.specs.Laid.{records_in};
 ghost use Rattle.advance_retreat.specs.Standing.{most, StandsFor};
-ghost use Rattle.advance_retreat.specs.Refusals.{lost_after};
+ghost use Rattle.advance_retreat.specs.Refusals.{lost_after, one_more};
 ghost use Rattle.advance_retreat.specs.Conditions.{MayInsert, MayDelete, MayAdvanceTo, MayRetreatFrom, AllPrepared};
 ghost use Rattle.advance_retreat.specs.Spots.{MayHang, Puts};
 
@@ -17,7 +20,7 @@ use crate::change::Change;
 use crate::characters::Characters;
 use crate::fault::ApplyFault;
 use crate::spot::{Hold, hold_of};
-use crate::target::{Target, target_of};
+use crate::target::Targets;
 use ew_model::NoMem;
 use ew_model::id::Id;
 use ew_model::node::Node;
@@ -32,21 +35,35 @@ use std::sync::ledger::Ledger;
 const MOST: u32 = 1 << 24;
 
 /// What a walker knows of the events that it applied over a base: the text that they leave, and the version that is prepared.
-#[derive(Drop)]
 pub struct State {
     base: u32,
     characters: Characters,
     siblings: Siblings,
-    targets: Vec<Target>,
+    targets: Targets,
     lost: u32,
+}
+
+impl Drop for State {
+    fn drop(self) {
+        let State {
+            base: _,
+            characters: _,
+            siblings: _,
+            targets: _,
+            lost: _,
+        } = self;
+    }
 }
 
 impl Model for State {
     ghost use Rattle.advance_retreat.specs.Kept.{Kept};
+    ghost use Rattle.advance_retreat.specs.Loose.{FewLoose};
 
     ghost Value = { Kept };
 
-    ghost view = { λ s. record { base = s.base; records = s.characters; attached = s.siblings; targets = s.targets.items; lost = s.lost } };
+    ghost view = { λ s. record { base = s.base; records = s.characters.records; attached = s.siblings; targets = s.targets; lost = s.lost } };
+
+    ghost invariant = { λ s. FewLoose s.targets s.characters.runs s.lost };
 }
 
 impl State {
@@ -64,7 +81,7 @@ impl State {
             base: len,
             characters: Characters::base(alloc, len)?,
             siblings: Siblings::new(alloc)?,
-            targets: Vec::new(alloc),
+            targets: Targets::new(alloc),
             lost: 0,
         })
     }
@@ -81,6 +98,14 @@ impl State {
         ensures { (b : ℕ) (events : List (Applied ℕ)) (prepared : List ℕ) → StandsFor self.now b events prepared → result ≡ length (visible (applied_entries b events)) }
     {
         self.characters.shown()
+    }
+
+    /// How many runs of characters are kept: at most one, and two more for each applied event and each lost apply.
+    pub fn runs(&self) -> u32
+        ensures kept { (rs : List Stretch) × (result ≡ length rs) × (self.now.records ≡ records_in rs) }
+        ensures few { (b : ℕ) (events : List (Applied ℕ)) (prepared : List ℕ) → StandsFor self.now b events prepared → result ≤ 1 + 2 * (length events + self.now.lost) }
+    {
+        self.characters.runs()
     }
 
     /// How many applies were refused for want of memory since the state was made or cleared. It stands still at 2^32 - 1.
@@ -127,19 +152,17 @@ impl State {
         ensures steps { steps.new ≡ steps.old + 1 }
     {
         steps.tick();
-        let answer = self.insert(lv, id, at, ch);
-        self.note(&answer);
-        answer
+        self.insert(lv, id, at, ch)
     }
 
-    /// The same, but that a want of memory isn't counted.
+    /// The same, with no step counted.
     fn insert(&mut self, lv: u32, id: Id, at: u32, ch: char) -> Result<TextOp, ApplyFault>
         requires { (b : ℕ) × (events : List (Applied ℕ)) × (prepared : List ℕ) × StandsFor self.old b events prepared × MayInsert events lv id }
         ensures op { (b : ℕ) (events : List (Applied ℕ)) (prepared : List ℕ) → StandsFor self.old b events prepared → MayInsert events lv id → IfOk result (λ op. op ≡ next_operation nat_eq b (tree_of nat_eq b events) (next_of lv (InsertAs id at ch) prepared)) }
         ensures ok { (b : ℕ) (events : List (Applied ℕ)) (prepared : List ℕ) → StandsFor self.old b events prepared → MayInsert events lv id → OnOk result (StandsFor self.new b (events ++ next_of lv (InsertAs id at ch) prepared ∷ []) (lv ∷ prepared)) }
         ensures out_of_range { (b : ℕ) (events : List (Applied ℕ)) (prepared : List ℕ) → StandsFor self.old b events prepared → (len : ℕ) → (result ≡ Err (apply.OutOfRange len)) ↔ ((len ≡ length (visible (prepared_entries b events prepared))) × (len < at)) }
-        ensures err { OnErr result (self.new ≡ self.old) }
-        ensures lost { self.new.lost ≡ self.old.lost }
+        ensures err { OnErr result (self.new ≡ with_lost self.old self.new.lost) }
+        ensures lost { self.new.lost ≡ lost_after result self.old.lost }
     {
         // A name has at least one byte.
         let _agent = id.agent.as_slice();
@@ -149,6 +172,7 @@ impl State {
             });
         };
         if !self.has_room_for_character() {
+            self.lost = one_more(self.lost);
             return Err(ApplyFault::OutOfMemory);
         }
         let hold = hold_of(self.base, &self.characters, &self.siblings, gap);
@@ -156,26 +180,31 @@ impl State {
         Ok(TextOp::Ins { at, ch })
     }
 
-    /// Puts the character of a new event into the tree. Answers its index in the text.
+    /// Puts the character of a new event into the tree. Answers its index in the text. Counts a want of memory.
     fn put(&mut self, lv: u32, id: Id, hold: Hold) -> Result<u32, NoMem>
-        requires { MayHang self.old lv id hold }
+        requires hangs { MayHang self.old lv id hold }
+        requires new { target_at self.old.targets lv ≡ None }
         ensures ok { IfOk result (λ at. Puts self.old self.new lv id hold at) }
-        ensures err { OnErr result (self.new ≡ self.old) }
+        ensures err { OnErr result (self.new ≡ with_lost self.old (one_more self.old.lost)) }
     {
         let own = Id {
             agent: id.agent,
             seq: id.seq,
         };
         let place = self.siblings.position(hold.parent, hold.side, own);
-        self.targets.reserve(1)?;
-        let at = self
-            .characters
-            .insert(&mut self.siblings, hold, id, lv, place)?;
-        self.targets.push_reserved(Target {
-            lv,
-            node: Node::Event(lv),
-        });
-        Ok(at)
+        if let Err(e) = self.targets.add(lv, Node::Event(lv)) {
+            self.lost = one_more(self.lost);
+            return Err(e);
+        }
+        let characters = &mut self.characters;
+        match characters.insert(&mut self.siblings, hold, id, lv, place) {
+            Ok(at) => Ok(at),
+            Err(e) => {
+                self.targets.take_back(lv);
+                self.lost = one_more(self.lost);
+                Err(e)
+            }
+        }
     }
 
     /// Applies the deletion of the character at an index of the prepared version, and prepares it too. Answers what that does to
@@ -198,19 +227,17 @@ impl State {
         ensures steps { steps.new ≡ steps.old + 1 }
     {
         steps.tick();
-        let answer = self.delete(lv, at);
-        self.note(&answer);
-        answer
+        self.delete(lv, at)
     }
 
-    /// The same, but that a want of memory isn't counted.
+    /// The same, with no step counted.
     fn delete(&mut self, lv: u32, at: u32) -> Result<TextOp, ApplyFault>
         requires { (b : ℕ) × (events : List (Applied ℕ)) × (prepared : List ℕ) × StandsFor self.old b events prepared × MayDelete events lv }
         ensures op { (b : ℕ) (events : List (Applied ℕ)) (prepared : List ℕ) → StandsFor self.old b events prepared → MayDelete events lv → IfOk result (λ op. op ≡ next_operation nat_eq b (tree_of nat_eq b events) (next_of lv (DeleteAt at) prepared)) }
         ensures ok { (b : ℕ) (events : List (Applied ℕ)) (prepared : List ℕ) → StandsFor self.old b events prepared → MayDelete events lv → OnOk result (StandsFor self.new b (events ++ next_of lv (DeleteAt at) prepared ∷ []) (lv ∷ prepared)) }
         ensures out_of_range { (b : ℕ) (events : List (Applied ℕ)) (prepared : List ℕ) → StandsFor self.old b events prepared → (len : ℕ) → (result ≡ Err (apply.OutOfRange len)) ↔ ((len ≡ length (visible (prepared_entries b events prepared))) × (len ≤ at)) }
-        ensures err { OnErr result (self.new ≡ self.old) }
-        ensures lost { self.new.lost ≡ self.old.lost }
+        ensures err { OnErr result (self.new ≡ with_lost self.old self.new.lost) }
+        ensures lost { self.new.lost ≡ lost_after result self.old.lost }
     {
         let Some(deletion) = self.characters.deletion_at(at) else {
             return Err(ApplyFault::OutOfRange {
@@ -218,23 +245,31 @@ impl State {
             });
         };
         if !self.has_room_for_event() {
+            self.lost = one_more(self.lost);
             return Err(ApplyFault::OutOfMemory);
         }
-        self.targets.reserve(1)?;
-        self.characters.change(deletion.node, Change::Strike)?;
-        self.targets.push_reserved(Target {
-            lv,
-            node: deletion.node,
-        });
+        self.strike(lv, deletion.node)?;
         Ok(deletion.op)
     }
 
-    /// Counts a want of memory.
-    fn note(&mut self, answer: &Result<TextOp, ApplyFault>)
-        ensures { self.new ≡ with_lost self.old (lost_after answer.now self.old.lost) }
+    /// Notes the deletion of a character. Counts a want of memory.
+    fn strike(&mut self, lv: u32, node: Node) -> Result<(), NoMem>
+        requires room { AllByRecursion HasRoom self.old.records }
+        requires new { target_at self.old.targets lv ≡ None }
+        ensures ok { OnOk result (self.new ≡ with_deletion self.old lv node) }
+        ensures err { OnErr result (self.new ≡ with_lost self.old (one_more self.old.lost)) }
     {
-        if let Err(ApplyFault::OutOfMemory) = answer {
-            self.lost = self.lost.saturating_add(1);
+        if let Err(e) = self.targets.add(lv, node) {
+            self.lost = one_more(self.lost);
+            return Err(e);
+        }
+        match self.characters.change(node, Change::Strike) {
+            Ok(()) => Ok(()),
+            Err(e) => {
+                self.targets.take_back(lv);
+                self.lost = one_more(self.lost);
+                Err(e)
+            }
         }
     }
 
@@ -247,7 +282,7 @@ impl State {
         ensures steps { steps.new ≡ steps.old + 1 }
     {
         steps.tick();
-        if let Some(node) = target_of(&self.targets, lv) {
+        if let Some(node) = self.targets.node(lv) {
             self.characters.change(node, Change::Raise)?;
         }
         Ok(())
@@ -262,7 +297,7 @@ impl State {
         ensures steps { steps.new ≡ steps.old + 1 }
     {
         steps.tick();
-        if let Some(node) = target_of(&self.targets, lv) {
+        if let Some(node) = self.targets.node(lv) {
             self.characters.change(node, Change::Lower)?;
         }
         Ok(())
@@ -275,8 +310,15 @@ impl State {
         ensures err { OnErr result (self.new ≡ self.old) }
         ensures lost { OnOk result (self.new.lost ≡ 0) }
     {
-        let alloc = *self.targets.allocator();
+        let alloc = self.targets.allocator();
         *self = State::base(alloc, self.effect_len())?;
         Ok(())
     }
+}
+
+/// One more, up to the last number.
+fn one_more(n: u32) -> u32
+    ensures { result ≡ one_more n }
+{
+    n.saturating_add(1)
 }

@@ -1,9 +1,16 @@
 //! Which character each applied event is about.
 
-ghost use Rattle.std.specs.Prelude.{◌≡◌};
+ghost use Rattle.std.specs.Prelude.{◌≡◌, None, Some, [], ◌∷◌, ◌++◌, List, length, OnOk, OnErr, ℕ, nat_eq, if◌then◌else◌};
+ghost use Rattle.std.specs.Ordering.{nat_cmp};
+ghost use Rattle.std.specs.BTreeMap.{get};
+ghost use Rattle.advance_retreat.specs.declared.target.Target.{Target as One};
 ghost use Rattle.advance_retreat.specs.Kept.{target_at};
 
+use ew_model::NoMem;
 use ew_model::node::Node;
+use std::alloc::Global;
+use std::collections::BTreeMap;
+use std::marker::Model;
 
 /// An applied event, by its position, and the character that it inserts or deletes.
 #[derive(Clone, Copy)]
@@ -12,14 +19,101 @@ pub struct Target {
     pub node: Node,
 }
 
-/// The character that the event at a position is about.
-pub fn target_of(targets: &[Target], lv: u32) -> Option<Node>
-    ensures { result ≡ target_at targets.now lv }
-{
-    for target in targets {
-        if target.lv == lv {
-            return Some(target.node);
+/// The characters of the applied events, which are found by the events' positions. Contracts see a list of them, in the order
+/// in which the events were applied.
+#[derive(Drop)]
+pub struct Targets {
+    applied: Vec<Target>,
+    nodes: BTreeMap<u32, Node>,
+}
+
+impl Model for Targets {
+    ghost use Rattle.std.specs.Prelude.{List};
+    ghost use Rattle.std.specs.Ordering.{nat_cmp};
+    ghost use Rattle.std.specs.BTreeMap.{get};
+    ghost use Rattle.advance_retreat.specs.declared.target.Target.{Target};
+    ghost use Rattle.advance_retreat.specs.Kept.{AreFound};
+
+    ghost Value = { List Target };
+
+    ghost view = { λ t. t.applied.items };
+
+    ghost invariant = { λ t. AreFound t.applied.items (get nat_cmp t.nodes) };
+}
+
+impl Targets {
+    /// No events.
+    pub fn new(alloc: Global) -> Targets
+        ensures { result ≡ [] }
+    {
+        Targets {
+            applied: Vec::new(alloc),
+            nodes: BTreeMap::new(alloc),
         }
     }
-    None
+
+    /// Where the memory is from.
+    pub fn allocator(&self) -> Global {
+        *self.applied.allocator()
+    }
+
+    /// How many events were applied.
+    pub fn len(&self) -> usize
+        ensures { result ≡ length self.now }
+    {
+        self.applied.len()
+    }
+
+    /// The character that the event at a position is about.
+    pub fn node(&self, lv: u32) -> Option<Node>
+        ensures { result ≡ target_at self.now lv }
+    {
+        node_at(&self.nodes, lv)
+    }
+
+    /// Adds an event with a new position.
+    pub fn add(&mut self, lv: u32, node: Node) -> Result<(), NoMem>
+        requires { target_at self.old lv ≡ None }
+        ensures ok { OnOk result (self.new ≡ self.old ++ record { lv = lv; node = node } ∷ []) }
+        ensures err { OnErr result (self.new ≡ self.old) }
+    {
+        self.applied.reserve(1)?;
+        keep(&mut self.nodes, lv, node)?;
+        self.applied.push_reserved(Target { lv, node });
+        Ok(())
+    }
+
+    /// Takes back the last event, which is at this position.
+    pub fn take_back(&mut self, lv: u32)
+        requires { (ts : List One) × (t : One) × (self.old ≡ ts ++ t ∷ []) × (t.lv ≡ lv) × (target_at ts lv ≡ None) }
+        ensures { (ts : List One) (t : One) → self.old ≡ ts ++ t ∷ [] → self.new ≡ ts }
+    {
+        let _ = self.applied.pop();
+        forget(&mut self.nodes, lv);
+    }
+}
+
+fn node_at(nodes: &BTreeMap<u32, Node>, lv: u32) -> Option<Node>
+    ensures { result ≡ get nat_cmp nodes.now lv }
+{
+    match nodes.get(&lv) {
+        Some(node) => Some(*node),
+        None => None,
+    }
+}
+
+fn keep(nodes: &mut BTreeMap<u32, Node>, lv: u32, node: Node) -> Result<(), NoMem>
+    ensures ok { OnOk result ((k : ℕ) → get nat_cmp nodes.new k ≡ (if nat_eq lv k then Some node else get nat_cmp nodes.old k)) }
+    ensures err { OnErr result ((k : ℕ) → get nat_cmp nodes.new k ≡ get nat_cmp nodes.old k) }
+{
+    match nodes.insert(lv, node) {
+        Ok(_) => Ok(()),
+        Err(_) => Err(NoMem),
+    }
+}
+
+fn forget(nodes: &mut BTreeMap<u32, Node>, lv: u32)
+    ensures { (k : ℕ) → get nat_cmp nodes.new k ≡ (if nat_eq lv k then None else get nat_cmp nodes.old k) }
+{
+    let _ = nodes.remove(&lv);
 }

@@ -53,6 +53,7 @@ fn answer<L: Ledger>(
     match verb {
         "lengths" => lengths(state, told),
         "lost" => Ok(format!(in told.alloc(); "{}", state.lost())?),
+        "runs" => runs(state, told),
         "base" => base(alloc, number(rest)?),
         "calls" => calls(state, told, rest, steps),
         _ => call(state, told, asked, steps),
@@ -67,6 +68,12 @@ fn lengths(state: &State, told: &Told) -> Result<String, Fault> {
     }
     let (prepared, effect) = (state.prepared_len(), state.effect_len());
     Ok(format!(in alloc; "{prepared} {effect}")?)
+}
+
+/// How many runs are kept, and how many applies were refused.
+fn runs(state: &State, told: &Told) -> Result<String, Fault> {
+    let (runs, lost) = (state.runs(), state.lost());
+    Ok(format!(in told.alloc(); "{runs} {lost}")?)
 }
 
 /// Whether both lengths are those that the plain program computes.

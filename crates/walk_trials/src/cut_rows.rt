@@ -20,7 +20,7 @@ use trial_rows::show;
 use trial_rows::words::{first_word, history, number};
 
 /// Each row is a walk from a critical cut, below which all events are good: the cut, from which position on operations are wanted,
-/// and the events. What the state then has prepared and in its text is told too.
+/// and the events. What the state then has prepared and in its text, and its number of runs, are told too.
 pub fn run<'a, L: Ledger>(
     alloc: Global,
     rows: &'a str,
@@ -103,7 +103,8 @@ fn walked<L: Ledger>(
     }
     show::space(&mut out)?;
     let (prepared, text) = (state.prepared_len(), state.effect_len());
-    write!(out, "prepared {prepared} text {text}")?;
+    let runs = state.runs();
+    write!(out, "prepared {prepared} text {text} runs {runs}")?;
     Ok(out)
 }
 

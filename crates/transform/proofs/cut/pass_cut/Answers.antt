@@ -6,7 +6,7 @@ use Rattle.ew_model.specs.Walks.{base_at}
 use Rattle.ew_model.proofs.ListParts.{element_there}
 use Rattle.transform.specs.Changing.{length_by}
 use Rattle.transform.proofs.Applies.{op_is}
-use Rattle.transform.proofs.Lines.{base_low, goes_in_line}
+use Rattle.transform.proofs.Lines.{base_low, fresh, goes_in_line}
 use Rattle.transform.proofs.Loops.{turned_at_cut}
 use Rattle.transform.proofs.cut.pass_cut.Goals as goal
 
@@ -15,6 +15,10 @@ change_by-requires g c =
     let alone = c.stands_alone.ensures.0 c.if-stands_alone.true in
     let low : base_at c.args.graph.now c.args.lv ≤ c.args.lv = base_low c.args.graph.now c.args.lv c.requires.behind.good in
     omega (arith, alone.0, low, c.requires.long, c.count-count.ensures.count)
+
+pub apply-requires-clause-ready : goal.apply-requires-clause-ready
+apply-requires-clause-ready g c =
+    (c.args.lv, fresh c.args.graph.now c.args.lv c.args.len c.in_ok-state.field-0 (omega (arith, c.requires.within)) c.requires.behind c.requires.long c.in_ok-state.ensures.stands)
 
 pub returns-in-Some-clause-turned : goal.returns-in-Some-clause-turned
 returns-in-Some-clause-turned g c = λ from low.

@@ -1,20 +1,19 @@
-use Rattle.std.proofs.Common.{◌≡◌, ℕ, ◌≤◌, ◌∷◌, ◌++◌, [], map, length, Err, refl, sym, ap, ◌∙◌, subst, arith}
-use Rattle.std.specs.List.{AllByRecursion}
+use Rattle.std.proofs.Common.{◌≡◌, ℕ, ◌≤◌, ◌∷◌, ◌++◌, [], length, Err, refl, sym, ap, ◌∙◌, subst, arith}
 use Rattle.std.proofs.lemmas.Result.{err_from_is_err_and}
 use Rattle.ew_model.specs.Entries.{visible}
 use Rattle.ew_model.specs.Places.Act.{DeleteAt}
 use Rattle.ew_model.specs.Records.{next_of, prepared_entries}
-use Rattle.advance_retreat.specs.declared.change.Change.TheVariants.{Strike}
 use Rattle.advance_retreat.specs.declared.fault.ApplyFault.TheVariants.{OutOfMemory}
-use Rattle.advance_retreat.specs.Kept.{Kept, HasRoom, changed_at, visible_in}
+use Rattle.advance_retreat.specs.Kept.{Kept, with_deletion, visible_in}
 use Rattle.advance_retreat.specs.Spots.{IsDeletion}
 use Rattle.advance_retreat.specs.Standing.{StandsFor}
 use Rattle.advance_retreat.proofs.Answering.{refused, not_refused, answered}
+use Rattle.advance_retreat.proofs.Found.{new_target}
 use Rattle.advance_retreat.proofs.Keeping.{has_room, visible_told}
 use Rattle.advance_retreat.proofs.Room.{can_delete}
-use Rattle.advance_retreat.proofs.Deleting.{about_node, with_both, deleted, deletion_does, in_range}
+use Rattle.advance_retreat.proofs.Deleting.{deleted, deletion_does, in_range}
 use Rattle.advance_retreat.proofs.state.State.delete.Goals as goal
-use Rattle.advance_retreat.proofs.state.State.delete.Goals.{After-push_reserved}
+use Rattle.advance_retreat.proofs.state.State.delete.Goals.{In_ok-strike}
 
 pub returns-in_default-clause-out_of_range : goal.returns-in_default-clause-out_of_range
 returns-in_default-clause-out_of_range c = λ b events prepared st len.
@@ -29,27 +28,21 @@ returns-then-not-has_room_for_event-clause-out_of_range c = λ b events prepared
     let within = in_range c.args.self.now b events prepared st c.args.at f.place f.here in
     not_refused (Err OutOfMemory) refl len (length (visible (prepared_entries b events prepared))) (len ≤ c.args.at) (λ e le. omega (arith, e, le, within))
 
-pub returns-in_err-reserve-clause-out_of_range : goal.returns-in_err-reserve-clause-out_of_range
-returns-in_err-reserve-clause-out_of_range c = λ b events prepared st len.
+pub returns-in_err-strike-clause-out_of_range : goal.returns-in_err-strike-clause-out_of_range
+returns-in_err-strike-clause-out_of_range c = λ b events prepared st len.
     let f : IsDeletion c.args.self.now.records c.args.at c.in-Some.deletion = subst (λ (s : Kept). IsDeletion s.records c.args.at c.in-Some.deletion) c.self.view_is c.in-Some.ensures.some in
     let within = in_range c.args.self.now b events prepared st c.args.at f.place f.here in
     let p = err_from_is_err_and c.from_residual.result c.from_residual.ensures.1 in
     not_refused c.from_residual.result (p.1 ∙ ap Err p.2) len (length (visible (prepared_entries b events prepared))) (len ≤ c.args.at) (λ e le. omega (arith, e, le, within))
 
-pub returns-in_err-change-clause-out_of_range : goal.returns-in_err-change-clause-out_of_range
-returns-in_err-change-clause-out_of_range c = λ b events prepared st len.
-    let f : IsDeletion c.args.self.now.records c.args.at c.in-Some.deletion = subst (λ (s : Kept). IsDeletion s.records c.args.at c.in-Some.deletion) c.self.view_is c.in-Some.ensures.some in
-    let within = in_range c.args.self.now b events prepared st c.args.at f.place f.here in
-    let p = err_from_is_err_and c.from_residual-in_err-change.result c.from_residual-in_err-change.ensures.1 in
-    not_refused c.from_residual-in_err-change.result (p.1 ∙ ap Err p.2) len (length (visible (prepared_entries b events prepared))) (len ≤ c.args.at) (λ e le. omega (arith, e, le, within))
+pub strike-requires-clause-room : goal.strike-requires-clause-room
+strike-requires-clause-room c = let q = c.requires in has_room c.args.self.now q.0 q.1 q.2 q.3
 
-pub change-requires : goal.change-requires
-change-requires c =
-    let q = c.requires in
-    subst (AllByRecursion HasRoom) (sym (ap (λ (s : Kept). s.records) c.self.view_is)) (has_room c.args.self.now q.0 q.1 q.2 q.3)
+pub strike-requires-clause-new : goal.strike-requires-clause-new
+strike-requires-clause-new c = let q = c.requires in new_target c.args.self.now q.0 q.1 q.2 q.3 c.args.lv q.4
 
 -- the record found is the one changed
-found : (c : After-push_reserved) → IsDeletion c.args.self.now.records c.args.at c.in-Some.deletion
+found : (c : In_ok-strike) → IsDeletion c.args.self.now.records c.args.at c.in-Some.deletion
 found c = subst (λ (s : Kept). IsDeletion s.records c.args.at c.in-Some.deletion) c.self.view_is c.in-Some.ensures.some
 
 pub returns-clause-op : goal.returns-clause-op
@@ -62,14 +55,8 @@ pub returns-clause-ok : goal.returns-clause-ok
 returns-clause-ok c = λ b events prepared st may.
     let now = c.args.self.now in
     let f = found c in
-    let v = f.here.0.from in
-    let node : c.in-Some.deletion.node ≡ v = f.node in
-    let records : c.change.new.self ≡ map (changed_at v Strike) now.records =
-    c.in_ok-change.ensures.ok ∙ (λ i. map (changed_at (node i) Strike) (ap (λ (s : Kept). s.records) c.self.view_is i)) in
-    let before : c.reserve.new.self.items ≡ now.targets = c.reserve.ensures.items ∙ ap (λ (s : Kept). s.targets) c.self.view_is in
-    let targets : c.push_reserved.new.self.items ≡ now.targets ++ about_node c.args.lv v ∷ [] = c.push_reserved.ensures.items ∙ (λ i. before i ++ about_node c.args.lv (node i) ∷ []) in
-    subst (λ (s : Kept). StandsFor s b (events ++ next_of c.args.lv (DeleteAt c.args.at) prepared ∷ []) (c.args.lv ∷ prepared))
-    ((λ i. with_both now (sym records i) (sym targets i)) ∙ ap (λ (s : Kept). with_both s c.change.new.self c.push_reserved.new.self.items) (sym c.self.view_is))
+    let node : c.in-Some.deletion.node ≡ f.here.0.from = f.node in
+    subst (λ (s : Kept). StandsFor s b (events ++ next_of c.args.lv (DeleteAt c.args.at) prepared ∷ []) (c.args.lv ∷ prepared)) (sym (c.in_ok-strike.ensures.ok ∙ ap (with_deletion now c.args.lv) node))
     (deleted now b events prepared st c.args.lv (can_delete events c.args.lv may (sym (c.has_room_for_event.ensures b events prepared st) ∙ c.if-not-has_room_for_event.false)) c.args.at f.place f.here)
 
 pub returns-clause-out_of_range : goal.returns-clause-out_of_range

@@ -12,6 +12,7 @@ use Rattle.advance_retreat.specs.Spots.{Left, IsLeft, hold_of, Puts}
 use Rattle.advance_retreat.specs.Standing.{StandsFor}
 use Rattle.advance_retreat.specs.Conditions.{MayInsert}
 use Rattle.advance_retreat.proofs.Answering.{refused, not_refused, answered}
+use Rattle.advance_retreat.proofs.Found.{new_target}
 use Rattle.advance_retreat.proofs.Keeping.{visible_told}
 use Rattle.advance_retreat.proofs.Room.{CanInsert, can_insert}
 use Rattle.advance_retreat.proofs.Inserting.{asked, left_in_range, inserted_by_put, insertion_done}
@@ -25,8 +26,8 @@ returns-in_default-clause-out_of_range c = λ b events prepared st len.
     let past = subst (λ (n : ℕ). n < c.args.at) (visible_told c.args.self.now b events prepared st) few in
     refused c.prepared_len.result (length (visible (prepared_entries b events prepared))) told (λ n. n < c.args.at) past len
 
-pub put-requires : goal.put-requires
-put-requires c =
+pub put-requires-clause-hangs : goal.put-requires-clause-hangs
+put-requires-clause-hangs c =
     let q = c.requires in
     let now = c.args.self.now in
     let gap = c.in-Some.ensures.some in
@@ -34,6 +35,9 @@ put-requires c =
     let hold : c.hold_of-hold.result ≡ hold_of now.base now.records now.attached gap.left =
     c.hold_of-hold.ensures gap.left gap.node gap.next ∙ ap (λ (s : Kept). hold_of s.base s.records s.attached gap.left) c.self.view_is in
     asked now q.0 q.1 q.2 q.3 c.args.at gap.left left c.args.lv c.args.id (has_agent c.args.id.agent c.as_slice-agent.ensures.name) (can_insert q.0 q.1 c.args.lv c.args.id q.4 (sym (c.has_room_for_character.ensures q.0 q.1 q.2 q.3) ∙ c.if-not-has_room_for_character.false)) c.hold_of-hold.result hold
+
+pub put-requires-clause-new : goal.put-requires-clause-new
+put-requires-clause-new c = let q = c.requires in new_target c.args.self.now q.0 q.1 q.2 q.3 c.args.lv q.4.position
 
 pub returns-then-not-has_room_for_character-clause-out_of_range : goal.returns-then-not-has_room_for_character-clause-out_of_range
 returns-then-not-has_room_for_character-clause-out_of_range c = λ b events prepared st len.

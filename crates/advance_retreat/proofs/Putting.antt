@@ -1,0 +1,27 @@
+-- A new node that came in beside its neighbour.
+use Rattle.std.proofs.Common.{◌≡◌, ℕ, List, [], ◌∷◌, ◌++◌}
+use Rattle.ew_model.specs.declared.id.Id.{Id}
+use Rattle.ew_model.specs.declared.node.Node.TheVariants.{Event}
+use Rattle.walker_record.specs.Stretches.{Stretch}
+use Rattle.fugue_place.specs.declared.child.Attached.{Attached}
+use Rattle.fugue_place.specs.declared.neighbour.Place.{Place}
+use Rattle.fugue_place.specs.Neighbours.{IsPlaceOfNew}
+use Rattle.advance_retreat.specs.declared.spot.Hold.{Hold}
+use Rattle.advance_retreat.specs.declared.target.Target.{Target}
+use Rattle.advance_retreat.specs.Kept.{Kept}
+use Rattle.advance_retreat.specs.Spots.{Comes, Puts}
+
+pub puts_by : (s : Kept) (records : List Stretch) (attached : List Attached) (targets : List Target) (lv : ℕ) (x : Id) (hold : Hold) (place : Place) (n : ℕ)
+    → IsPlaceOfNew s.attached hold.parent hold.side x place → Comes s.records records place lv n
+    → attached ≡ s.attached ++ record { parent = hold.parent; side = hold.side; id = x; node = Event lv } ∷ []
+    → targets ≡ s.targets ++ record { lv = lv; node = Event lv } ∷ []
+    → Puts s (record { base = s.base; records = records; attached = attached; targets = targets; lost = s.lost }) lv x hold n
+puts_by s records attached targets lv x hold place n right e more added = record {
+  place = place;
+  index = e.index;
+  right = right;
+  here = e.here;
+  within = e.within;
+  before = e.before;
+  after = λ i. record { base = s.base; records = e.after i; attached = more i; targets = added i; lost = s.lost };
+}

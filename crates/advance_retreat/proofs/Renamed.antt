@@ -1,0 +1,171 @@
+-- Labels while all runs get others.
+use Rattle.std.proofs.Common.{◌≡◌, ℕ, zero, suc, ◌+◌, ◌<◌, ◌≤◌, ◌⊎◌, Bool, true, false, nat_lt, List, Option, Some, None, IsSome, Contains, length, zip, slice_index_or, refl, sym, ap, ◌∙◌, subst, arith, inl, inr}
+use Rattle.std.proofs.lemmas.Bool.{false≢true}
+use Rattle.ew_model.specs.declared.node.Node.{Node}
+use Rattle.walker_record.specs.Stretches.{Stretch}
+use Rattle.fugue_place.specs.Attachments.{node_eq}
+use Rattle.order_tree.specs.Pairs.{IsRising, labels, runs}
+use Rattle.advance_retreat.specs.declared.labels.Labels.{Labels}
+use Rattle.advance_retreat.specs.Labelled.{label_of, Sets}
+use Rattle.advance_retreat.specs.Laid.{AreLabelled}
+use Rattle.advance_retreat.proofs.PartedRuns.{same_run}
+use Rattle.advance_retreat.proofs.CutRuns.{alike, set_own, set_other}
+use Rattle.advance_retreat.proofs.Standings.{some_same, is_some_by}
+use Rattle.advance_retreat.proofs.RunsAt.{At, at_held, held_at, at_less, at_one, run_at, label_at, one_number, run_held, stands_too, given_at, given_long}
+
+-- the first k runs are known by their new labels, the others by the old ones, and no other node has one
+pub record AreRenamed (ps qs : List (ℕ × Stretch)) (t u : Labels) (k : ℕ) : Type 0 where
+  pub new : (j l : ℕ) (r : Stretch) → j < k → At qs j (l, r) → 0 < r.len → label_of u r.from ≡ Some l
+  pub old : (j l : ℕ) (r : Stretch) → k ≤ j → At ps j (l, r) → 0 < r.len → label_of u r.from ≡ Some l
+  pub only : (v : Node) → IsSome (label_of u v) → IsSome (label_of t v)
+
+pub some_of : (o : Option ℕ) → IsSome o → (l : ℕ) × (o ≡ Some l)
+some_of (Some l) h = (l, refl)
+some_of None h = absurd (false≢true h)
+
+pub is_some : (o : Option ℕ) (l : ℕ) → o ≡ Some l → IsSome o
+is_some o l e = subst (λ (p : Option ℕ). IsSome p) (sym e) (is_some_by l)
+
+module _ (ps qs : List (ℕ × Stretch)) (t : Labels) (laid : AreLabelled ps t) (rising : IsRising ps) (same : runs qs ≡ runs ps) where
+  -- at first
+  pub renamed_none : AreRenamed ps qs t t 0
+  renamed_none = record {
+    new = λ j l r lt h some. absurd (omega (arith, lt));
+    old = λ j l r le h some. laid.known l r (at_held ps j (l, r) h) some;
+    only = λ v h. h;
+  }
+
+  -- a run without characters
+  pub renamed_empty : (u : Labels) (k l : ℕ) (r : Stretch) → AreRenamed ps qs t u k → At qs k (l, r) → r.len ≡ 0 → AreRenamed ps qs t u (k + 1)
+  renamed_empty u k l r so h none = record { new = new; old = λ j m q le i some. so.old j m q (omega (arith, le)) i some; only = so.only }
+    where
+      new : (j m : ℕ) (q : Stretch) → j < k + 1 → At qs j (m, q) → 0 < q.len → label_of u q.from ≡ Some m
+      new j m q lt i some = by (nat_lt j k) refl
+        where
+          by : (b : Bool) → nat_lt j k ≡ b → label_of u q.from ≡ Some m
+          by true e = so.new j m q (less e) i some
+            where
+              less : nat_lt j k ≡ true → j < k
+              less e = grind arith
+          by false e =
+              let last = equal e in
+              let pair = at_one qs k (l, r) (m, q) h (subst (λ (n : ℕ). At qs n (m, q)) last i) in
+              let long = ap (λ (p : ℕ × Stretch). p.1.len) pair in
+              absurd (omega (arith, long, some, none))
+            where
+              equal : nat_lt j k ≡ false → j ≡ k
+              equal e = grind arith
+
+  -- a run with some, whose label is set
+  module _ (u w : Labels) (k l : ℕ) (r : Stretch) (so : AreRenamed ps qs t u k) (h : At qs k (l, r)) (some : 0 < r.len) (sets : Sets u w r.from (Some l)) where
+    was : (own : ℕ) × At ps k (own, r)
+    was = run_at qs ps same k l r h
+
+    -- another run has another first node
+    other : (j m : ℕ) (q : Stretch) → (j ≡ k → ⊥) → At ps j (m, q) → 0 < q.len → (r.from ≡ q.from) ⊎ (node_eq r.from q.from ≡ false) → node_eq r.from q.from ≡ false
+    other j m q apart i long (inr e) = e
+    other j m q apart i long (inl e) =
+        let one = laid.known was.0 r (at_held ps k (was.0, r) was.1) some in
+        let two = laid.known m q (at_held ps j (m, q) i) long in
+        let label : m ≡ was.0 = some_same m was.0 (sym two ∙ ap (label_of t) (sym e) ∙ one) in
+        absurd (apart (one_number 0 ps rising j k was.0 q r (subst (λ (n : ℕ). At ps j (n, q)) label i) was.1))
+
+    still : (j m x : ℕ) (q : Stretch) → (j ≡ k → ⊥) → At ps j (m, q) → 0 < q.len → label_of u q.from ≡ Some x → label_of w q.from ≡ Some x
+    still j m x q apart i long e = set_other u w r.from (Some l) sets q.from (other j m q apart i long (alike r.from q.from)) ∙ e
+
+    new : (j m : ℕ) (q : Stretch) → j < k + 1 → At qs j (m, q) → 0 < q.len → label_of w q.from ≡ Some m
+    new j m q lt i long = by (nat_lt j k) refl
+      where
+        by : (b : Bool) → nat_lt j k ≡ b → label_of w q.from ≡ Some m
+        by true e =
+            let before = run_at qs ps same j m q i in
+            let lt = less e in
+            still j before.0 m q (λ e. omega (arith, e, lt)) before.1 long (so.new j m q lt i long)
+          where
+            less : nat_lt j k ≡ true → j < k
+            less e = grind arith
+        by false e =
+            let last = equal e in
+            let pair = at_one qs k (l, r) (m, q) h (subst (λ (n : ℕ). At qs n (m, q)) last i) in
+            ap (λ (p : ℕ × Stretch). label_of w p.1.from) (sym pair) ∙ set_own u w r.from (Some l) sets ∙ ap (λ (p : ℕ × Stretch). Some p.0) pair
+          where
+            equal : nat_lt j k ≡ false → j ≡ k
+            equal e = grind arith
+
+    only : (v : Node) → IsSome (label_of w v) → IsSome (label_of t v)
+    only v s = by (alike r.from v)
+      where
+        by : (r.from ≡ v) ⊎ (node_eq r.from v ≡ false) → IsSome (label_of t v)
+        by (inl e) = is_some (label_of t v) was.0 (ap (label_of t) (sym e) ∙ laid.known was.0 r (at_held ps k (was.0, r) was.1) some)
+        by (inr e) = so.only v (subst (λ (o : Option ℕ). IsSome o) (set_other u w r.from (Some l) sets v e) s)
+
+    pub renamed_one : AreRenamed ps qs t w (k + 1)
+    renamed_one = record {
+      new = new;
+      old = λ j m q le i long. still j m m q (λ e. omega (arith, e, le)) i long (so.old j m q (omega (arith, le)) i long);
+      only = only;
+    }
+
+  -- the node of the next run has a label
+  pub next_label : (u : Labels) (k l : ℕ) (r : Stretch) → AreRenamed ps qs t u k → At qs k (l, r) → 0 < r.len → IsSome (label_of u r.from)
+  next_label u k l r so h some = let before = run_at qs ps same k l r h in is_some (label_of u r.from) before.0 (so.old k before.0 r (omega arith) before.1 some)
+
+  -- in the end
+  module _ (u : Labels) (k : ℕ) (so : AreRenamed ps qs t u k) (all : length qs ≤ k) where
+    known : (l : ℕ) (r : Stretch) → Contains qs (l, r) → 0 < r.len → label_of u r.from ≡ Some l
+    known l r h some = let at = held_at qs (l, r) h in let lt = at_less qs at.0 (l, r) at.1 in so.new at.0 l r (omega (arith, lt, all)) at.1 some
+
+    abbrev Has : Node → ℕ → Type 0
+    Has v l = (r : Stretch) × Contains qs (l, r) × (r.from ≡ v) × (0 < r.len)
+
+    only_by : (v : Node) (l : ℕ) → label_of u v ≡ Some l → Has v l
+    only_by v l e =
+        let before = some_of (label_of t v) (so.only v (is_some (label_of u v) l e)) in
+        let has = laid.only v before.0 before.1 in
+        let now = run_held ps qs (sym same) before.0 has.0 has.1 in
+        let label : now.0 ≡ l = some_same now.0 l (sym (known now.0 has.0 now.1 has.3) ∙ ap (label_of u) has.2 ∙ e) in
+        (has.0, subst (λ (n : ℕ). Contains qs (n, has.0)) label now.1, has.2, has.3)
+
+    pub renamed_laid : AreLabelled qs u
+    renamed_laid = record {
+      known = known;
+      only = only_by;
+      apart = λ v own l n e s.
+          let before = some_of (label_of t v) (so.only v (is_some (label_of u v) own e)) in
+          let stood = stands_too qs ps same l n v s in
+          laid.apart v before.0 stood.0 n before.1 stood.1;
+      rooted = λ l r h e. let before = run_held qs ps same l r h in laid.rooted before.0 r before.1 e;
+    }
+
+  -- with the next run, whether it has characters or not
+  pub renamed_step : (u w : Labels) (k l : ℕ) (r : Stretch) → AreRenamed ps qs t u k → At qs k (l, r) → (0 < r.len → Sets u w r.from (Some l)) → (r.len ≡ 0 → w ≡ u) → AreRenamed ps qs t w (k + 1)
+  renamed_step u w k l r so h set none = by r.len refl
+    where
+      by : (n : ℕ) → r.len ≡ n → AreRenamed ps qs t w (k + 1)
+      by zero e = subst (λ (x : Labels). AreRenamed ps qs t x (k + 1)) (sym (none e)) (renamed_empty u k l r so h e)
+      by (suc n) e = let some : 0 < r.len = omega (arith, e) in renamed_one u w k l r so h some (set some)
+
+-- the step to the next label that is given
+module _ (ps qs : List (ℕ × Stretch)) (t u : Labels) (laid : AreLabelled ps t) (rising : IsRising ps) (up : IsRising qs) (same : runs qs ≡ runs ps) (given : List (ℕ × ℕ))
+    (is : given ≡ zip (labels ps) (labels qs)) (k : ℕ) (so : AreRenamed ps qs t u k) where
+  module _ (x : ℕ × ℕ) (lt : k < length given) (e : x ≡ slice_index_or given k x) where
+    here : At (labels qs) k x.1
+    here = given_at ps qs given k x is lt (sym e)
+
+    run : (r : Stretch) × At qs k (x.1, r)
+    run = label_at qs k x.1 here
+
+    at : (r : Stretch) → Contains qs (x.1, r) → At qs k (x.1, r)
+    at r h = subst (λ (q : Stretch). At qs k (x.1, q)) (same_run qs x.1 run.0 r up (at_held qs k (x.1, run.0) run.1) h) run.1
+
+    pub step_held : Contains (labels qs) x.1
+    step_held = at_held (labels qs) k x.1 here
+
+    pub step_some : (r : Stretch) → Contains qs (x.1, r) → 0 < r.len → IsSome (label_of u r.from)
+    step_some r h some = next_label ps qs t laid rising same u k x.1 r so (at r h) some
+
+    pub step_next : (w : Labels) → ((r : Stretch) → Contains qs (x.1, r) → 0 < r.len → Sets u w r.from (Some x.1)) → ((r : Stretch) → Contains qs (x.1, r) → r.len ≡ 0 → w ≡ u) → AreRenamed ps qs t w (k + 1)
+    step_next w set none = let h = at_held qs k (x.1, run.0) run.1 in renamed_step ps qs t laid rising same u w k x.1 run.0 so run.1 (set run.0 h) (none run.0 h)
+
+  pub last_laid : length given ≤ k → AreLabelled qs u
+  last_laid le = let long = given_long ps qs given is same in renamed_laid ps qs t laid rising same u k so (omega (arith, le, long))

@@ -1,0 +1,134 @@
+-- Runs by their numbers in the list.
+use Rattle.std.proofs.Common.{◌≡◌, ℕ, zero, suc, ◌<◌, Some, zip, slice_get, List, [], ◌∷◌, ◌++◌, Contains, length, slice_index_or, refl, sym, ap, ◌∙◌, arith}
+use Rattle.std.proofs.lemmas.List.Elements.{Contains-append_right}
+use Rattle.std.proofs.lemmas.Option.{slice_get-get_or}
+use Rattle.ew_model.specs.declared.node.Node.{Node}
+use Rattle.walker_record.specs.Stretches.{Stretch}
+use Rattle.order_tree.specs.Pairs.{RisesFrom, labels, runs}
+use Rattle.advance_retreat.specs.Laid.{Stands, chars_in, records_in, records_of}
+
+-- the one with this number
+abbrev pub At : {X : Type 0} → List X → ℕ → X → Type 0
+At [] k x = ⊥
+At (y ∷ ys) zero x = y ≡ x
+At (y ∷ ys) (suc k) x = At ys k x
+
+module _ {X : Type 0} where
+  pub at_held : (xs : List X) (k : ℕ) (x : X) → At xs k x → Contains xs x
+  at_held [] k x h = absurd h
+  at_held (y ∷ ys) zero x h = (0, omega arith, h)
+  at_held (y ∷ ys) (suc k) x h = Contains-append_right (y ∷ []) ys x (at_held ys k x h)
+
+  pub held_at : (xs : List X) (x : X) → Contains xs x → (k : ℕ) × At xs k x
+  held_at xs x h = (h.0, at xs h.0 h.1 h.2)
+    where
+      at : (ys : List X) (k : ℕ) → k < length ys → slice_index_or ys k x ≡ x → At ys k x
+      at [] k lt e = absurd (omega (arith, lt))
+      at (y ∷ ys) zero lt e = e
+      at (y ∷ ys) (suc k) lt e = at ys k (omega (arith, lt)) e
+
+  pub at_less : (xs : List X) (k : ℕ) (x : X) → At xs k x → k < length xs
+  at_less [] k x h = absurd h
+  at_less (y ∷ ys) zero x h = omega arith
+  at_less (y ∷ ys) (suc k) x h = let lt = at_less ys k x h in omega (arith, lt)
+
+  pub at_one : (xs : List X) (k : ℕ) (x y : X) → At xs k x → At xs k y → x ≡ y
+  at_one [] k x y h i = absurd h
+  at_one (z ∷ zs) zero x y h i = sym h ∙ i
+  at_one (z ∷ zs) (suc k) x y h i = at_one zs k x y h i
+
+-- the label of the one with a number, and its run
+pub label_at : (ps : List (ℕ × Stretch)) (k l : ℕ) → At (labels ps) k l → (r : Stretch) × At ps k (l, r)
+label_at [] k l h = absurd h
+label_at (p ∷ ps) zero l h = (p.1, pair p l h)
+  where
+    pair : (p : ℕ × Stretch) (l : ℕ) → p.0 ≡ l → p ≡ (l, p.1)
+    pair p l e = let as_pair : ℕ → ℕ × Stretch = λ k. (k, p.1) in ap as_pair e
+label_at (p ∷ ps) (suc k) l h = label_at ps k l h
+
+-- the same runs stand at the same numbers
+pub run_at : (ps qs : List (ℕ × Stretch)) → runs ps ≡ runs qs → (k l : ℕ) (r : Stretch) → At ps k (l, r) → (own : ℕ) × At qs k (own, r)
+run_at [] qs e k l r h = absurd h
+run_at (p ∷ ps) [] e k l r h = absurd (cc)
+run_at (p ∷ ps) (q ∷ qs) e zero l r h = (q.0, second q r (sym first ∙ ap (λ (x : ℕ × Stretch). x.1) h))
+  where
+    first : p.1 ≡ q.1
+    first = cc
+
+    second : (q : ℕ × Stretch) (r : Stretch) → q.1 ≡ r → q ≡ (q.0, r)
+    second q r e = let as_pair : Stretch → ℕ × Stretch = λ s. (q.0, s) in ap as_pair e
+run_at (p ∷ ps) (q ∷ qs) e (suc k) l r h = run_at ps qs (rest) k l r h
+  where
+    rest : runs ps ≡ runs qs
+    rest = cc
+
+pub above_low : (low : ℕ) (ps : List (ℕ × Stretch)) → RisesFrom low ps → (k l : ℕ) (r : Stretch) → At ps k (l, r) → low < l
+above_low low [] rises k l r h = absurd h
+above_low low (p ∷ ps) rises zero l r h = let e = ap (λ (x : ℕ × Stretch). x.0) h in let lt = rises.0 in omega (arith, lt, e)
+above_low low (p ∷ ps) rises (suc k) l r h = let lt = above_low p.0 ps rises.1 k l r h in let le = rises.0 in omega (arith, lt, le)
+
+-- one number has a label
+pub one_number : (low : ℕ) (ps : List (ℕ × Stretch)) → RisesFrom low ps → (j k l : ℕ) (r q : Stretch) → At ps j (l, r) → At ps k (l, q) → j ≡ k
+one_number low [] rises j k l r q h i = absurd h
+one_number low (p ∷ ps) rises zero zero l r q h i = refl
+one_number low (p ∷ ps) rises zero (suc k) l r q h i = let lt = above_low p.0 ps rises.1 k l q i in let e = ap (λ (x : ℕ × Stretch). x.0) h in absurd (omega (arith, lt, e))
+one_number low (p ∷ ps) rises (suc j) zero l r q h i = let lt = above_low p.0 ps rises.1 j l r h in let e = ap (λ (x : ℕ × Stretch). x.0) i in absurd (omega (arith, lt, e))
+one_number low (p ∷ ps) rises (suc j) (suc k) l r q h i = ap suc (one_number p.0 ps rises.1 j k l r q h i)
+
+-- THE SAME RUNS UNDER OTHER LABELS
+module _ (ps qs : List (ℕ × Stretch)) (same : runs ps ≡ runs qs) where
+  pub run_held : (l : ℕ) (r : Stretch) → Contains ps (l, r) → (own : ℕ) × Contains qs (own, r)
+  run_held l r h =
+      let at = held_at ps (l, r) h in
+      let other = run_at ps qs same at.0 l r at.1 in
+      (other.0, at_held qs at.0 (other.0, r) other.1)
+
+  pub stands_too : (l n : ℕ) (v : Node) → Stands ps l n v → (own : ℕ) × Stands qs own n v
+  stands_too l n v s =
+      let h = run_held l s.run s.held in
+      (h.0, record { run = s.run; held = h.1; inside = s.inside; node = s.node })
+
+pub by_runs : (ps : List (ℕ × Stretch)) → records_in (runs ps) ≡ chars_in ps
+by_runs [] = refl
+by_runs (p ∷ ps) = ap (λ (xs : List Stretch). records_of p.1 ++ xs) (by_runs ps)
+
+pub same_chars : (ps qs : List (ℕ × Stretch)) → runs ps ≡ runs qs → chars_in ps ≡ chars_in qs
+same_chars ps qs same = sym (by_runs ps) ∙ ap records_in same ∙ by_runs qs
+
+pub same_length : (ps qs : List (ℕ × Stretch)) → runs ps ≡ runs qs → length ps ≡ length qs
+same_length [] [] e = refl
+same_length [] (q ∷ qs) e = absurd (cc)
+same_length (p ∷ ps) [] e = absurd (cc)
+same_length (p ∷ ps) (q ∷ qs) e = ap suc (same_length ps qs rest)
+  where
+    rest : runs ps ≡ runs qs
+    rest = cc
+
+-- beside the labels of some runs stand those of others
+zip_at : (xs ys : List ℕ) (k : ℕ) (x : ℕ × ℕ) → slice_get (zip xs ys) k ≡ Some x → At ys k x.1
+zip_at [] ys k x e = absurd (cc)
+zip_at (x ∷ xs) [] k z e = absurd (cc)
+zip_at (x ∷ xs) (y ∷ ys) zero z e = second x y z e
+  where
+    second : (x y : ℕ) (z : ℕ × ℕ) → Some (x, y) ≡ Some z → y ≡ z.1
+    second x y z e = ap (λ (p : ℕ × ℕ). p.1) (inside (x, y) z e)
+      where
+        inside : (p q : ℕ × ℕ) → Some p ≡ Some q → p ≡ q
+        inside p q e = cc
+zip_at (x ∷ xs) (y ∷ ys) (suc k) z e = zip_at xs ys k z e
+
+pub given_at : (ps qs : List (ℕ × Stretch)) (given : List (ℕ × ℕ)) (k : ℕ) (x : ℕ × ℕ) → given ≡ zip (labels ps) (labels qs) → k < length given → slice_index_or given k x ≡ x → At (labels qs) k x.1
+given_at ps qs given k x is lt e =
+    zip_at (labels ps) (labels qs) k x (ap (λ (xs : List (ℕ × ℕ)). slice_get xs k) (sym is) ∙ slice_get-get_or given k x lt ∙ ap (λ (y : ℕ × ℕ). Some y) e)
+
+pub given_long : (ps qs : List (ℕ × Stretch)) (given : List (ℕ × ℕ)) → given ≡ zip (labels ps) (labels qs) → runs qs ≡ runs ps → length given ≡ length qs
+given_long ps qs given is same = ap length is ∙ long ps qs same
+  where
+    long : (ps qs : List (ℕ × Stretch)) → runs qs ≡ runs ps → length (zip (labels ps) (labels qs)) ≡ length qs
+    long [] [] e = refl
+    long [] (q ∷ qs) e = absurd (cc)
+    long (p ∷ ps) [] e = absurd (cc)
+    long (p ∷ ps) (q ∷ qs) e = ap suc (long ps qs rest)
+      where
+        rest : runs qs ≡ runs ps
+        rest = cc

@@ -1,0 +1,26 @@
+use Rattle.std.proofs.Common.{List, [], ◌∷◌, ◌++◌, sym, subst}
+use Rattle.ew_model.specs.declared.node.Node.TheVariants.{Event}
+use Rattle.advance_retreat.specs.declared.target.Target.{Target}
+use Rattle.advance_retreat.specs.Kept.{Kept}
+use Rattle.advance_retreat.specs.Loose.{is_told, FewLoose}
+use Rattle.advance_retreat.specs.Spots.{Puts}
+use Rattle.advance_retreat.proofs.LooseEvents.{last_told, told_few}
+use Rattle.advance_retreat.proofs.Putting.{puts_by}
+use Rattle.advance_retreat.proofs.state.State.put.Goals as goal
+
+pub invariant_of-self-in-Ok : goal.invariant_of-self-in-Ok
+invariant_of-self-in-Ok c =
+    let inside = c.self.inside in
+    let ts = inside.targets in
+    let t : Target = record { lv = c.args.lv; node = Event c.args.lv } in
+    subst (λ (us : List Target). FewLoose us c.insert.new.self.runs inside.lost) (sym c.in_default.ensures.ok)
+    (told_few ts t inside.characters.runs c.insert.new.self.runs inside.lost c.self.invariant (c.in-Ok.ensures.told (is_told (ts ++ t ∷ [])) (last_told ts t)))
+
+pub returns-in-Ok-clause-ok : goal.returns-in-Ok-clause-ok
+returns-in-Ok-clause-ok c =
+    let inside = c.self.inside in
+    let old : Kept = record { base = inside.base; records = inside.characters.records; attached = inside.siblings; targets = inside.targets; lost = inside.lost } in
+    let new : Kept = record { base = inside.base; records = c.insert.new.self.records; attached = c.insert.new.siblings; targets = c.add.new.self; lost = inside.lost } in
+    subst (λ (s : Kept). Puts s new c.args.lv c.args.id c.args.hold c.in-Ok.at) c.self.view_is
+    (puts_by old c.insert.new.self.records c.insert.new.siblings c.add.new.self c.args.lv c.args.id c.args.hold c.position-place.result c.in-Ok.at
+    c.position-place.ensures c.in-Ok.ensures.comes c.in-Ok.ensures.attached c.in_default.ensures.ok)

@@ -1,0 +1,42 @@
+-- Nodes with labels.
+use Rattle.std.specs.Prelude.{◌≡◌, ℕ, ◌≤◌, Option, Some, None, IsSome, nat_le, Bool, true, false, if◌then◌else◌}
+use Rattle.std.specs.Ordering.{nat_cmp}
+use Rattle.std.specs.BTreeMap.{get}
+use Rattle.ew_model.specs.declared.node.Node.{Node}
+use Rattle.ew_model.specs.declared.node.Node.TheVariants.{Root, Base, Event}
+use Rattle.fugue_place.specs.Attachments.{node_eq}
+use Rattle.advance_retreat.specs.declared.labels.Labels.{Labels}
+
+-- the label of a node
+abbrev pub label_of : Labels → Node → Option ℕ
+label_of t Root = None
+label_of t (Base i) = get nat_cmp t.base i
+label_of t (Event i) = get nat_cmp t.events i
+
+-- the first node is one of those up to the second: both of the base or both of events
+abbrev pub is_up_to : Node → Node → Bool
+is_up_to Root v = false
+is_up_to (Base i) Root = false
+is_up_to (Base i) (Base j) = nat_le i j
+is_up_to (Base i) (Event j) = false
+is_up_to (Event i) Root = false
+is_up_to (Event i) (Base j) = false
+is_up_to (Event i) (Event j) = nat_le i j
+
+-- the label is that of the last node up to this one
+pub record IsLast (t : Labels) (v : Node) (label : ℕ) : Type 0 where
+  pub node : Node
+  pub before : is_up_to node v ≡ true
+  pub has : label_of t node ≡ Some label
+  pub last : (w : Node) → is_up_to w v ≡ true → IsSome (label_of t w) → is_up_to w node ≡ true
+
+-- the label of each node after one of them got another, or lost its own
+abbrev pub Sets : Labels → Labels → Node → Option ℕ → Type 0
+Sets old new v label = (w : Node) → label_of new w ≡ (if node_eq v w then label else label_of old w)
+
+-- one of a map's labels is that of the last number up to this one
+pub record IsLastIn (label_at : ℕ → Option ℕ) (n label : ℕ) : Type 0 where
+  pub number : ℕ
+  pub before : number ≤ n
+  pub has : label_at number ≡ Some label
+  pub last : (k : ℕ) → k ≤ n → IsSome (label_at k) → k ≤ number

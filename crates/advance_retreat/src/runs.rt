@@ -1,0 +1,80 @@
+//! The runs of a state: a counted tree of them, and the label of each by its first node.
+
+ghost use Rattle.std.specs.Prelude.{◌≡◌, ◌<◌, ◌≤◌, [], None, IfOk, length};
+ghost use Rattle.ew_model.specs.declared.node.Node.{Node as Nodes};
+ghost use Rattle.advance_retreat.specs.Kept.{base_records};
+ghost use Rattle.advance_retreat.specs.Labelled.{label_of};
+ghost use Rattle.advance_retreat.specs.Laid.{AreLabelled, chars_in};
+
+mod changing;
+mod child;
+mod entering;
+mod exchanging;
+mod inserting;
+mod parting;
+mod reading;
+mod relabelling;
+
+use crate::labels::Labels;
+pub use child::Child;
+use ew_model::NoMem;
+use ew_model::node::Node;
+use ew_model::steps::Steps;
+use order_tree::OrderTree;
+use std::alloc::Global;
+use std::sync::ledger::Ledger;
+use walker_record::Record;
+
+/// Runs of characters in order, with the label of each.
+#[derive(Drop)]
+pub struct Runs {
+    tree: OrderTree<Record>,
+    labels: Labels,
+}
+
+/// Where a character stands: the label of its run, and its number in it.
+#[derive(Clone, Copy)]
+pub struct Spot {
+    pub label: u64,
+    pub offset: u32,
+}
+
+impl Runs {
+    /// One run of a base, or none where it has no characters.
+    pub fn base<L: Ledger>(alloc: Global, len: u32, visits: &mut Steps<L>) -> Result<Runs, NoMem>
+        ensures laid { IfOk result (λ r. AreLabelled r.tree.pairs r.labels) }
+        ensures chars { IfOk result (λ r. chars_in r.tree.pairs ≡ base_records len) }
+        ensures few { IfOk result (λ r. length r.tree.pairs ≤ 1) }
+    {
+        let none = Runs {
+            tree: OrderTree::new(alloc)?,
+            labels: Labels::new(alloc),
+        };
+        if len == 0 {
+            return Ok(none);
+        }
+        none.begun(len, visits)
+    }
+
+    /// The first run, of so many base characters.
+    fn begun<L: Ledger>(self, len: u32, visits: &mut Steps<L>) -> Result<Runs, NoMem>
+        requires none { self.tree.pairs ≡ [] }
+        requires unlabelled { (v : Nodes) → label_of self.labels v ≡ None }
+        requires some { 0 < len }
+        ensures laid { IfOk result (λ r. AreLabelled r.tree.pairs r.labels) }
+        ensures chars { IfOk result (λ r. chars_in r.tree.pairs ≡ base_records len) }
+        ensures few { IfOk result (λ r. length r.tree.pairs ≡ 1) }
+    {
+        let mut runs = self;
+        let from = Node::Base(0);
+        let run = Record {
+            from,
+            len,
+            prepared: 1,
+            effect: true,
+        };
+        let own = runs.tree.insert_after(0, run, visits)?;
+        runs.labels.insert(from, own)?;
+        Ok(runs)
+    }
+}

@@ -1,0 +1,149 @@
+//! Characters of new children that come in.
+
+ghost use Rattle.std.specs.Prelude.{◌≡◌, ◌+◌, ◌<◌, ◌≤◌, Bool, true, [], ◌∷◌, ◌++◌, IfOk, OnOk, OnErr, length, Contains};
+ghost use Rattle.ew_model.specs.declared.node.Node.{Node as Nodes};
+ghost use Rattle.ew_model.specs.declared.node.Node.TheVariants as nodes;
+ghost use Rattle.walker_record.specs.Stretches.{Stretch, effect_of, is_continued};
+ghost use Rattle.fugue_place.specs.declared.neighbour.Place.TheVariants as place;
+ghost use Rattle.order_tree.specs.Pairs.{HasRoom, total, lower, up_to, runs};
+ghost use Rattle.advance_retreat.specs.Entering.{run_of, attached_by, IsNewChild, EntersAt};
+ghost use Rattle.advance_retreat.specs.Laid.{AreLabelled, chars_in};
+ghost use Rattle.advance_retreat.specs.Loose.{loose_in, loose_parted};
+ghost use Rattle.advance_retreat.specs.Spots.{Comes};
+
+use crate::runs::{Child, Runs};
+use ew_model::NoMem;
+use ew_model::node::Node;
+use ew_model::steps::Steps;
+use fugue_place::Siblings;
+use std::sync::ledger::Ledger;
+use walker_record::Record;
+
+impl Runs {
+    /// How many characters of the text are in runs with lower labels.
+    pub fn shown_before<L: Ledger>(&self, label: u64, visits: &mut Steps<L>) -> u32
+        ensures { result ≡ total effect_of (lower self.now.tree.pairs label) }
+    {
+        self.tree.effect_before(label, visits)
+    }
+
+    /// Puts a new child's character behind the run of a label, behind which one is free, or before all at label 0. Answers its
+    /// index in the text. After an error for want of memory the characters and the children are the same.
+    pub fn insert_run<L: Ledger>(
+        &mut self,
+        label: u64,
+        siblings: &mut Siblings,
+        child: &Child,
+        visits: &mut Steps<L>,
+    ) -> Result<u32, NoMem>
+        requires laid { AreLabelled self.old.tree.pairs self.old.labels }
+        requires new { IsNewChild (chars_in self.old.tree.pairs) siblings.old child.now }
+        requires room { HasRoom self.old.tree.pairs label }
+        requires few { length self.old.tree.pairs < 4294967295 }
+        ensures laid { AreLabelled self.new.tree.pairs self.new.labels }
+        ensures enters { IfOk result (EntersAt (chars_in self.old.tree.pairs) (chars_in self.new.tree.pairs) child.now (length (chars_in (up_to self.old.tree.pairs label)))) }
+        ensures attached { OnOk result (siblings.new ≡ siblings.old ++ attached_by child.now ∷ []) }
+        ensures err { OnErr result (chars_in self.new.tree.pairs ≡ chars_in self.old.tree.pairs) }
+        ensures detached { OnErr result (siblings.new ≡ siblings.old) }
+        ensures told { OnOk result ((among : Nodes → Bool) → among (nodes.Event child.now.lv) ≡ true → loose_in among (runs self.new.tree.pairs) ≤ loose_parted among (runs self.old.tree.pairs) (length (up_to self.old.tree.pairs label))) }
+        ensures loose { OnErr result ((among : Nodes → Bool) → loose_in among (runs self.new.tree.pairs) ≤ loose_in among (runs self.old.tree.pairs) + 1) }
+    {
+        let _old = self.tree.runs();
+        let own = self.open_run(label, child.empty_run(), visits)?;
+        let _runs = self.tree.runs();
+        child.enlist(own, &mut self.labels, siblings)?;
+        self.fill(own, child.run(), visits);
+        Ok(self.shown_before(own, visits))
+    }
+
+    /// Puts a new child's character behind those of a run that it goes on. Answers its index in the text. After an error for
+    /// want of memory nothing has changed.
+    fn lengthen<L: Ledger>(
+        &mut self,
+        label: u64,
+        front: &Record,
+        siblings: &mut Siblings,
+        child: &Child,
+        visits: &mut Steps<L>,
+    ) -> Result<u32, NoMem>
+        requires laid { AreLabelled self.old.tree.pairs self.old.labels }
+        requires new { IsNewChild (chars_in self.old.tree.pairs) siblings.old child.now }
+        requires held { Contains self.old.tree.pairs (label, front.now) }
+        requires some { 0 < front.now.len }
+        requires goes_on { is_continued front.now (run_of child.now 1) ≡ true }
+        ensures laid { AreLabelled self.new.tree.pairs self.new.labels }
+        ensures enters { IfOk result (EntersAt (chars_in self.old.tree.pairs) (chars_in self.new.tree.pairs) child.now (length (chars_in (up_to self.old.tree.pairs label)))) }
+        ensures attached { OnOk result (siblings.new ≡ siblings.old ++ attached_by child.now ∷ []) }
+        ensures err { OnErr result (chars_in self.new.tree.pairs ≡ chars_in self.old.tree.pairs) }
+        ensures detached { OnErr result (siblings.new ≡ siblings.old) }
+        ensures told { OnOk result ((among : Nodes → Bool) → among (nodes.Event child.now.lv) ≡ true → loose_in among (runs self.new.tree.pairs) ≤ loose_parted among (runs self.old.tree.pairs) (length (up_to self.old.tree.pairs label))) }
+        ensures loose { OnErr result ((among : Nodes → Bool) → loose_in among (runs self.new.tree.pairs) ≤ loose_in among (runs self.old.tree.pairs) + 1) }
+    {
+        child.attach(siblings)?;
+        let _runs = self.tree.runs();
+        let joined = front.join(&child.run());
+        self.tree.change(label, joined, visits);
+        let before = self.shown_before(label, visits);
+        let at = before + front.len;
+        Ok(at)
+    }
+
+    /// Puts a new child's character behind the run of a label, behind which one is free: into that run, if it goes on there.
+    fn append<L: Ledger>(
+        &mut self,
+        label: u64,
+        siblings: &mut Siblings,
+        child: &Child,
+        visits: &mut Steps<L>,
+    ) -> Result<u32, NoMem>
+        requires laid { AreLabelled self.old.tree.pairs self.old.labels }
+        requires new { IsNewChild (chars_in self.old.tree.pairs) siblings.old child.now }
+        requires held { (r : Stretch) × Contains self.old.tree.pairs (label, r) × (0 < r.len) }
+        requires room { HasRoom self.old.tree.pairs label }
+        requires few { length self.old.tree.pairs < 4294967295 }
+        ensures laid { AreLabelled self.new.tree.pairs self.new.labels }
+        ensures enters { IfOk result (EntersAt (chars_in self.old.tree.pairs) (chars_in self.new.tree.pairs) child.now (length (chars_in (up_to self.old.tree.pairs label)))) }
+        ensures attached { OnOk result (siblings.new ≡ siblings.old ++ attached_by child.now ∷ []) }
+        ensures err { OnErr result (chars_in self.new.tree.pairs ≡ chars_in self.old.tree.pairs) }
+        ensures detached { OnErr result (siblings.new ≡ siblings.old) }
+        ensures told { OnOk result ((among : Nodes → Bool) → among (nodes.Event child.now.lv) ≡ true → loose_in among (runs self.new.tree.pairs) ≤ loose_parted among (runs self.old.tree.pairs) (length (up_to self.old.tree.pairs label))) }
+        ensures loose { OnErr result ((among : Nodes → Bool) → loose_in among (runs self.new.tree.pairs) ≤ loose_in among (runs self.old.tree.pairs) + 1) }
+    {
+        let _runs = self.tree.runs();
+        let front = self.record(label, visits);
+        let goes_on = front.joinable(&child.run());
+        if goes_on {
+            self.lengthen(label, &front, siblings, child, visits)
+        } else {
+            self.insert_run(label, siblings, child, visits)
+        }
+    }
+
+    /// Puts a new child's character right behind that of a node, or before all where it has none. Answers its index in the text.
+    /// After an error for want of memory the characters and the children are the same.
+    pub fn insert_behind<L: Ledger>(
+        &mut self,
+        node: Node,
+        siblings: &mut Siblings,
+        child: &Child,
+        visits: &mut Steps<L>,
+    ) -> Result<u32, NoMem>
+        requires laid { AreLabelled self.old.tree.pairs self.old.labels }
+        requires new { IsNewChild (chars_in self.old.tree.pairs) siblings.old child.now }
+        ensures laid { AreLabelled self.new.tree.pairs self.new.labels }
+        ensures comes { IfOk result (Comes (chars_in self.old.tree.pairs) (chars_in self.new.tree.pairs) (place.After node) child.now.lv) }
+        ensures attached { OnOk result (siblings.new ≡ siblings.old ++ attached_by child.now ∷ []) }
+        ensures err { OnErr result (chars_in self.new.tree.pairs ≡ chars_in self.old.tree.pairs) }
+        ensures detached { OnErr result (siblings.new ≡ siblings.old) }
+        ensures told { OnOk result ((among : Nodes → Bool) → among (nodes.Event child.now.lv) ≡ true → loose_in among (runs self.new.tree.pairs) ≤ loose_in among (runs self.old.tree.pairs)) }
+        ensures loose { OnErr result ((among : Nodes → Bool) → loose_in among (runs self.new.tree.pairs) ≤ loose_in among (runs self.old.tree.pairs) + 2) }
+    {
+        self.cut_behind(node, visits)?;
+        let room = self.make_room(node, visits)?;
+        let _runs = self.tree.runs();
+        match room {
+            Some(spot) => self.append(spot.label, siblings, child, visits),
+            None => self.insert_run(0, siblings, child, visits),
+        }
+    }
+}
