@@ -31,8 +31,10 @@ good_is_kept limits events good few = record { orderly = record { good = good; f
 abbrev pub none_waits : LimitNumbers → Waiting
 none_waits limits = record { limit = limits.waiting; seen = 0; waiters = [] }
 
-pub none_up_to_date : (limits : LimitNumbers) → IsUpToDate limits [] (none_waits limits) [] []
-none_up_to_date limits = record { kept = good_is_kept limits [] no_event_is_good (omega arith); limit = refl; behind = behind_none [] limits.waiting; text_is = sym no_text; lengths_are = refl }
+-- none of no events is bad
+pub none_is_bad : first_bad [] ≡ None
+unfolding first_bad
+none_is_bad = refl
 
 pub good_from_none_bad : (events : List Event) → first_bad events ≡ None → IsGood events
 good_from_none_bad events e = (good_has_no_bad events).1 e

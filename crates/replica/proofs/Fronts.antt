@@ -73,7 +73,7 @@ front_of front (Some ruling) events h = (h.0 ∷ h.1, h.2)
 pub front_takes : (front events : List Event) → IsFront front events → take (length front) events ≡ front
 front_takes front events h = ap (take (length front)) h.1 ∙ take-append_seam front h.0
 
-admitted_joined : (before held made : List Event) → AreAdmittedAfter before held → AreAdmittedAfter (before ++ held) made → AreAdmittedAfter before (held ++ made)
+pub admitted_joined : (before held made : List Event) → AreAdmittedAfter before held → AreAdmittedAfter (before ++ held) made → AreAdmittedAfter before (held ++ made)
 admitted_joined before [] made h k = subst (λ (l : List Event). AreAdmittedAfter l made) (append-nil before) k
 admitted_joined before (e ∷ held) made h k = (h.0, admitted_joined (before ++ e ∷ []) held made h.1 (subst (λ (l : List Event). AreAdmittedAfter l made) (sym (append_assoc before (e ∷ []) held)) k))
 

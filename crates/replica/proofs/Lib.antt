@@ -6,13 +6,14 @@ pub mod EditAnswers
 pub mod EditCuts
 pub mod EditLengths
 pub mod EditOps
+pub mod FrontWalks
 pub mod Fronts
+pub mod Giving
 pub mod HeadLaws
 pub mod Judged
 pub mod Knowing
 pub mod LengthLaws
 pub mod LengthSteps
-pub mod Loading
 pub mod NotOut
 pub mod PastTexts
 pub mod Received

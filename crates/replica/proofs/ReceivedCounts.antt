@@ -1,5 +1,5 @@
 -- How many steps receiving takes.
-use Rattle.std.proofs.Common.{◌≡◌, ℕ, ◌+◌, ◌≤◌, List, None, sym, ap, ◌∙◌, subst, arith}
+use Rattle.std.proofs.Common.{◌≡◌, ℕ, ◌+◌, ◌≤◌, List, None, ap, ◌∙◌, arith}
 use Rattle.ew_model.specs.declared.event.Event.{Event}
 use Rattle.ew_model.specs.Arrival.{Desk, arrive, desk_of, most_judgements}
 use Rattle.ew_model.specs.Kept.{ReplicaState}

@@ -4,6 +4,7 @@ pub mod Counting
 pub mod Desks
 pub mod Editing
 pub mod Fronts
+pub mod Giving
 pub mod Keeping
 pub mod Lengths
 pub mod Reaching

@@ -1,14 +1,12 @@
-//! Events that come into a graph.
+//! Events that are put behind those held.
 
-ghost use Rattle.std.specs.Prelude.{◌≡◌, ◌+◌, ◌<◌, ◌^◌, [], ◌++◌, length, take, true, option_map, IfOk, OnOk, OnErr};
-ghost use Rattle.ew_model.specs.Answers.{ruling_of};
+ghost use Rattle.std.specs.Prelude.{◌≡◌, ◌+◌, ◌<◌, ◌^◌, ◌++◌, length, take, true, OnOk, OnErr};
 ghost use Rattle.ew_model.specs.Cuts.{is_critical};
 ghost use Rattle.ew_model.specs.Operations.{changed_by_all};
 ghost use Rattle.ew_model.specs.TextLaws.{AllFit};
-ghost use Rattle.ew_model.specs.Verdicts as model;
 ghost use Rattle.event_graph.specs.Keeping.{AreAdmittedAfter};
 ghost use Rattle.rope.specs.Lengths.{AllStayShort};
-ghost use Rattle.replica.specs.Fronts.{IsFront, IsAdmittedFront};
+ghost use Rattle.replica.specs.Fronts.{IsFront};
 ghost use Rattle.replica.specs.Lengths.{lengths_through};
 
 use crate::lengths::write;
@@ -16,33 +14,7 @@ use event_graph::Graph;
 use ew_model::NoMem;
 use ew_model::event::Event;
 use ew_model::text_op::TextOp;
-use ew_model::verdict::Verdict;
 use rope::Rope;
-
-/// Takes in the events up to the first whose id or parents aren't good. Answers the verdict on that one.
-pub fn admit_front(graph: &mut Graph, events: &[Event]) -> Result<Option<Verdict>, NoMem>
-    requires none { graph.old ≡ [] }
-    requires few { length events.now < 2 ^ 32 }
-    ensures { IfOk result (λ refused. IsAdmittedFront graph.new (option_map ruling_of refused) events.now) }
-{
-    for e in events {
-        let verdict = graph.judge(e)?;
-        if !is_good(&verdict) {
-            return Ok(Some(verdict));
-        }
-        graph.admit(e)?;
-    }
-    Ok(None)
-}
-
-fn is_good(verdict: &Verdict) -> bool
-    ensures { result ≡ model.is_verdict_good (ruling_of verdict.now) }
-{
-    match verdict {
-        Verdict::Good => true,
-        _ => false,
-    }
-}
 
 /// Puts events behind the others, which know all of these, changes the text, and puts how long it is after each behind the other
 /// lengths: all of it or nothing.

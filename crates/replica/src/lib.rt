@@ -14,6 +14,7 @@ pub mod laws;
 mod lengths;
 mod listed;
 mod load;
+mod loading;
 mod made;
 mod past;
 mod rounds;
@@ -21,5 +22,6 @@ mod state;
 mod took;
 
 pub use fault::{EditFault, LoadFault, VersionFault};
+pub use loading::Loading;
 pub use state::Replica;
 pub use took::{Stopped, Took};

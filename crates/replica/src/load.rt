@@ -1,20 +1,21 @@
-//! From events to what a replica keeps of them.
+//! From the events of a graph to what a replica keeps of them.
 
-ghost use Rattle.std.specs.Prelude.{◌≡◌, ◌+◌, ◌≤◌, [], length, None, option_map, IfOk, OnOk, IfErr};
+ghost use Rattle.std.specs.Prelude.{◌≡◌, ◌+◌, ◌≤◌, List, length, None, option_map, IfOk, OnOk, IfErr};
+ghost use Rattle.ew_model.specs.declared.event.Event.{Event};
+ghost use Rattle.ew_model.specs.Answers.{ruling_of};
 ghost use Rattle.ew_model.specs.Operations.{operations};
 ghost use Rattle.ew_model.specs.Texts.{text_of};
 ghost use Rattle.ew_model.specs.Touches.{touches};
 ghost use Rattle.ew_model.specs.Verdicts.{first_bad};
 ghost use Rattle.transform.specs.Walking.{bad_at, walked_of};
 ghost use Rattle.replica.specs.Answers.{TellsBad};
+ghost use Rattle.replica.specs.Fronts.{IsAdmittedFront};
 ghost use Rattle.replica.specs.Lengths.{prefix_lengths};
 
-use crate::admit::admit_front;
 use crate::fault::LoadFault;
 use crate::lengths::written;
 use event_graph::Graph;
 use ew_model::NoMem;
-use ew_model::event::Event;
 use ew_model::steps::Steps;
 use ew_model::verdict::Verdict;
 use rope::Rope;
@@ -22,24 +23,23 @@ use std::alloc::Global;
 use std::sync::ledger::Ledger;
 use transform::{State, Walk, walk};
 
-/// Takes in the events, and answers their text, and how long it is after each; or tells the first event that isn't good
-/// behind those before it. That is where the walk over the admitted events stops, or else the one that isn't admitted.
+/// The text of the events of a graph, and how long it is after each. Where others were given behind them, of which the first
+/// was refused, or where one isn't good: tells the first of all that isn't. That is where the walk over the graph's events
+/// stops, or else the one that was refused.
 pub fn load<L: Ledger>(
     alloc: Global,
-    graph: &mut Graph,
-    events: &[Event],
+    graph: &Graph,
+    refused: Option<Verdict>,
     steps: &mut Steps<L>,
 ) -> Result<(Rope, Vec<u32>), LoadFault>
-    requires none { graph.old ≡ [] }
-    requires few { length events.now ≤ 16777216 }
-    ensures good { OnOk result (first_bad events.now ≡ None) }
-    ensures graph { OnOk result (graph.new ≡ events.now) }
-    ensures text { IfOk result (λ made. made.0 ≡ text_of events.now) }
-    ensures lengths { IfOk result (λ made. made.1.items ≡ prefix_lengths events.now) }
-    ensures bad { IfErr result (TellsBad events.now) }
-    ensures touches { steps.new ≤ steps.old + touches events.now 0 }
+    requires few { length graph.now ≤ 16777216 }
+    ensures all { OnOk result (refused ≡ None) }
+    ensures good { OnOk result (first_bad graph.now ≡ None) }
+    ensures text { IfOk result (λ made. made.0 ≡ text_of graph.now) }
+    ensures lengths { IfOk result (λ made. made.1.items ≡ prefix_lengths graph.now) }
+    ensures bad { IfErr result (λ fault. (events : List Event) → IsAdmittedFront graph.now (option_map ruling_of refused) events → TellsBad events fault) }
+    ensures touches { steps.new ≤ steps.old + touches graph.now 0 }
 {
-    let refused = admit_front(graph, events)?;
     let walked = walk_all(alloc, graph, steps)?;
     if let Some((position, len)) = walked.stopped {
         let verdict = Verdict::OutOfRange { len };

@@ -18,13 +18,14 @@ ghost use Rattle.ew_model.specs.Sorting.{sort_by};
 ghost use Rattle.ew_model.specs.Texts.{text_at, text_of};
 ghost use Rattle.ew_model.specs.TouchLaws.{NoneOutOfRange};
 ghost use Rattle.ew_model.specs.Touches.{touches};
-ghost use Rattle.ew_model.specs.Verdicts.{IsGood, first_unknown};
+ghost use Rattle.ew_model.specs.Verdicts.{IsGood, first_bad, first_unknown};
 ghost use Rattle.replica.specs.Answers.{EditsBy, Loads, refusal_of};
 ghost use Rattle.replica.specs.Appending.{CanAppend};
 ghost use Rattle.replica.specs.Counting.{Counted};
 ghost use Rattle.replica.specs.Desks.{desk_of_replica, IsBegun};
 ghost use Rattle.replica.specs.Editing.{edit_view};
 ghost use Rattle.replica.specs.Keeping.{head_positions};
+ghost use Rattle.replica.specs.Lengths.{prefix_lengths};
 ghost use Rattle.replica.specs.Reaching.{Reaches};
 ghost use Rattle.replica.specs.Receiving.{Receives, StopsBetween};
 ghost use Rattle.replica.specs.Refusing.{refusal_by};
@@ -38,7 +39,7 @@ use crate::fault::{EditFault, LoadFault, VersionFault};
 use crate::heads::head_ids;
 use crate::lengths::length_below;
 use crate::listed::listed;
-use crate::load::load;
+use crate::loading::given;
 use crate::made::events_by;
 use crate::past::text_at;
 use crate::rounds::round;
@@ -94,15 +95,7 @@ impl Replica {
         let graph = Graph::new(alloc)?;
         let text = Rope::new(alloc)?;
         let lengths = Vec::new(alloc);
-        let pool = Pool::new(alloc, limits.waiting())?;
-        Ok(Replica {
-            alloc,
-            limits,
-            graph,
-            text,
-            lengths,
-            pool,
-        })
+        Replica::of_good(alloc, limits, graph, text, lengths)
     }
 
     /// A replica of the events, or the first that isn't good behind those before it. The steps taken are at most the touches of
@@ -117,9 +110,24 @@ impl Replica {
         ensures loads { Loads events.items limits result }
         ensures touches { steps.new ≤ steps.old + touches events.items 0 }
     {
-        let _most = limits.events();
-        let mut graph = Graph::new(alloc)?;
-        let (text, lengths) = load(alloc, &mut graph, &events, steps)?;
+        let loading = given(alloc, events, limits)?;
+        loading.finish(steps)
+    }
+
+    /// A replica of good events, with their text, and how long it is after each.
+    pub(crate) fn of_good(
+        alloc: Global,
+        limits: Limits,
+        graph: Graph,
+        text: Rope,
+        lengths: Vec<u32>,
+    ) -> Result<Replica, NoMem>
+        requires good { first_bad graph ≡ None }
+        requires few { length graph ≤ limits.events }
+        requires text { text ≡ text_of graph }
+        requires lengths { lengths.items ≡ prefix_lengths graph }
+        ensures { IfOk result (λ r. r ≡ record { limits = limits; held = graph; waiting = [] }) }
+    {
         let pool = Pool::new(alloc, limits.waiting())?;
         Ok(Replica {
             alloc,

@@ -1,4 +1,4 @@
-use Rattle.std.proofs.Common.{◌∙◌, ◌≤◌, ℕ, List, length, take, get_or, ap, arith}
+use Rattle.std.proofs.Common.{◌∙◌, ◌≤◌, ℕ, List, length, get_or, ap, arith}
 use Rattle.replica.proofs.LengthLaws.{length_found, length_of_none, length-prefix_lengths}
 use Rattle.replica.proofs.lengths.length_below.Goals as goal
 

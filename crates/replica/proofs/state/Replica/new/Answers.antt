@@ -1,8 +1,15 @@
-use Rattle.std.proofs.Common.{◌≡◌, [], ap, ◌∙◌}
-use Rattle.replica.proofs.Beginnings.{none_waits, none_up_to_date, same_kept}
+use Rattle.std.proofs.Common.{◌∙◌, sym, ap}
+use Rattle.ew_model.specs.Texts.{text_of}
+use Rattle.ew_model.specs.Verdicts.{first_bad}
+use Rattle.replica.specs.Lengths.{prefix_lengths}
+use Rattle.replica.proofs.Beginnings.{no_text, none_is_bad}
 use Rattle.replica.proofs.state.Replica.new.Goals as goal
 
-pub invariant_of-result : goal.invariant_of-result
-invariant_of-result c =
-    let pool : c.in_ok-pool.pool ≡ none_waits c.args.limits = c.in_ok-pool.ensures ∙ ap (λ n. record { limit = n; seen = 0; waiters = [] }) c.waiting.ensures.value in
-    same_kept c.args.limits [] c.in_ok-graph.graph (none_waits c.args.limits) c.in_ok-pool.pool [] c.in_ok-text.text [] c.new-lengths.result.items c.in_ok-graph.ensures pool c.in_ok-text.ensures c.new-lengths.ensures.items (none_up_to_date c.args.limits)
+pub of_good-requires-clause-good : goal.of_good-requires-clause-good
+of_good-requires-clause-good c = ap first_bad c.in_ok-graph.ensures ∙ none_is_bad
+
+pub of_good-requires-clause-text : goal.of_good-requires-clause-text
+of_good-requires-clause-text c = c.in_ok-text.ensures ∙ sym no_text ∙ ap text_of (sym c.in_ok-graph.ensures)
+
+pub of_good-requires-clause-lengths : goal.of_good-requires-clause-lengths
+of_good-requires-clause-lengths c = c.new-lengths.ensures.items ∙ ap prefix_lengths (sym c.in_ok-graph.ensures)

@@ -44,33 +44,25 @@ refused_told front events refused verdict stopped position admitted is told none
     let bad : IsAdmittedFront front (Some (ruling_of verdict)) events = subst (λ (o : Option Verdict). IsAdmittedFront front (option_map ruling_of o) events) is admitted in
     bad_behind front events (ruling_of verdict) bad (sym told ∙ ap (option_map bad_at) none) ∙ ap (λ n. Some (record { position = n; verdict = ruling_of verdict })) (sym here)
 
--- the front is all, each event is good, and the operations are those of the events
-pub record AreWalked (graph events : List Event) (ops : List TextOp) : Type 0 where
-  pub graph_is : graph ≡ events
+-- each event is good, and the operations are those of the events
+pub record AreWalked (events : List Event) (ops : List TextOp) : Type 0 where
   pub none : first_bad events ≡ None
   pub ops_are : ops ≡ operations events
 
--- so it is where nothing was refused and the walk didn't stop
-pub are_walked : (graph events : List Event) (refused : Option Verdict) (stopped : Option (ℕ × ℕ)) (ops : List TextOp) → IsAdmittedFront graph (option_map ruling_of refused) events → refused ≡ None
-    → option_map bad_at stopped ≡ first_bad graph → stopped ≡ None → ops ≡ operations (walked_of graph stopped) → AreWalked graph events ops
-are_walked graph events refused stopped ops admitted all told none are =
-    let same : events ≡ graph = subst (λ (o : Option Verdict). IsAdmittedFront graph (option_map ruling_of o) events) all admitted in
-    record {
-      graph_is = sym same;
-      none = ap first_bad same ∙ (sym told ∙ ap (option_map bad_at) none);
-      ops_are = are ∙ (ap (λ (o : Option (ℕ × ℕ)). operations (walked_of graph o)) none ∙ ap operations (sym same));
-    }
+-- so it is where the walk didn't stop
+pub are_walked : (events : List Event) (stopped : Option (ℕ × ℕ)) (ops : List TextOp) → option_map bad_at stopped ≡ first_bad events → stopped ≡ None → ops ≡ operations (walked_of events stopped) → AreWalked events ops
+are_walked events stopped ops told none are = record { none = sym told ∙ ap (option_map bad_at) none; ops_are = are ∙ ap (λ (o : Option (ℕ × ℕ)). operations (walked_of events o)) none }
 
 -- Then the operations may be done to the empty text,
-pub may_write : (graph events : List Event) (ops : List TextOp) → AreWalked graph events ops → length events ≤ 16777216 → AllFit [] ops × AllStayShort [] ops
-may_write graph events ops walked few = (
+pub may_write : (events : List Event) (ops : List TextOp) → AreWalked events ops → length events ≤ 16777216 → AllFit [] ops × AllStayShort [] ops
+may_write events ops walked few = (
   subst (AllFit []) (sym walked.ops_are) (operations_fit events (good_from_none_bad events walked.none)),
   stay_short [] ops (omega (arith, few, length_operations events, ap length walked.ops_are)),
 )
 
 -- and make the text, of the lengths that are to be kept.
-pub text_made : (graph events : List Event) (ops : List TextOp) → AreWalked graph events ops → changed_by_all ops [] ≡ text_of events
-text_made graph events ops walked = ap (λ os. changed_by_all os []) walked.ops_are ∙ sym (operations_make_text events (good_from_none_bad events walked.none))
+pub text_made : (events : List Event) (ops : List TextOp) → AreWalked events ops → changed_by_all ops [] ≡ text_of events
+text_made events ops walked = ap (λ os. changed_by_all os []) walked.ops_are ∙ sym (operations_make_text events (good_from_none_bad events walked.none))
 
-pub lengths_made : (graph events : List Event) (ops : List TextOp) → AreWalked graph events ops → lengths_through [] ops ≡ prefix_lengths events
-lengths_made graph events ops walked = ap (lengths_through []) walked.ops_are ∙ good_lengths events (good_from_none_bad events walked.none)
+pub lengths_made : (events : List Event) (ops : List TextOp) → AreWalked events ops → lengths_through [] ops ≡ prefix_lengths events
+lengths_made events ops walked = ap (lengths_through []) walked.ops_are ∙ good_lengths events (good_from_none_bad events walked.none)
