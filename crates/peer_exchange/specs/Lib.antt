@@ -1,3 +1,4 @@
-pub mod Pieces
+pub mod AnswerTouches
 pub mod Answering
 pub mod Laws
+pub mod Pieces

@@ -1,6 +1,6 @@
 //! Asking and answering.
 
-ghost use Rattle.std.specs.Prelude.{◌≡◌, ◌<◌, ◌^◌, [], ◌∷◌, false, length, option_map, Some, IfOk, OnErr};
+ghost use Rattle.std.specs.Prelude.{◌≡◌, ◌≤◌, ◌<◌, ◌+◌, ◌^◌, [], ◌∷◌, false, length, option_map, Some, IfOk, OnErr};
 ghost use Rattle.std.specs.List.{All, AllByRecursion};
 ghost use Rattle.event_graph.specs.Missing.{missing};
 ghost use Rattle.event_graph.specs.Summary.{summary_of};
@@ -8,6 +8,7 @@ ghost use Rattle.peer_frames.specs.Laws.{IsTaken};
 ghost use Rattle.peer_frames.specs.Spelling.{HasSpelling, IsSoundCount, IsSoundFrame};
 ghost use Rattle.peer_frames.specs.declared.frame.Frame.TheVariants as frame;
 ghost use Rattle.peer_exchange.specs.declared.reply.End.TheVariants as end;
+ghost use Rattle.peer_exchange.specs.AnswerTouches.{answer_touches};
 ghost use Rattle.peer_exchange.specs.Answering.{answer_to, brings_events, question, first_clash, frame_for, IsReply, IsLeftBy};
 
 use crate::events::all_frames;
@@ -62,6 +63,7 @@ pub fn answer<L: Ledger>(
     ensures left { OnErr result (IsLeftBy frame replica.old replica.new) }
     // Only received events take steps.
     ensures steps { brings_events frame ≡ false → steps.new ≡ steps.old }
+    ensures most { steps.new ≤ steps.old + answer_touches replica.old frame }
 {
     match frame {
         Frame::Have(counts) => answer_have(alloc, replica, &counts),
@@ -128,6 +130,7 @@ fn answer_events<L: Ledger>(
     ensures reply { IfOk result (IsReply (answer_to replica.old (frame.Events events.items)) replica.new) }
     ensures taken { IfOk result (λ reply. All (IsTaken replica.old.limits) reply.frames.items) }
     ensures left { OnErr result (IsLeftBy (frame.Events events.items) replica.old replica.new) }
+    ensures most { steps.new ≤ steps.old + answer_touches replica.old (frame.Events events.items) }
 {
     let mut frames = Vec::with_capacity(alloc, 1)?;
     let _most = replica.limits().events();
