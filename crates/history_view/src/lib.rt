@@ -2,7 +2,7 @@
 #![tactic(auto)]
 
 pub mod laws;
-mod lines;
+pub mod lines;
 pub mod listings;
 pub mod replays;
 

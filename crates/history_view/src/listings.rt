@@ -66,7 +66,7 @@ pub fn check_text(alloc: Global, replica: &Replica) -> Result<Vec<u8>, NoMem>
 
 /// How many heads there are.
 #[tactic(auto, using(crate::proofs::Counts::heads_few, crate::proofs::Counts::heads_sorted))]
-fn count_heads(replica: &Replica) -> Result<u32, NoMem>
+pub fn count_heads(replica: &Replica) -> Result<u32, NoMem>
     requires { length replica.now.held ≤ 16777216 }
     ensures { IfOk result (λ n. n ≡ length (heads replica.now.held)) }
 {
@@ -86,7 +86,7 @@ fn count_agents(graph: &Graph) -> Result<u32, NoMem>
 
 /// How many cuts are critical. The cut at 0 always is.
 #[tactic(auto, using(crate::proofs::Counts::cut_more, crate::proofs::Counts::no_cut_more))]
-fn count_cuts(graph: &Graph) -> u32
+pub fn count_cuts(graph: &Graph) -> u32
     requires { length graph.now ≤ 16777216 }
     ensures { result ≡ length (cuts_of graph.now) }
 {

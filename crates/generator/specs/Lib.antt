@@ -1,0 +1,5 @@
+pub mod Draws
+pub mod Making
+pub mod Touches
+pub mod Answers
+pub mod Owning

@@ -1,0 +1,9 @@
+//! Made histories: three peers that edit by numbers drawn from a seed, and give each other their events.
+#![tactic(auto)]
+
+mod draws;
+mod making;
+mod peers;
+mod told;
+
+pub use making::make;
