@@ -1,11 +1,9 @@
 -- What a merge stores: a file's own events, and behind them those of the other file that it didn't hold.
-use Rattle.std.proofs.Common.{◌≡◌, ℕ, Bool, true, false, if◌then◌else◌, List, [], ◌∷◌, ◌++◌, map, filter, inl, inr, refl, sym, ap, ◌∙◌, subst}
+use Rattle.std.proofs.Common.{Bool, true, false, if◌then◌else◌, List, [], ◌∷◌, map, filter, inl, inr, refl, subst}
 use Rattle.ew_model.specs.declared.event.Event.{Event}
-use Rattle.ew_model.specs.Limits.{LimitNumbers, AreLimits}
 use Rattle.ew_model.specs.Verdicts.{is_verdict_good}
 use Rattle.ew_model.specs.Arrival.{Answer, arrive}
 use Rattle.ew_model.proofs.AppendSteps.{arrivals_append}
-use Rattle.ew_outside.specs.Files.{Files}
 use Rattle.command_table.specs.MergeLaws.{MergesStore, IsPart, IsJoined, command_answer}
 use Rattle.command_table.specs.Table.{merge}
 use Rattle.command_table.proofs.MergedFiles.{opened_is, is_done, storable, opens_new}

@@ -1,5 +1,6 @@
 pub mod BothWays
 pub mod FileSizes
+pub mod Framings
 pub mod Joined
 pub mod MergedFiles
 pub mod Merges

@@ -29,7 +29,8 @@ use Rattle.ew_outside.specs.Files.{Files}
 use Rattle.history_words.specs.Tallies.{accepted_in, refused_in}
 use Rattle.command_table.specs.Loads.{too_long, whole, whole_of}
 use Rattle.command_table.specs.MergeLaws.{HoldsBytes}
-use Rattle.command_table.specs.Table.{Text, Reply, prints, stores, refuses, Opened, opened, Answer, answer_of, judged, read_as, opened_as, open_file, over_events, over_both, is_clash, is_graph_full, unless_clash, received_reply, outcome_text, merge_reply}
+use Rattle.peer_exchange.specs.Answering.{is_clash}
+use Rattle.command_table.specs.Table.{Text, Reply, prints, stores, refuses, Opened, opened, Answer, answer_of, judged, read_as, opened_as, open_file, over_events, over_both, is_graph_full, unless_clash, received_reply, outcome_text, merge_reply}
 use Rattle.command_table.specs.Text.{too_many_events}
 use Rattle.ew_model.proofs.MergeByAnswers.{merge_unless_clash}
 use Rattle.command_table.proofs.Merges.{none_ends, appended_none}

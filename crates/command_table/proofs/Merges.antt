@@ -14,7 +14,8 @@ use Rattle.ew_model.specs.Arrival.{Answer, arrive}
 use Rattle.ew_model.specs.MergeLaw.{is_taken}
 use Rattle.ew_model.proofs.AppendSteps.{arrivals_append}
 use Rattle.history_words.specs.Tallies.{refusal_in, is_repeat, accepted_in, repeats_in, refused_in}
-use Rattle.command_table.specs.Table.{is_clash, is_graph_full}
+use Rattle.peer_exchange.specs.Answering.{is_clash}
+use Rattle.command_table.specs.Table.{is_graph_full}
 use Rattle.ew_model.specs.MergeLaw.{is_clash_or_full, NoneClashes}
 
 -- ---- what the refusals tell

@@ -1,5 +1,5 @@
 -- Past versions, and what a replay comes to.
-use Rattle.std.proofs.Common.{◌≡◌, ℕ, ◌<◌, ◌^◌, length, arith, Bool, true, not, List, [], ◌∷◌, Option, None, inl, inr, refl, sym, ap, subst, ◌∙◌, encode_utf8_all}
+use Rattle.std.proofs.Common.{◌≡◌, ℕ, ◌<◌, ◌^◌, length, arith, Bool, true, not, List, [], ◌∷◌, None, inl, inr, refl, sym, ap, subst, ◌∙◌, encode_utf8_all}
 use Rattle.std.specs.List.{AllByRecursion, list_all}
 use Rattle.std.specs.Option.{option_map}
 use Rattle.std.proofs.lemmas.Bool.{and_from}

@@ -2,6 +2,7 @@
 use Rattle.std.specs.Prelude.{true, ℕ, List, Some, codes}
 use Rattle.clap.specs.Words.{App, Rule, new_app, new_rule, with_rule, with_subcommand}
 use Rattle.clap.specs.Simple.{on_top}
+use Rattle.clap.specs.declared.builder.value_parser.ValueParser.TheVariants.{Unsigned}
 
 -- a file's name, which has to be there
 abbrev pub file_rule : Rule
@@ -33,6 +34,21 @@ at_rule = record (new_rule (codes "at")) { long = Some (codes "at") }
 unfoldable pub cat_app : App
 cat_app = with_rule (with_rule (new_app (codes "cat")) file_rule) at_rule
 
+-- the greatest seed, and the most edits that are made
+abbrev pub most_seed : ℕ
+most_seed = 18446744073709551615
+
+abbrev pub most_made : ℕ
+most_made = 1000000
+
+-- a number up to another, which has to be given
+abbrev pub number_rule : List ℕ → ℕ → Rule
+number_rule name most = record (new_rule name) { long = Some name; parser = Some (Unsigned 0 most); required = true }
+
+-- the command that makes a history
+unfoldable pub make_app : App
+make_app = with_rule (with_rule (new_app (codes "make")) (number_rule (codes "seed") most_seed)) (number_rule (codes "count") most_made)
+
 -- the command without its subcommands
 abbrev pub bare_app : App
 bare_app = on_top (λ s. record s { no_binary_name = true; subcommand_required = true }) (new_app (codes "egw"))
@@ -43,5 +59,5 @@ then_app app more = with_subcommand app more.top
 
 unfoldable pub egw_app : App
 egw_app =
-    then_app (then_app (then_app (then_app (then_app (then_app (then_app (then_app (then_app bare_app
-    (file_app (codes "new"))) edit_app) cat_app) (file_app (codes "heads"))) (file_app (codes "log"))) (file_app (codes "replay"))) (file_app (codes "check"))) merge_app) (file_app (codes "ask"))
+    then_app (then_app (then_app (then_app (then_app (then_app (then_app (then_app (then_app (then_app (then_app bare_app
+    (file_app (codes "new"))) edit_app) cat_app) (file_app (codes "heads"))) (file_app (codes "log"))) (file_app (codes "replay"))) (file_app (codes "check"))) merge_app) (file_app (codes "ask"))) (file_app (codes "serve"))) make_app

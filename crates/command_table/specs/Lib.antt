@@ -1,6 +1,8 @@
 -- What a command line answers, and what a run is.
 pub mod Cli
+pub mod Framings
 pub mod Headline
+pub mod Lines
 pub mod Loads
 pub mod MergeLaws
 pub mod Outputs
@@ -9,6 +11,7 @@ pub mod Possible
 pub mod Reads
 pub mod Scripts
 pub mod Sequences
+pub mod Sessions
 pub mod Table
 pub mod Text
 pub mod VersionWords

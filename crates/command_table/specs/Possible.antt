@@ -1,10 +1,14 @@
 -- What a line may answer, over some bytes of each file and some input.
 use Rattle.std.specs.Prelude.{◌≡◌, ◌≤◌, ◌⊎◌, ℕ, List, length, Option, None, Some}
+use Rattle.ew_model.specs.FileLaws.{AreBytes}
 use Rattle.ew_model.specs.Limits.{LimitNumbers}
+use Rattle.generator.specs.Making.{made}
 use Rattle.command_table.specs.Loads.{File}
 use Rattle.command_table.specs.Scripts.{Reading, Means}
 use Rattle.command_table.specs.Text.{usage, input_too_long}
-use Rattle.command_table.specs.Table.{Text, Command, create, edit, show, merge, Reply, refuses, Opened, opened, refused, opened_as, create_reply, show_reply, merge_reply, over_events, over_both, script_reply}
+use Rattle.command_table.specs.Framings.{Framing, IsFramingOf}
+use Rattle.command_table.specs.Sessions.{Session, served_as}
+use Rattle.command_table.specs.Table.{Text, Command, create, edit, show, merge, make, Reply, refuses, Opened, opened, refused, opened_as, create_reply, show_reply, merge_reply, make_reply, over_events, over_both, script_reply}
 
 -- a file that some bytes are
 abbrev pub MayOpen : Text → LimitNumbers → Opened → Type 0
@@ -22,8 +26,14 @@ MayReplyTo (create name) limits reply = (file : File) × (reply ≡ create_reply
 MayReplyTo (edit name agent) limits reply = (file : File) × MayEdit name agent limits (opened_as name limits file) reply
 MayReplyTo (show listing name) limits reply = (file : File) × (reply ≡ over_events (show_reply listing) (opened_as name limits file))
 MayReplyTo (merge name other) limits reply = (file : File) × (second : File) × (reply ≡ over_both (merge_reply name limits) (opened_as name limits file) (opened_as other limits second))
+MayReplyTo (make seed count) limits reply = reply ≡ make_reply limits (made limits seed count)
 
 -- the replies of a line
 abbrev pub MayReply : Option Command → LimitNumbers → Reply → Type 0
 MayReply None limits reply = reply ≡ refuses 2 usage
 MayReply (Some command) limits reply = MayReplyTo command limits reply
+
+-- what a session may come to, over some bytes of its file, some input, and its frames
+abbrev pub MayServe : Text → LimitNumbers → Session → Type 0
+MayServe name limits s =
+    (file : File) × (input : List ℕ) × (f : Framing) × AreBytes input × IsFramingOf limits input f × (s ≡ served_as name limits input f (opened_as name limits file))

@@ -2,8 +2,8 @@
 use Rattle.std.specs.Prelude.{◌≡◌, ⊤, ℕ, List, [], ◌∷◌, Option, Some}
 use Rattle.ew_model.specs.Limits.{LimitNumbers}
 use Rattle.ew_outside.specs.Files.{Files}
-use Rattle.command_table.specs.Scripts.{Reading, Means}
-use Rattle.command_table.specs.Table.{Text, Answer, table}
+use Rattle.command_table.specs.Table.{Text, Answer, line_of}
+use Rattle.command_table.specs.Lines.{Meaning, IsMeant, table}
 use Rattle.command_table.specs.Headline.{Seen, IsRun, IsAnswered}
 
 -- a run: its words, what its objects told before and after, and its status
@@ -18,22 +18,22 @@ abbrev pub FollowOn : LimitNumbers → Option Files → List Ran → Type 0
 FollowOn limits files [] = ⊤
 FollowOn limits files (r ∷ rs) = (r.old.files ≡ files) × IsRun r.words limits r.old r.new r.status × FollowOn limits r.new.files rs
 
--- a command line: its words, its input, and what the input means
-pub record Line : Type 0 where
+-- a command line: its words, its input, and what the input means to it
+pub record CommandLine (limits : LimitNumbers) : Type 0 where
   pub words : List Text
   pub input : List ℕ
-  pub reading : Reading
-  pub means : Means input reading
+  pub meaning : Meaning (line_of words)
+  pub means : IsMeant limits (line_of words) input meaning
 
 -- the runs are of these command lines
-abbrev pub AreOf : List Line → List Ran → Type 0
+abbrev pub AreOf : {limits : LimitNumbers} → List (CommandLine limits) → List Ran → Type 0
 AreOf [] [] = ⊤
 AreOf (l ∷ ls) (r ∷ rs) = (r.words ≡ l.words) × (r.old.left ≡ Some l.input) × AreOf ls rs
 AreOf _ _ = ⊥
 
 -- what the table answers to a line
-abbrev pub line_answer : LimitNumbers → Files → Line → Answer
-line_answer limits files l = table l.words limits files l.input l.reading
+abbrev pub table_answer : (limits : LimitNumbers) → Files → CommandLine limits → Answer
+table_answer limits files l = table l.words limits files l.input l.meaning
 
 -- no run met a fault or want of memory
 abbrev pub NoneFails : List Ran → Type 0
@@ -46,19 +46,19 @@ files_at_end files [] = files
 files_at_end files (r ∷ rs) = files_at_end r.new.files rs
 
 -- the fold of the table
-abbrev pub table_files : LimitNumbers → Files → List Line → Files
+abbrev pub table_files : (limits : LimitNumbers) → Files → List (CommandLine limits) → Files
 table_files limits files [] = files
-table_files limits files (l ∷ ls) = table_files limits (line_answer limits files l).files ls
+table_files limits files (l ∷ ls) = table_files limits (table_answer limits files l).files ls
 
 -- each run did what the table says over the map so far
-abbrev pub AreAnswered : LimitNumbers → Files → List Line → List Ran → Type 0
+abbrev pub AreAnswered : (limits : LimitNumbers) → Files → List (CommandLine limits) → List Ran → Type 0
 AreAnswered limits files [] [] = ⊤
 AreAnswered limits files (l ∷ ls) (r ∷ rs) =
-    IsAnswered (line_answer limits files l) r.old r.new r.status × AreAnswered limits (line_answer limits files l).files ls rs
+    IsAnswered (table_answer limits files l) r.old r.new r.status × AreAnswered limits (table_answer limits files l).files ls rs
 AreAnswered limits files _ _ = ⊥
 
 -- The runs of a list of command lines leave the fold of the table, and each prints what the table says.
 abbrev pub RunsFold : Type 0
-RunsFold = (limits : LimitNumbers) (lines : List Line) (runs : List Ran) (files : Files)
+RunsFold = (limits : LimitNumbers) (lines : List (CommandLine limits)) (runs : List Ran) (files : Files)
     → FollowOn limits (Some files) runs → AreOf lines runs → NoneFails runs
     → (files_at_end (Some files) runs ≡ Some (table_files limits files lines)) × AreAnswered limits files lines runs

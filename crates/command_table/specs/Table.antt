@@ -3,7 +3,9 @@ use Rattle.std.specs.Prelude.{ℕ, ◌-◌, Bool, true, false, List, [], ◌∷�
 use Rattle.std.specs.List.{list_any}
 use Rattle.std.specs.Option.{option_map}
 use Rattle.std.specs.Str.{bytes_eq}
+use Rattle.std.specs.Str.Parse.{digits_value, without_leading_plus}
 use Rattle.std.specs.FinMap.{get, insert}
+use Rattle.clap.specs.ValueTests.{is_unsigned_in}
 use Rattle.clap.specs.Words.{Row, Kinds, first_of, fault_of, subcommand_of}
 use Rattle.ew_model.specs.declared.id.Id.{Id}
 use Rattle.ew_model.specs.declared.event.Event.{Event}
@@ -24,14 +26,17 @@ use Rattle.ew_outside.specs.Files.{Files}
 use Rattle.event_graph.specs.Summary.{summary_of}
 use Rattle.peer_frames.specs.declared.frame.Frame.TheVariants.{Have}
 use Rattle.peer_frames.specs.Spelling.{frame_bytes}
+use Rattle.peer_exchange.specs.Answering.{is_clash}
 use Rattle.history_words.specs.Listings.{check_text, heads_text, log_text}
 use Rattle.history_words.specs.Replays.{replay_text}
 use Rattle.history_words.specs.Tallies.{accepted_in, repeats_in, refused_in}
-use Rattle.command_table.specs.Cli.{egw_app}
+use Rattle.generator.specs.Making.{Made, made, printed}
+use Rattle.generator.specs.Making.Made.{Going, Stopped}
+use Rattle.command_table.specs.Cli.{egw_app, most_made, most_seed}
 use Rattle.command_table.specs.Loads.{File, missing, too_long, whole, whole_of}
 use Rattle.command_table.specs.VersionWords.{version_in}
 use Rattle.command_table.specs.Scripts.{Reading, script, bad_line, Edited, ran, stopped_at, edited_by}
-use Rattle.command_table.specs.Text.{bad_line as bad_line_text, line_out_of_range, too_many_heads, too_many_events, made_text, input_too_long, unknown, clash, received_text, usage, no_file, file_there, short_file, no_event_file, unknown_version, bad_digest, bad_field, bad_event, file_too_long, file_too_many}
+use Rattle.command_table.specs.Text.{bad_line as bad_line_text, line_out_of_range, out_of_range, too_many_heads, too_many_events, made_text, input_too_long, unknown, clash, received_text, usage, no_file, file_there, short_file, no_event_file, unknown_version, bad_digest, bad_field, bad_event, file_too_long, file_too_many}
 
 abbrev pub Text : Type 0
 Text = List ℕ
@@ -52,6 +57,12 @@ pub data Command : Type 0 where
   edit : (file agent : Text) → Command
   show : (listing : Listing) (file : Text) → Command
   merge : (file other : Text) → Command
+  make : (seed count : ℕ) → Command
+
+-- a line that is taken: a command, or a session with a peer who is served with a file
+pub data Line : Type 0 where
+  does : (command : Command) → Line
+  serves : (file : Text) → Line
 
 abbrev pub file_line : (Text → Command) → List Row → Option Command
 file_line command rows = option_map command (first_of (codes "file") rows)
@@ -76,26 +87,42 @@ abbrev pub merge_line : List Row → Option Command
 merge_line rows =
     option_and_then (λ file. option_map (merge file) (first_of (codes "other") rows)) (first_of (codes "file") rows)
 
+-- the number up to another that a word spells
+abbrev pub number_up_to : ℕ → Text → Option ℕ
+number_up_to most word = if is_unsigned_in 0 most word then Some (digits_value 10 (without_leading_plus word)) else None
+
+abbrev pub make_line : List Row → Option Command
+make_line rows =
+    option_and_then
+    (λ seed. option_map (make seed) (option_and_then (number_up_to most_made) (first_of (codes "count") rows)))
+    (option_and_then (number_up_to most_seed) (first_of (codes "seed") rows))
+
 -- the command of a subcommand and its values
-abbrev pub line_in : Option (Text × List Row) → Option Command
+abbrev pub command_in : Text → List Row → Option Command
+command_in name rows =
+    if bytes_eq name (codes "new") then file_line create rows
+    else (if bytes_eq name (codes "edit") then edit_line rows
+    else (if bytes_eq name (codes "cat") then cat_line rows
+    else (if bytes_eq name (codes "heads") then file_line (show head_ids) rows
+    else (if bytes_eq name (codes "log") then file_line (show log) rows
+    else (if bytes_eq name (codes "replay") then file_line (show replay) rows
+    else (if bytes_eq name (codes "check") then file_line (show numbers) rows
+    else (if bytes_eq name (codes "merge") then merge_line rows
+    else (if bytes_eq name (codes "ask") then file_line (show question) rows
+    else (if bytes_eq name (codes "make") then make_line rows else None)))))))))
+
+-- the line of what `clap` finds in the words
+abbrev pub line_in : Option (Text × List Row) → Option Line
 line_in None = None
 line_in (Some p) =
-    if bytes_eq p.0 (codes "new") then file_line create p.1
-    else (if bytes_eq p.0 (codes "edit") then edit_line p.1
-    else (if bytes_eq p.0 (codes "cat") then cat_line p.1
-    else (if bytes_eq p.0 (codes "heads") then file_line (show head_ids) p.1
-    else (if bytes_eq p.0 (codes "log") then file_line (show log) p.1
-    else (if bytes_eq p.0 (codes "replay") then file_line (show replay) p.1
-    else (if bytes_eq p.0 (codes "check") then file_line (show numbers) p.1
-    else (if bytes_eq p.0 (codes "merge") then merge_line p.1
-    else (if bytes_eq p.0 (codes "ask") then file_line (show question) p.1 else None))))))))
+    if bytes_eq p.0 (codes "serve") then option_map serves (first_of (codes "file") p.1) else option_map does (command_in p.0 p.1)
 
-abbrev pub where_none : Kinds → Option Command → Option Command
+abbrev pub where_none : Kinds → Option Line → Option Line
 where_none [] l = l
 where_none (k ∷ ks) l = None
 
 -- the words are taken exactly where `clap` has no fault of them, the agent is a name and the version is in its grammar
-unfoldable pub line_of : List Text → Option Command
+unfoldable pub line_of : List Text → Option Line
 line_of words = where_none (fault_of egw_app words) (line_in (subcommand_of egw_app words))
 
 -- what a command does at last
@@ -190,11 +217,6 @@ input_reply name agent limits input reading events =
     if nat_lt limits.input (length input) then refuses 7 (input_too_long limits.input)
     else script_reply name agent limits events reading
 
--- another event has the id
-abbrev pub is_clash : Refusal → Bool
-is_clash why.Clash = true
-is_clash refusal = false
-
 -- the history holds as many events as it may
 abbrev pub is_graph_full : Refusal → Bool
 is_graph_full why.GraphFull = true
@@ -231,12 +253,24 @@ merge_reply name limits events others = outcome_reply name limits (length events
 abbrev pub over_both : (List Event → List Event → Reply) → Opened → Opened → Reply
 over_both reply file other = over_events (λ events. over_events (reply events) other) file
 
+-- why the making of a history stopped
+abbrev pub stop_reply : LimitNumbers → EditRefusal → Reply
+stop_reply limits (OutOfRange len) = refuses 5 (out_of_range len)
+stop_reply limits (TooManyHeads heads) = refuses 7 (too_many_heads heads)
+stop_reply limits (Full count) = refuses 7 (too_many_events limits.events)
+
+-- a history that was made is told of
+abbrev pub make_reply : LimitNumbers → Made → Reply
+make_reply limits (Going m) = prints (printed m.peers)
+make_reply limits (Stopped why) = stop_reply limits why
+
 -- what a command does over files and an input, and what the input means
 abbrev pub reply_to : Command → LimitNumbers → Files → List ℕ → Reading → Reply
 reply_to (create name) limits files input reading = create_reply name (whole_of 0 (get files name))
 reply_to (edit name agent) limits files input reading = over_events (input_reply name agent limits input reading) (open_file name limits files)
 reply_to (show listing name) limits files input reading = over_events (show_reply listing) (open_file name limits files)
 reply_to (merge name other) limits files input reading = over_both (merge_reply name limits) (open_file name limits files) (open_file other limits files)
+reply_to (make seed count) limits files input reading = make_reply limits (made limits seed count)
 
 -- the commands that read the input
 abbrev pub reads_input : Option Command → Bool
@@ -244,6 +278,7 @@ reads_input (Some (create name)) = false
 reads_input (Some (edit name agent)) = true
 reads_input (Some (show listing name)) = false
 reads_input (Some (merge name other)) = false
+reads_input (Some (make seed count)) = false
 reads_input None = false
 
 -- the commands whose status 3 says that a file is missing
@@ -252,6 +287,7 @@ needs_file (Some (create name)) = false
 needs_file (Some (edit name agent)) = true
 needs_file (Some (show listing name)) = true
 needs_file (Some (merge name other)) = true
+needs_file (Some (make seed count)) = false
 needs_file None = false
 
 -- what a run answers: its status, what it prints, what it says on the error output, and the files after it
@@ -266,11 +302,7 @@ answer_of (prints out) files = record { status = 0; out = out; err = []; files =
 answer_of (stores out name bytes) files = record { status = 0; out = out; err = []; files = insert files name bytes }
 answer_of (refuses status text) files = record { status = status; out = []; err = text; files = files }
 
--- what a line does, which may not be taken
+-- what a command does, or a line that isn't taken
 abbrev pub reply_of : Option Command → LimitNumbers → Files → List ℕ → Reading → Reply
 reply_of None limits files input reading = refuses 2 usage
 reply_of (Some command) limits files input reading = reply_to command limits files input reading
-
--- the table: what words answer, over files and an input, and what the input means
-abbrev pub table : List Text → LimitNumbers → Files → List ℕ → Reading → Answer
-table words limits files input reading = answer_of (reply_of (line_of words) limits files input reading) files

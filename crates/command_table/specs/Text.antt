@@ -83,11 +83,28 @@ bad_line line = codes "egw: line " ++ (decimal line ++ codes ": unreadable\n")
 abbrev pub line_out_of_range : ℕ → ℕ → List ℕ
 line_out_of_range line len = codes "egw: line " ++ (decimal line ++ (codes ": out of range, length " ++ (decimal len ++ codes "\n")))
 
+-- the same of an edit that stands in no line
+abbrev pub out_of_range : ℕ → List ℕ
+out_of_range len = codes "egw: out of range, length " ++ (decimal len ++ codes "\n")
+
 abbrev pub too_many_events : ℕ → List ℕ
 too_many_events most = codes "egw: more than " ++ (decimal most ++ codes " events\n")
 
 abbrev pub too_many_heads : ℕ → List ℕ
 too_many_heads heads = codes "egw: " ++ (decimal heads ++ codes " heads, more than 16\n")
+
+-- what is wrong with a frame of the input, by its number
+abbrev pub frame_cut : ℕ → List ℕ
+frame_cut number = codes "egw: frame " ++ (decimal number ++ codes ": cut\n")
+
+abbrev pub bad_kind : ℕ → ℕ → List ℕ
+bad_kind number kind = codes "egw: frame " ++ (decimal number ++ (codes ": bad kind " ++ (decimal kind ++ codes "\n")))
+
+abbrev pub frame_too_long : ℕ → ℕ → List ℕ
+frame_too_long number len = codes "egw: frame " ++ (decimal number ++ (codes ": too long, " ++ (decimal len ++ codes "\n")))
+
+abbrev pub bad_body : ℕ → List ℕ
+bad_body number = codes "egw: frame " ++ (decimal number ++ codes ": bad body\n")
 
 -- how many events an edit made
 abbrev pub made_text : ℕ → List ℕ

@@ -1,4 +1,5 @@
 //! What holds of every list of runs, of merges, and of past versions and replays.
+ghost use Rattle.command_table.specs.Framings.{FramingsAreCuts, FramingsAreFound, FramingsAreOne};
 ghost use Rattle.command_table.specs.MergeLaws.{MergesAgree, MergesHoldSame, MergesStore, MergesTakeAll};
 ghost use Rattle.command_table.specs.PastLaws.{HeadsAreAVersion, HeadsShowAll, ReplaysMakeContent, VersionsAreTaken};
 ghost use Rattle.command_table.specs.Sequences.{RunsFold};
@@ -48,4 +49,19 @@ pub fn law_heads_version()
 /// What `replay` prints is read in one way, as operations, and doing these in order, from the empty text on, makes what `cat` prints.
 pub fn law_replays()
     ensures { ReplaysMakeContent }
+{}
+
+/// Each input of a session has a framing.
+pub fn law_framings_found()
+    ensures { FramingsAreFound }
+{}
+
+/// No input of a session has two framings.
+pub fn law_framings_one()
+    ensures { FramingsAreOne }
+{}
+
+/// The frames of a framing are those that the input, up to the limit, is cut into.
+pub fn law_framings_cuts()
+    ensures { FramingsAreCuts }
 {}

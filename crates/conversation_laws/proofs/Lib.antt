@@ -1,0 +1,5 @@
+mod GoodBehind
+mod Received
+mod Spoken
+mod Brought
+mod Alike
