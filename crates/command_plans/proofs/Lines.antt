@@ -1,5 +1,5 @@
 -- From the plan of a command to the plan of its line.
-use Rattle.std.proofs.Common.{◌≡◌, ℕ, List, [], ◌∷◌, Option, Some, None, Result, Ok, Err, IfOk, IfSome}
+use Rattle.std.proofs.Common.{◌≡◌, ℕ, List, [], ◌∷◌, Option, Some, None, Result, Ok, Err, IfErr, IfOk, IfSome, refl, sym, subst}
 use Rattle.ew_model.specs.Limits.{LimitNumbers}
 use Rattle.ew_outside.specs.Counts.{next}
 use Rattle.ew_outside.specs.Files.{Files}
@@ -10,7 +10,7 @@ use Rattle.command_table.specs.Table.{Text, Command, Reply}
 use Rattle.opened_files.specs.declared.reply.Plan.{Plan}
 use Rattle.opened_files.specs.declared.reply.Stop.{Stop}
 use Rattle.opened_files.specs.declared.reply.Stop.TheVariants.{ShelfFailed, SourceFailed, OutOfMemory}
-use Rattle.opened_files.specs.Views.{ShelfCauses, plan_view}
+use Rattle.opened_files.specs.Views.{LostBy, ShelfCauses, plan_view}
 use Rattle.edit_plans.specs.Sources.{Causes, PlansBy}
 use Rattle.merge_plans.specs.Merging.{LoadsAll}
 use Rattle.command_plans.specs.Lines.{MayPlan, PlansAlone}
@@ -50,3 +50,28 @@ pub loads_one : (name : Text) (files : Option Files) (before now : ℕ) (result 
 loads_one name (Some m) before now (Ok p) one = one
 loads_one name files before now (Err e) one = tt
 loads_one name None before now (Ok p) one = tt
+
+-- ---- a line that loads no file
+
+pub plans_any : (reply : Reply) (files : Option Files) (result : Result Plan Stop) → IfOk result (λ p. plan_view p ≡ reply) → PlansAlone (λ m _ _. reply) files result
+plans_any reply (Some m) (Ok p) is = λ input reading. is
+plans_any reply (Some m) (Err e) is = tt
+plans_any reply None (Ok p) is = tt
+plans_any reply None (Err e) is = tt
+
+-- what stops for want of memory alone moves no count of the shelf
+pub no_causes : (n : ℕ) (result : Result Plan Stop) → IfErr result (λ stop. stop ≡ OutOfMemory) → ShelfCauses n n result
+no_causes n (Ok p) h = refl
+no_causes n (Err e) h = subst (λ stop. ShelfCauses {T = Plan} n n (Err stop)) (sym h) refl
+
+pub none_lost : (n : ℕ) (result : Result Plan Stop) → IfErr result (λ stop. stop ≡ OutOfMemory) → LostBy n n result
+none_lost n (Ok p) h = refl
+none_lost n (Err e) h = subst (λ stop. LostBy {T = Plan} n n (Err stop)) (sym h) refl
+
+pub no_front : (n : ℕ) → LoadsFront [] n n
+no_front n = (0, refl)
+
+pub loads_none : (files : Option Files) (n : ℕ) (result : Result Plan Stop) → LoadsAll (λ m. []) files n n result
+loads_none (Some m) n (Ok p) = refl
+loads_none files n (Err e) = tt
+loads_none None n (Ok p) = tt

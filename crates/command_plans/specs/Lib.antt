@@ -1,3 +1,4 @@
 -- What a command line plans.
 pub mod Lines
 pub mod Listings
+pub mod Making

@@ -2,4 +2,5 @@
 #![tactic(auto)]
 
 mod commands;
+mod making;
 pub mod plan;

@@ -4,14 +4,15 @@ ghost use Rattle.std.specs.Option.{option_map};
 ghost use Rattle.ew_model.specs.Names.{is_name};
 ghost use Rattle.command_table.specs.Reads.{IfEditRefused, LeavesInput, LoadsFront, TakesAtMost, files_of, loads_of};
 ghost use Rattle.command_table.specs.Table.{needs_file, reads_input, reply_of, reply_to};
-ghost use Rattle.opened_files.specs.Touches.{TouchesAtMost, line_touches};
+ghost use Rattle.opened_files.specs.Touches.{TouchesAtMost, command_touches};
 ghost use Rattle.opened_files.specs.Views.{IsCommandPlan, LostBy, ShelfCauses};
 ghost use Rattle.edit_plans.specs.Sources.{Causes, KeepsInput, PlansBy};
 ghost use Rattle.merge_plans.specs.Merging.{LoadsAll};
 ghost use Rattle.command_plans.specs.Lines.{MayPlan, MissesFor, PlansAlone, PlansLine, ReadsFor};
-ghost use Rattle.command_words.specs.Words.{IsNamed, line_view};
+ghost use Rattle.command_words.specs.Words.{IsNamed, command_view};
 
 use crate::commands::{create, show};
+use crate::making::make_history;
 use command_texts::texts::usage_text;
 use command_words::words::Taken;
 use edit_plans::edit::edit;
@@ -33,23 +34,23 @@ pub fn make_plan<'a, H: Shelf, S: Source, L: Ledger>(
     input: &mut S,
     steps: &mut Steps<L>,
 ) -> Result<Plan<'a>, Stop>
-    requires { IsNamed (option_map line_view line) }
-    ensures told { PlansBy (reply_of (option_map line_view line.entry) limits.now) (H.files shelf.old) (S.left input.old) result }
-    ensures some { MayPlan (option_map line_view line.entry) limits.now result }
-    ensures line { PlansLine (option_map line_view line.entry) result }
+    requires { IsNamed (option_map command_view line) }
+    ensures told { PlansBy (reply_of (option_map command_view line.entry) limits.now) (H.files shelf.old) (S.left input.old) result }
+    ensures some { MayPlan (option_map command_view line.entry) limits.now result }
+    ensures line { PlansLine (option_map command_view line.entry) result }
     ensures same { H.files shelf.new ≡ H.files shelf.old }
-    ensures read { ReadsFor (reads_input (option_map line_view line.entry)) (S.left input.old) (S.left input.new) result }
-    ensures quiet { reads_input (option_map line_view line.entry) ≡ false → S.faults input.new ≡ S.faults input.old }
+    ensures read { ReadsFor (reads_input (option_map command_view line.entry)) (S.left input.old) (S.left input.new) result }
+    ensures quiet { reads_input (option_map command_view line.entry) ≡ false → S.faults input.new ≡ S.faults input.old }
     ensures cause { Causes (H.faults shelf.old) (H.faults shelf.new) (S.faults input.old) (S.faults input.new) result }
-    ensures misses { MissesFor (needs_file (option_map line_view line.entry)) (H.misses shelf.old) (H.misses shelf.new) result }
-    ensures alone { reads_input (option_map line_view line.entry) ≡ false → PlansAlone (reply_of (option_map line_view line.entry) limits.now) (H.files shelf.old) result }
+    ensures misses { MissesFor (needs_file (option_map command_view line.entry)) (H.misses shelf.old) (H.misses shelf.new) result }
+    ensures alone { reads_input (option_map command_view line.entry) ≡ false → PlansAlone (reply_of (option_map command_view line.entry) limits.now) (H.files shelf.old) result }
     ensures few { TakesAtMost (limits.now.input + 1) (S.left input.old) (S.left input.new) }
     ensures kept { KeepsInput (S.left input.old) (S.left input.new) result }
-    ensures untouched { IfSome (H.files shelf.old) (λ m. IfEditRefused (option_map line_view line.entry) limits.now m (LeavesInput (S.left input.old) (S.left input.new) (S.faults input.old) (S.faults input.new))) }
-    ensures front { LoadsFront (files_of (option_map line_view line.entry)) (H.loads shelf.old) (H.loads shelf.new) }
-    ensures loads { LoadsAll (loads_of (option_map line_view line.entry) limits.now) (H.files shelf.old) (H.loads shelf.old) (H.loads shelf.new) result }
+    ensures untouched { IfSome (H.files shelf.old) (λ m. IfEditRefused (option_map command_view line.entry) limits.now m (LeavesInput (S.left input.old) (S.left input.new) (S.faults input.old) (S.faults input.new))) }
+    ensures front { LoadsFront (files_of (option_map command_view line.entry)) (H.loads shelf.old) (H.loads shelf.new) }
+    ensures loads { LoadsAll (loads_of (option_map command_view line.entry) limits.now) (H.files shelf.old) (H.loads shelf.old) (H.loads shelf.new) result }
     ensures lost { LostBy (H.lost shelf.old) (H.lost shelf.new) result }
-    ensures most { TouchesAtMost (line_touches (option_map line_view line.entry) limits.now) (H.files shelf.old) steps.old steps.new }
+    ensures most { TouchesAtMost (command_touches (option_map command_view line.entry) limits.now) (H.files shelf.old) steps.old steps.new }
 {
     match line {
         None => Ok(Plan::Refuses {
@@ -69,23 +70,23 @@ fn plan_taken<'a, H: Shelf, S: Source, L: Ledger>(
     input: &mut S,
     steps: &mut Steps<L>,
 ) -> Result<Plan<'a>, Stop>
-    requires { IsNamed (Some (line_view line)) }
-    ensures told { PlansBy (reply_to (line_view line.entry) limits.now) (H.files shelf.old) (S.left input.old) result }
-    ensures some { MayPlan (Some (line_view line.entry)) limits.now result }
+    requires { IsNamed (Some (command_view line)) }
+    ensures told { PlansBy (reply_to (command_view line.entry) limits.now) (H.files shelf.old) (S.left input.old) result }
+    ensures some { MayPlan (Some (command_view line.entry)) limits.now result }
     ensures plan { IfOk result IsCommandPlan }
     ensures same { H.files shelf.new ≡ H.files shelf.old }
-    ensures read { ReadsFor (reads_input (Some (line_view line.entry))) (S.left input.old) (S.left input.new) result }
-    ensures quiet { reads_input (Some (line_view line.entry)) ≡ false → S.faults input.new ≡ S.faults input.old }
+    ensures read { ReadsFor (reads_input (Some (command_view line.entry))) (S.left input.old) (S.left input.new) result }
+    ensures quiet { reads_input (Some (command_view line.entry)) ≡ false → S.faults input.new ≡ S.faults input.old }
     ensures cause { Causes (H.faults shelf.old) (H.faults shelf.new) (S.faults input.old) (S.faults input.new) result }
-    ensures misses { MissesFor (needs_file (Some (line_view line.entry))) (H.misses shelf.old) (H.misses shelf.new) result }
-    ensures alone { reads_input (Some (line_view line.entry)) ≡ false → PlansAlone (reply_to (line_view line.entry) limits.now) (H.files shelf.old) result }
+    ensures misses { MissesFor (needs_file (Some (command_view line.entry))) (H.misses shelf.old) (H.misses shelf.new) result }
+    ensures alone { reads_input (Some (command_view line.entry)) ≡ false → PlansAlone (reply_to (command_view line.entry) limits.now) (H.files shelf.old) result }
     ensures few { TakesAtMost (limits.now.input + 1) (S.left input.old) (S.left input.new) }
     ensures kept { KeepsInput (S.left input.old) (S.left input.new) result }
-    ensures untouched { IfSome (H.files shelf.old) (λ m. IfEditRefused (Some (line_view line.entry)) limits.now m (LeavesInput (S.left input.old) (S.left input.new) (S.faults input.old) (S.faults input.new))) }
-    ensures front { LoadsFront (files_of (Some (line_view line.entry))) (H.loads shelf.old) (H.loads shelf.new) }
-    ensures loads { LoadsAll (loads_of (Some (line_view line.entry)) limits.now) (H.files shelf.old) (H.loads shelf.old) (H.loads shelf.new) result }
+    ensures untouched { IfSome (H.files shelf.old) (λ m. IfEditRefused (Some (command_view line.entry)) limits.now m (LeavesInput (S.left input.old) (S.left input.new) (S.faults input.old) (S.faults input.new))) }
+    ensures front { LoadsFront (files_of (Some (command_view line.entry))) (H.loads shelf.old) (H.loads shelf.new) }
+    ensures loads { LoadsAll (loads_of (Some (command_view line.entry)) limits.now) (H.files shelf.old) (H.loads shelf.old) (H.loads shelf.new) result }
     ensures lost { LostBy (H.lost shelf.old) (H.lost shelf.new) result }
-    ensures most { TouchesAtMost (line_touches (Some (line_view line.entry)) limits.now) (H.files shelf.old) steps.old steps.new }
+    ensures most { TouchesAtMost (command_touches (Some (command_view line.entry)) limits.now) (H.files shelf.old) steps.old steps.new }
 {
     match line {
         Taken::Edit { file, agent } => edit(
@@ -109,22 +110,23 @@ fn plan_unread<'a, H: Shelf, L: Ledger>(
     shelf: &mut H,
     steps: &mut Steps<L>,
 ) -> Result<Plan<'a>, Stop>
-    requires { reads_input (Some (line_view line)) ≡ false }
-    ensures told { PlansAlone (reply_to (line_view line.entry) limits.now) (H.files shelf.old) result }
-    ensures some { MayPlan (Some (line_view line.entry)) limits.now result }
+    requires { reads_input (Some (command_view line)) ≡ false }
+    ensures told { PlansAlone (reply_to (command_view line.entry) limits.now) (H.files shelf.old) result }
+    ensures some { MayPlan (Some (command_view line.entry)) limits.now result }
     ensures plan { IfOk result IsCommandPlan }
     ensures same { H.files shelf.new ≡ H.files shelf.old }
     ensures cause { ShelfCauses (H.faults shelf.old) (H.faults shelf.new) result }
-    ensures misses { MissesFor (needs_file (Some (line_view line.entry))) (H.misses shelf.old) (H.misses shelf.new) result }
-    ensures front { LoadsFront (files_of (Some (line_view line.entry))) (H.loads shelf.old) (H.loads shelf.new) }
-    ensures loads { LoadsAll (loads_of (Some (line_view line.entry)) limits.now) (H.files shelf.old) (H.loads shelf.old) (H.loads shelf.new) result }
+    ensures misses { MissesFor (needs_file (Some (command_view line.entry))) (H.misses shelf.old) (H.misses shelf.new) result }
+    ensures front { LoadsFront (files_of (Some (command_view line.entry))) (H.loads shelf.old) (H.loads shelf.new) }
+    ensures loads { LoadsAll (loads_of (Some (command_view line.entry)) limits.now) (H.files shelf.old) (H.loads shelf.old) (H.loads shelf.new) result }
     ensures lost { LostBy (H.lost shelf.old) (H.lost shelf.new) result }
-    ensures most { TouchesAtMost (line_touches (Some (line_view line.entry)) limits.now) (H.files shelf.old) steps.old steps.new }
+    ensures most { TouchesAtMost (command_touches (Some (command_view line.entry)) limits.now) (H.files shelf.old) steps.old steps.new }
 {
     match line {
         Taken::New(name) => create(alloc, name, shelf),
         Taken::Show { listing, file } => show(alloc, listing, file, limits, shelf, steps),
         Taken::Merge { file, other } => merge(alloc, file, other, limits, shelf, steps),
+        Taken::Make { seed, count } => make_history(alloc, limits, seed, count, steps),
         Taken::Edit { .. } => unreachable!(),
     }
 }

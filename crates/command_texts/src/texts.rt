@@ -5,7 +5,7 @@ ghost use Rattle.ew_model.specs.Answers.{ruling_of};
 ghost use Rattle.ew_model.specs.Scripts.{id_text};
 ghost use Rattle.event_file.specs.Faults.{kind_of};
 ghost use Rattle.command_texts.specs.Told.{took_text};
-ghost use Rattle.command_table.specs.Text.{bad_digest, bad_event, bad_field, bad_line, clash, line_out_of_range, too_many_events, too_many_heads, field_words, file_there, file_too_long, file_too_many, input_too_long, no_event_file, no_file, short_file, unknown, unknown_version, usage, verdict_words};
+ghost use Rattle.command_table.specs.Text.{bad_body, bad_digest, bad_event, bad_field, bad_kind, bad_line, clash, line_out_of_range, out_of_range, too_many_events, too_many_heads, field_words, file_there, frame_cut, frame_too_long, file_too_long, file_too_many, input_too_long, no_event_file, no_file, short_file, unknown, unknown_version, usage, verdict_words};
 
 use event_file::RecordFault;
 use event_words::print::print_id;
@@ -185,6 +185,14 @@ pub fn line_out_of_range_text(alloc: Global, line: u32, len: u32) -> Result<Vec<
     Ok(text.into_bytes())
 }
 
+/// The same of an edit that stands in no line.
+pub fn out_of_range_text(alloc: Global, len: u32) -> Result<Vec<u8>, AllocError>
+    ensures { IfOk result (λ t. t.items ≡ out_of_range len) }
+{
+    let text = format!(in alloc; "egw: out of range, length {len}\n")?;
+    Ok(text.into_bytes())
+}
+
 /// That there would be more than `most` events.
 pub fn too_many_events_text(alloc: Global, most: u32) -> Result<Vec<u8>, AllocError>
     ensures { IfOk result (λ t. t.items ≡ too_many_events most) }
@@ -198,6 +206,38 @@ pub fn too_many_heads_text(alloc: Global, heads: u32) -> Result<Vec<u8>, AllocEr
     ensures { IfOk result (λ t. t.items ≡ too_many_heads heads) }
 {
     let text = format!(in alloc; "egw: {heads} heads, more than 16\n")?;
+    Ok(text.into_bytes())
+}
+
+/// That the input ends within the frame of this number, counted from 1.
+pub fn frame_cut_text(alloc: Global, number: u32) -> Result<Vec<u8>, AllocError>
+    ensures { IfOk result (λ t. t.items ≡ frame_cut number) }
+{
+    let text = format!(in alloc; "egw: frame {number}: cut\n")?;
+    Ok(text.into_bytes())
+}
+
+/// That the first byte of a frame, by its number, is no kind of frame.
+pub fn bad_kind_text(alloc: Global, number: u32, kind: u8) -> Result<Vec<u8>, AllocError>
+    ensures { IfOk result (λ t. t.items ≡ bad_kind number kind) }
+{
+    let text = format!(in alloc; "egw: frame {number}: bad kind {kind}\n")?;
+    Ok(text.into_bytes())
+}
+
+/// That the body of a frame, by its number, has this many bytes, which are too many.
+pub fn frame_too_long_text(alloc: Global, number: u32, len: u32) -> Result<Vec<u8>, AllocError>
+    ensures { IfOk result (λ t. t.items ≡ frame_too_long number len) }
+{
+    let text = format!(in alloc; "egw: frame {number}: too long, {len}\n")?;
+    Ok(text.into_bytes())
+}
+
+/// That the body of a frame, by its number, is none of its kind.
+pub fn bad_body_text(alloc: Global, number: u32) -> Result<Vec<u8>, AllocError>
+    ensures { IfOk result (λ t. t.items ≡ bad_body number) }
+{
+    let text = format!(in alloc; "egw: frame {number}: bad body\n")?;
     Ok(text.into_bytes())
 }
 

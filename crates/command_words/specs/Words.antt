@@ -1,9 +1,10 @@
 -- What the words of a command line were read as.
 use Rattle.std.specs.Prelude.{◌≡◌, ⊤, true, Option, Some}
 use Rattle.ew_model.specs.Names.{is_name}
-use Rattle.command_table.specs.Table.{Listing, content, past, head_ids, log, replay, numbers, question, Command, create, edit, show, merge}
+use Rattle.command_table.specs.Table.{Listing, content, past, head_ids, log, replay, numbers, question, Command, create, edit, show, merge, make, Line, does, serves}
 use Rattle.command_words.specs.declared.words as words
 use Rattle.command_words.specs.declared.words.Listing.TheVariants as shown
+use Rattle.command_words.specs.declared.words.Line.TheVariants as line
 use Rattle.command_words.specs.declared.words.Taken.{Taken}
 use Rattle.command_words.specs.declared.words.Taken.TheVariants as taken
 
@@ -18,13 +19,22 @@ listing_view shown.Numbers = numbers
 listing_view shown.Question = question
 
 -- the command that the words were read as
-abbrev pub line_view : Taken → Command
-line_view (taken.New name) = create name.now
-line_view (taken.Edit name agent) = edit name.now agent.now
-line_view (taken.Show listing name) = show (listing_view listing) name.now
-line_view (taken.Merge name other) = merge name.now other.now
+abbrev pub command_view : Taken → Command
+command_view (taken.New name) = create name.now
+command_view (taken.Edit name agent) = edit name.now agent.now
+command_view (taken.Show listing name) = show (listing_view listing) name.now
+command_view (taken.Merge name other) = merge name.now other.now
+command_view (taken.Make seed count) = make seed count
+
+abbrev pub line_view : words.Line.Line → Line
+line_view (line.Does command) = does (command_view command)
+line_view (line.Serves name) = serves name.now
 
 -- the agent of an edit is a name
 abbrev pub IsNamed : Option Command → Type 0
 IsNamed (Some (edit name agent)) = is_name agent ≡ true
 IsNamed _ = ⊤
+
+abbrev pub IsNamedLine : Option Line → Type 0
+IsNamedLine (Some (does command)) = IsNamed (Some command)
+IsNamedLine _ = ⊤

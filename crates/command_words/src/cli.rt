@@ -1,10 +1,11 @@
 //! The command line as `clap` builds it.
 ghost use Rattle.std.specs.Prelude.{◌≡◌, false, IfOk};
-ghost use Rattle.clap.specs.Words.{app_of};
+ghost use Rattle.clap.specs.Words.{app_of, rule_of};
 ghost use Rattle.clap.specs.declared.builder.command.Command.TheViews.{out-Command};
-ghost use Rattle.command_table.specs.Cli.{bare_app, cat_app, edit_app, egw_app, file_app, merge_app, then_app};
+ghost use Rattle.command_table.specs.Cli.{bare_app, cat_app, edit_app, egw_app, file_app, make_app, merge_app, number_rule, then_app};
 ghost use Rattle.command_words.specs.Apps.{with_shows_app};
 
+use clap::builder::ValueParser;
 use clap::{Arg, Command};
 use std::alloc::{AllocError, Global};
 
@@ -44,6 +45,33 @@ fn merge_command<'a>(alloc: Global) -> Result<Command<'a>, AllocError>
     let file = Arg::new(alloc, "file").required(true);
     let other = Arg::new(alloc, "other").required(true);
     Command::new(alloc, "merge").arg(file)?.arg(other)
+}
+
+/// The greatest seed of a history that is made.
+pub const MOST_SEED: u64 = u64::MAX;
+
+/// The greatest number of edits that are made.
+pub const MOST_MADE: u64 = 1_000_000;
+
+/// A number up to another that has to be given.
+fn number_arg<'a>(alloc: Global, name: &'static str, most: u64) -> Arg<'a>
+    ensures rule { rule_of result ≡ number_rule name.now most }
+    ensures local { result.global ≡ false }
+{
+    Arg::new(alloc, name)
+        .long(name)
+        .value_parser(ValueParser::unsigned(0, most))
+        .required(true)
+}
+
+/// The command that makes a history.
+fn make_command<'a>(alloc: Global) -> Result<Command<'a>, AllocError>
+    ensures app { IfOk result (λ c. app_of c ≡ make_app) }
+    ensures local { IfOk result (λ c. (out-Command c).has_globals ≡ false) }
+{
+    let seed = number_arg(alloc, "seed", MOST_SEED);
+    let count = number_arg(alloc, "count", MOST_MADE);
+    Command::new(alloc, "make").arg(seed)?.arg(count)
 }
 
 /// The command without its subcommands.
@@ -101,6 +129,14 @@ fn with_merge<'a>(alloc: Global, command: Command<'a>) -> Result<Command<'a>, Al
     command.subcommand(merge)
 }
 
+/// Adds the command that makes a history.
+fn with_make<'a>(alloc: Global, command: Command<'a>) -> Result<Command<'a>, AllocError>
+    ensures { IfOk result (λ c. app_of c ≡ then_app (app_of command.entry) make_app) }
+{
+    let make = make_command(alloc)?;
+    command.subcommand(make)
+}
+
 /// The whole command.
 pub fn egw_command<'a>(alloc: Global) -> Result<Command<'a>, AllocError>
     ensures { IfOk result (λ c. app_of c ≡ egw_app) }
@@ -110,5 +146,7 @@ pub fn egw_command<'a>(alloc: Global) -> Result<Command<'a>, AllocError>
     let command = with_cat(alloc, command)?;
     let command = with_shows(alloc, command)?;
     let command = with_merge(alloc, command)?;
-    with_file_command(alloc, command, "ask")
+    let command = with_file_command(alloc, command, "ask")?;
+    let command = with_file_command(alloc, command, "serve")?;
+    with_make(alloc, command)
 }

@@ -1,12 +1,12 @@
 //! The words of a command line.
-ghost use Rattle.std.specs.Prelude.{◌≡◌, IfOk, map, string_bytes};
+ghost use Rattle.std.specs.Prelude.{◌≡◌, ◌≤◌, IfOk, IfSome, codes, map, string_bytes};
 ghost use Rattle.std.specs.Option.{option_map};
 ghost use Rattle.clap.specs.Words.{first_of, found_of, rows_of, subcommand_rows_of};
-ghost use Rattle.command_table.specs.Table.{cat_line, create, edit_line, file_line, line_in, line_of, merge_line, show};
+ghost use Rattle.command_table.specs.Table.{cat_line, command_in, create, edit_line, file_line, line_in, line_of, make_line, merge_line, number_up_to, show};
 ghost use Rattle.command_table.specs.Table as table;
-ghost use Rattle.command_words.specs.Words.{IsNamed, line_view, listing_view};
+ghost use Rattle.command_words.specs.Words.{IsNamed, IsNamedLine, command_view, line_view, listing_view};
 
-use crate::cli::egw_command;
+use crate::cli::{MOST_MADE, MOST_SEED, egw_command};
 use clap::ArgMatches;
 use clap::error::ErrorKind;
 use event_words::version::{VersionTextFault, read_version};
@@ -33,7 +33,7 @@ pub enum Listing {
     Question,
 }
 
-/// A command line that is taken.
+/// A command that is taken.
 #[derive(Debug, Drop)]
 pub enum Taken<'a> {
     New(&'a str),
@@ -41,6 +41,15 @@ pub enum Taken<'a> {
     Edit { file: &'a str, agent: &'a str },
     Show { listing: Listing, file: &'a str },
     Merge { file: &'a str, other: &'a str },
+    Make { seed: u64, count: u32 },
+}
+
+/// A command line that is taken.
+#[derive(Debug, Drop)]
+pub enum Line<'a> {
+    Does(Taken<'a>),
+    /// A peer is served with this file.
+    Serves(&'a str),
 }
 
 /// The first value of an argument.
@@ -51,15 +60,15 @@ fn value<'a>(values: &ArgMatches<'a>, id: &str) -> Option<&'a str>
 }
 
 fn read_new<'a>(values: &ArgMatches<'a>) -> Option<Taken<'a>>
-    ensures { option_map line_view result ≡ file_line create (rows_of (found_of values.now)) }
+    ensures { option_map command_view result ≡ file_line create (rows_of (found_of values.now)) }
 {
     let file = value(values, "file")?;
     Some(Taken::New(file))
 }
 
 fn read_edit<'a>(values: &ArgMatches<'a>) -> Option<Taken<'a>>
-    ensures line { option_map line_view result ≡ edit_line (rows_of (found_of values.now)) }
-    ensures named { IsNamed (option_map line_view result) }
+    ensures line { option_map command_view result ≡ edit_line (rows_of (found_of values.now)) }
+    ensures named { IsNamed (option_map command_view result) }
 {
     let file = value(values, "file")?;
     let agent = value(values, "agent")?;
@@ -85,8 +94,8 @@ fn content_at(alloc: Global, word: Option<&str>) -> Result<Option<Listing>, Allo
 }
 
 fn read_cat<'a>(alloc: Global, values: &ArgMatches<'a>) -> Result<Option<Taken<'a>>, AllocError>
-    ensures line { IfOk result (λ l. option_map line_view l ≡ cat_line (rows_of (found_of values.now))) }
-    ensures named { IfOk result (λ l. IsNamed (option_map line_view l)) }
+    ensures line { IfOk result (λ l. option_map command_view l ≡ cat_line (rows_of (found_of values.now))) }
+    ensures named { IfOk result (λ l. IsNamed (option_map command_view l)) }
 {
     let Some(file) = value(values, "file") else {
         return Ok(None);
@@ -98,32 +107,52 @@ fn read_cat<'a>(alloc: Global, values: &ArgMatches<'a>) -> Result<Option<Taken<'
 }
 
 fn read_show<'a>(listing: Listing, values: &ArgMatches<'a>) -> Option<Taken<'a>>
-    ensures line { option_map line_view result ≡ file_line (show (listing_view listing)) (rows_of (found_of values.now)) }
-    ensures named { IsNamed (option_map line_view result) }
+    ensures line { option_map command_view result ≡ file_line (show (listing_view listing)) (rows_of (found_of values.now)) }
+    ensures named { IsNamed (option_map command_view result) }
 {
     let file = value(values, "file")?;
     Some(Taken::Show { listing, file })
 }
 
 fn read_merge<'a>(values: &ArgMatches<'a>) -> Option<Taken<'a>>
-    ensures line { option_map line_view result ≡ merge_line (rows_of (found_of values.now)) }
-    ensures named { IsNamed (option_map line_view result) }
+    ensures line { option_map command_view result ≡ merge_line (rows_of (found_of values.now)) }
+    ensures named { IsNamed (option_map command_view result) }
 {
     let file = value(values, "file")?;
     let other = value(values, "other")?;
     Some(Taken::Merge { file, other })
 }
 
-fn read_matches<'a>(
-    alloc: Global,
-    matches: &ArgMatches<'a>,
-) -> Result<Option<Taken<'a>>, AllocError>
-    ensures line { IfOk result (λ l. option_map line_view l ≡ line_in (subcommand_rows_of matches.now)) }
-    ensures named { IfOk result (λ l. IsNamed (option_map line_view l)) }
+/// The number that a word spells, if it is at most `most`.
+#[tactic(auto, using(crate::proofs::Numbers::number_taken, crate::proofs::Numbers::number_above, crate::proofs::Numbers::number_unread))]
+fn number_up_to(word: &str, most: u64) -> Option<u64>
+    ensures number { result ≡ number_up_to most word.now }
+    ensures few { IfSome result (λ n. n ≤ most) }
 {
-    let Some((name, values)) = matches.subcommand() else {
-        return Ok(None);
-    };
+    let number = word.parse::<u64>().ok()?;
+    if number <= most { Some(number) } else { None }
+}
+
+fn read_make<'a>(values: &ArgMatches<'a>) -> Option<Taken<'a>>
+    ensures line { option_map command_view result ≡ make_line (rows_of (found_of values.now)) }
+    ensures named { IsNamed (option_map command_view result) }
+{
+    let seed = number_up_to(value(values, "seed")?, MOST_SEED)?;
+    let count = number_up_to(value(values, "count")?, MOST_MADE)?;
+    Some(Taken::Make {
+        seed,
+        count: count as u32,
+    })
+}
+
+fn read_command<'a>(
+    alloc: Global,
+    name: &str,
+    values: &ArgMatches<'a>,
+) -> Result<Option<Taken<'a>>, AllocError>
+    ensures command { IfOk result (λ c. option_map command_view c ≡ command_in name.now (rows_of (found_of values.now))) }
+    ensures named { IfOk result (λ c. IsNamed (option_map command_view c)) }
+{
     if name == "new" {
         return Ok(read_new(values));
     }
@@ -151,13 +180,39 @@ fn read_matches<'a>(
     if name == "ask" {
         return Ok(read_show(Listing::Question, values));
     }
+    if name == "make" {
+        return Ok(read_make(values));
+    }
     Ok(None)
 }
 
+fn read_serve<'a>(values: &ArgMatches<'a>) -> Option<Line<'a>>
+    ensures { option_map line_view result ≡ option_map table.serves (first_of (codes "file") (rows_of (found_of values.now))) }
+{
+    let file = value(values, "file")?;
+    Some(Line::Serves(file))
+}
+
+fn read_matches<'a>(alloc: Global, matches: &ArgMatches<'a>) -> Result<Option<Line<'a>>, AllocError>
+    ensures line { IfOk result (λ l. option_map line_view l ≡ line_in (subcommand_rows_of matches.now)) }
+    ensures named { IfOk result (λ l. IsNamedLine (option_map line_view l)) }
+{
+    let Some((name, values)) = matches.subcommand() else {
+        return Ok(None);
+    };
+    if name == "serve" {
+        return Ok(read_serve(values));
+    }
+    match read_command(alloc, name, values)? {
+        Some(command) => Ok(Some(Line::Does(command))),
+        None => Ok(None),
+    }
+}
+
 /// Takes the words, or `None` where `clap` doesn't, the agent is no name or the version isn't in its grammar.
-pub fn read_words<'a>(alloc: Global, words: &'a [String]) -> Result<Option<Taken<'a>>, AllocError>
+pub fn read_words<'a>(alloc: Global, words: &'a [String]) -> Result<Option<Line<'a>>, AllocError>
     ensures line { IfOk result (λ l. option_map line_view l ≡ line_of (map string_bytes words.now)) }
-    ensures named { IfOk result (λ l. IsNamed (option_map line_view l)) }
+    ensures named { IfOk result (λ l. IsNamedLine (option_map line_view l)) }
 {
     let command = egw_command(alloc)?;
     match command.try_get_matches_from(words) {

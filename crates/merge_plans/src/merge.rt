@@ -10,6 +10,7 @@ ghost use Rattle.command_table.specs.Table.{merge_reply, open_file, opened_as, o
 ghost use Rattle.command_table.specs.Table as table;
 ghost use Rattle.ew_model.specs.Rounds.{most_touches};
 ghost use Rattle.opened_files.specs.Touches.{TouchesAtMost, file_touches, merge_touches, touches_over};
+ghost use Rattle.peer_exchange.specs.Answering as answering;
 ghost use Rattle.opened_files.specs.Views.{IsCommandPlan, LostBy, MissesBy, ShelfCauses, plan_view, status_of};
 ghost use Rattle.command_table.specs.Reads.{LoadsFront, loads_behind};
 ghost use Rattle.ew_outside.specs.Counts.{next};
@@ -30,7 +31,7 @@ use std::alloc::{AllocError, Global};
 use std::sync::ledger::Ledger;
 
 fn is_clash(why: Refusal) -> bool
-    ensures { result ≡ table.is_clash why }
+    ensures { result ≡ answering.is_clash why }
 {
     matches!(why, Refusal::Clash)
 }
@@ -43,7 +44,7 @@ fn is_graph_full(why: Refusal) -> bool
 
 /// The first refused event that has the id of another.
 fn first_clash(refused: &[(Id, Refusal)]) -> Option<&(Id, Refusal)>
-    ensures { option_copied result ≡ find (λ p. table.is_clash p.1) refused.now }
+    ensures { option_copied result ≡ find (λ p. answering.is_clash p.1) refused.now }
 {
     refused.iter().find(|p| is_clash(p.1))
 }

@@ -1,3 +1,4 @@
 pub mod FileBytes
+pub mod Giving
 pub mod Shown
 pub mod Touches

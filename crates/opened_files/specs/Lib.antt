@@ -1,5 +1,6 @@
 -- What a file is opened as, and what a plan stands for.
 pub mod Faults
+pub mod Giving
 pub mod Loading
 pub mod Touches
 pub mod Views

@@ -1,4 +1,4 @@
--- At most how often walkers are touched on a line, where the shelf tells its files.
+-- At most how often walkers are touched by a command, where the shelf tells its files.
 use Rattle.std.specs.Prelude.{◌≤◌, ⊤, ℕ, ◌+◌, List, [], Option, None, Some}
 use Rattle.std.specs.FinMap.{get}
 use Rattle.ew_model.specs.declared.event.Event.{Event}
@@ -9,8 +9,9 @@ use Rattle.ew_model.specs.Limits.{LimitNumbers, most_file_bytes}
 use Rattle.ew_model.specs.Rounds.{most_touches}
 use Rattle.ew_model.specs.Touches.{touches}
 use Rattle.ew_outside.specs.Files.{Files}
+use Rattle.generator.specs.Touches.{made_touches}
 use Rattle.command_table.specs.Loads.{File, missing, too_long, whole, whole_of}
-use Rattle.command_table.specs.Table.{Text, Command, create, edit, show, merge, Listing, past, replay, Opened, opened, refused, open_file}
+use Rattle.command_table.specs.Table.{Text, Command, create, edit, show, merge, make, Listing, past, replay, Opened, opened, refused, open_file}
 
 -- a file that is found is walked over from its start, also where one of its events isn't good
 abbrev pub found_touches : FileFinding → ℕ
@@ -41,13 +42,14 @@ listing_touches listing events = 0
 abbrev pub merge_touches : Text → LimitNumbers → Files → List Event → ℕ
 merge_touches other limits files events = file_touches other limits files + touches_over (most_touches limits events []) (open_file other limits files)
 
--- those of a line; an edit walks nothing but the load
-abbrev pub line_touches : Option Command → LimitNumbers → Files → ℕ
-line_touches (Some (create name)) limits files = 0
-line_touches (Some (edit name agent)) limits files = file_touches name limits files
-line_touches (Some (show listing name)) limits files = file_touches name limits files + touches_over (listing_touches listing) (open_file name limits files)
-line_touches (Some (merge name other)) limits files = file_touches name limits files + touches_over (merge_touches other limits files) (open_file name limits files)
-line_touches None limits files = 0
+-- those of a command; an edit walks nothing but the load
+abbrev pub command_touches : Option Command → LimitNumbers → Files → ℕ
+command_touches (Some (create name)) limits files = 0
+command_touches (Some (edit name agent)) limits files = file_touches name limits files
+command_touches (Some (show listing name)) limits files = file_touches name limits files + touches_over (listing_touches listing) (open_file name limits files)
+command_touches (Some (merge name other)) limits files = file_touches name limits files + touches_over (merge_touches other limits files) (open_file name limits files)
+command_touches (Some (make seed count)) limits files = made_touches limits seed count
+command_touches None limits files = 0
 
 -- where the files are told, the steps rose by no more
 abbrev pub TouchesAtMost : (Files → ℕ) → Option Files → ℕ → ℕ → Type 0

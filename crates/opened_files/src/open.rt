@@ -1,9 +1,11 @@
 //! Opening an event file: its bytes, its grammar, its events.
-ghost use Rattle.std.specs.Prelude.{◌≡◌, ◌≤◌, ◌<◌, ◌+◌, ◌^◌, length, IfOk, IfSome, IsSomeAnd};
+ghost use Rattle.std.specs.Prelude.{◌≡◌, ◌≤◌, ◌<◌, ◌+◌, ◌^◌, List, IfOk, IfSome, IsSomeAnd};
+ghost use Rattle.ew_model.specs.declared.event.Event.{Event};
 ghost use Rattle.ew_model.specs.FileFaults.{file_finding};
 ghost use Rattle.ew_model.specs.Limits.{most_file_bytes};
 ghost use Rattle.ew_model.specs.Touches.{touches};
 ghost use Rattle.ew_model.specs.Verdicts.{first_bad};
+ghost use Rattle.replica.specs.Giving.{WereGiven};
 ghost use Rattle.opened_files.specs.Faults.{finding_of};
 ghost use Rattle.command_table.specs.Possible.{MayOpen};
 ghost use Rattle.command_table.specs.Table.{judged, open_file, read_as, refused};
@@ -11,18 +13,18 @@ ghost use Rattle.opened_files.specs.Views.{IsFileStatus, IsFresh, IsJudged, IsOp
 ghost use Rattle.opened_files.specs.Touches.{TouchesAtMost, file_touches, found_touches};
 ghost use Rattle.ew_outside.specs.Counts.{next};
 
+use crate::give::give_events;
 use crate::load::{Loaded, load_whole};
 use crate::reply::Stop;
 use command_texts::texts::{
     bad_digest_text, bad_event_text, bad_field_text, file_too_long_text, file_too_many_text,
     no_event_file_text, no_file_text, short_file_text, unknown_version_text,
 };
-use event_file::{FileFault, decode};
-use ew_model::event::Event;
+use event_file::FileFault;
 use ew_model::limits::Limits;
 use ew_model::steps::Steps;
 use ew_outside::Shelf;
-use replica::{LoadFault, Replica};
+use replica::{LoadFault, Loading, Replica};
 use std::alloc::{AllocError, Global};
 use std::sync::ledger::Ledger;
 
@@ -33,21 +35,19 @@ pub enum Found {
     Refused { status: u8, text: Vec<u8> },
 }
 
-/// The replica of events, or why they aren't good.
+/// The replica of events that were given, or why they aren't good.
 fn judge<L: Ledger>(
     alloc: Global,
     name: &str,
-    limits: Limits,
-    events: Vec<Event>,
+    given: Loading,
     steps: &mut Steps<L>,
 ) -> Result<Found, AllocError>
-    requires { length events.items ≤ limits.events }
-    ensures told { IfOk result (λ f. opened_view f ≡ judged name.now events.items (first_bad events.items)) }
+    ensures told { (events : List Event) → WereGiven events given → IfOk result (λ f. opened_view f ≡ judged name.now events (first_bad events)) }
     ensures status { IfOk result IsJudged }
-    ensures fresh { IfOk result (λ f. IsFresh limits f) }
-    ensures most { steps.new ≤ steps.old + touches events.items 0 }
+    ensures fresh { (events : List Event) → WereGiven events given → IfOk result (λ f. IsFresh given.limits f) }
+    ensures most { (events : List Event) → WereGiven events given → steps.new ≤ steps.old + touches events 0 }
 {
-    match Replica::from_events(alloc, events, limits, steps) {
+    match given.finish(steps) {
         Ok(replica) => Ok(Found::Open(replica)),
         Err(LoadFault::OutOfMemory) => Err(AllocError),
         Err(LoadFault::BadEvent { position, verdict }) => Ok(Found::Refused {
@@ -95,8 +95,8 @@ fn read<L: Ledger>(
     ensures fresh { IfOk result (λ f. IsFresh limits.now f) }
     ensures most { steps.new ≤ steps.old + found_touches (file_finding limits.now.events bytes.now) }
 {
-    match decode(alloc, bytes, limits.events()) {
-        Ok(events) => judge(alloc, name, *limits, events, steps),
+    match give_events(alloc, bytes, limits) {
+        Ok(given) => judge(alloc, name, given, steps),
         Err(fault) => {
             let (status, text) = fault_text(alloc, name, limits, fault)?;
             Ok(Found::Refused { status, text })

@@ -1,5 +1,5 @@
 use Rattle.command_table.specs.Table.{edit, reply_to}
-use Rattle.command_words.specs.Words.{line_view}
+use Rattle.command_words.specs.Words.{command_view}
 use Rattle.command_plans.proofs.Lines.{causes_of_shelf, plans_by, loads_one, one_front, may_plan}
 use Rattle.std.proofs.Common.{ℕ, List, subst, refl, Some}
 use Rattle.edit_plans.proofs.Reading.{holds_edit_refused, takes_none}
@@ -9,7 +9,7 @@ use Rattle.command_plans.specs.Lines.{MayPlan}
 use Rattle.command_plans.proofs.plan.plan_taken.Goals as goal
 
 pub returns-in_default-clause-told : goal.returns-in_default-clause-told
-returns-in_default-clause-told g c = plans_by (reply_to (line_view c.args.line) c.args.limits.now) (g.H.Shelf.files c.args.shelf.now) (g.S.Source.left c.args.input.now) c.plan_unread.result c.plan_unread.ensures.told
+returns-in_default-clause-told g c = plans_by (reply_to (command_view c.args.line) c.args.limits.now) (g.H.Shelf.files c.args.shelf.now) (g.S.Source.left c.args.input.now) c.plan_unread.result c.plan_unread.ensures.told
 
 pub returns-in_default-clause-cause : goal.returns-in_default-clause-cause
 returns-in_default-clause-cause g c = causes_of_shelf _ _ _ _ c.plan_unread.result refl c.plan_unread.ensures.cause
@@ -25,7 +25,7 @@ pub returns-in_default-clause-few : goal.returns-in_default-clause-few
 returns-in_default-clause-few g c = takes_none _ (g.S.Source.left c.args.input.now) _ refl
 
 pub returns-in_default-clause-untouched : goal.returns-in_default-clause-untouched
-returns-in_default-clause-untouched g c = holds_edit_refused (Some (line_view c.args.line)) c.args.limits.now (g.H.Shelf.files c.args.shelf.now) _ (refl, refl)
+returns-in_default-clause-untouched g c = holds_edit_refused (Some (command_view c.args.line)) c.args.limits.now (g.H.Shelf.files c.args.shelf.now) _ (refl, refl)
 
 pub returns-in-Edit-clause-untouched : goal.returns-in-Edit-clause-untouched
 returns-in-Edit-clause-untouched g c = rw c.in-Edit.is c.edit.ensures.untouched

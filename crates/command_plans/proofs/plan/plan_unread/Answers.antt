@@ -1,9 +1,11 @@
 use Rattle.std.specs.FinMap.{get}
 use Rattle.command_table.specs.Loads.{whole_of}
-use Rattle.command_table.specs.Table.{create, merge, show, create_reply, merge_reply, open_file, over_both, over_events, show_reply}
+use Rattle.command_table.specs.Table.{create, make, merge, show, create_reply, make_reply, merge_reply, open_file, over_both, over_events, show_reply}
+use Rattle.generator.specs.Making.{made}
+use Rattle.generator.specs.Touches.{made_touches}
 use Rattle.command_words.specs.Words.{listing_view}
-use Rattle.command_plans.proofs.Lines.{plans_alone, loads_one, one_front, may_plan}
-use Rattle.opened_files.proofs.Touches.{untouched}
+use Rattle.command_plans.proofs.Lines.{loads_none, loads_one, may_plan, no_causes, no_front, none_lost, one_front, plans_alone, plans_any}
+use Rattle.opened_files.proofs.Touches.{touched_alike, untouched}
 use Rattle.command_plans.proofs.plan.plan_unread.Goals as goal
 
 pub returns-in-New-clause-told : goal.returns-in-New-clause-told
@@ -57,3 +59,26 @@ returns-in-Show-clause-most g c = rw c.in-Show.is c.show.ensures.most
 
 pub returns-in-Merge-clause-most : goal.returns-in-Merge-clause-most
 returns-in-Merge-clause-most g c = rw c.in-Merge.is c.merge.ensures.most
+
+pub returns-in-Make-clause-told : goal.returns-in-Make-clause-told
+returns-in-Make-clause-told g c =
+    let limits = c.args.limits.now in
+    rw c.in-Make.is (plans_any (make_reply limits (made limits c.in-Make.seed c.in-Make.count)) (g.H.Shelf.files c.args.shelf.now) c.make_history.result c.make_history.ensures.told)
+
+pub returns-in-Make-clause-some : goal.returns-in-Make-clause-some
+returns-in-Make-clause-some g c = rw c.in-Make.is (may_plan (make c.in-Make.seed c.in-Make.count) c.args.limits.now c.make_history.result c.make_history.ensures.told)
+
+pub returns-in-Make-clause-cause : goal.returns-in-Make-clause-cause
+returns-in-Make-clause-cause g c = no_causes _ c.make_history.result c.make_history.ensures.starved
+
+pub returns-in-Make-clause-lost : goal.returns-in-Make-clause-lost
+returns-in-Make-clause-lost g c = none_lost _ c.make_history.result c.make_history.ensures.starved
+
+pub returns-in-Make-clause-front : goal.returns-in-Make-clause-front
+returns-in-Make-clause-front g c = rw c.in-Make.is (no_front _)
+
+pub returns-in-Make-clause-loads : goal.returns-in-Make-clause-loads
+returns-in-Make-clause-loads g c = rw c.in-Make.is (loads_none (g.H.Shelf.files c.args.shelf.now) _ c.make_history.result)
+
+pub returns-in-Make-clause-most : goal.returns-in-Make-clause-most
+returns-in-Make-clause-most g c = rw c.in-Make.is (touched_alike (made_touches c.args.limits.now c.in-Make.seed c.in-Make.count) (g.H.Shelf.files c.args.shelf.now) c.args.steps.now c.make_history.new.steps c.make_history.ensures.most)

@@ -1,0 +1,40 @@
+use Rattle.std.proofs.Common.{◌≡◌, ◌∙◌, sym, ap, subst, [], ◌∷◌, ◌++◌, Ok, Err, IfErr, Some, Result, Option}
+use Rattle.std.proofs.lemmas.Result.{err_from_is_err_and}
+use Rattle.ew_model.specs.declared.event.Event.{Event}
+use Rattle.ew_model.specs.FileFaults.{FileFinding, file_finding}
+use Rattle.event_file.specs.declared.fault.FileFault.{FileFault}
+use Rattle.event_file.specs.Faults.{IsFault}
+use Rattle.event_file.specs.Rest.{IsNext, in_front}
+use Rattle.replica.specs.Giving.{Given, WereGiven}
+use Rattle.opened_files.proofs.Giving.{fault_behind, one_more}
+use Rattle.opened_files.proofs.give.give_events.Goals as goal
+
+pub returns-in_err-event-clause-fault : goal.returns-in_err-event-clause-fault
+returns-in_err-event-clause-fault c =
+    let front = c.loop-given.invariant.front in
+    let found : file_finding c.args.limits.now.events c.args.bytes.now ≡ in_front front.0 c.loop-given.reader.found =
+    sym (subst (λ n. c.in_ok-reader.reader.found ≡ file_finding n c.args.bytes.now) c.events.ensures.value c.in_ok-reader.ensures.found) ∙ front.1.1 in
+    let p = err_from_is_err_and c.from_residual-in_err-event.result c.from_residual-in_err-event.ensures.1 in
+    let is : IsFault p.0 c.loop-given.reader.found = subst (λ (fault : FileFault). IsFault fault c.loop-given.reader.found) (sym p.2) c.in_err-event.ensures.0 in
+    subst (λ (r : Result Given FileFault). IfErr r (λ fault. IsFault fault (file_finding c.args.limits.now.events c.args.bytes.now))) (sym p.1)
+    (subst (λ (f : FileFinding). IsFault p.0 f) (sym found) (fault_behind front.0 p.0 c.loop-given.reader.found is))
+
+pub returns-in_err-push-clause-fault : goal.returns-in_err-push-clause-fault
+returns-in_err-push-clause-fault c =
+    let p = err_from_is_err_and c.from_residual-in_err-push.result c.from_residual-in_err-push.ensures.1 in
+    let found = file_finding c.args.limits.now.events c.args.bytes.now in
+    subst (λ (r : Result Given FileFault). IfErr r (λ fault. IsFault fault found)) (sym (p.1 ∙ ap Err p.2)) tt
+
+pub loop-given-preserved : goal.loop-given-preserved
+loop-given-preserved c =
+    let front = c.loop-given.invariant.front in
+    let next : IsNext (Ok (Some c.in-Some.event)) c.loop-given.reader c.next.new.self =
+    subst (λ (o : Option Event). IsNext (Ok o) c.loop-given.reader c.next.new.self) c.in-Some.is c.in_ok-event.ensures in
+    let were : WereGiven (front.0 ++ c.in-Some.event ∷ []) c.push.new.self = c.in_ok-push.ensures.given front.0 front.1.0 in
+    record {
+      limits = c.in_ok-push.ensures.limits ∙ c.loop-given.invariant.limits;
+      front = (
+        front.0 ++ c.in-Some.event ∷ [],
+        one_more front.0 c.in-Some.event c.in_ok-reader.reader.found c.loop-given.given c.push.new.self c.loop-given.reader c.next.new.self c.args.limits.now.events front.1 next.0 next.1 were,
+      );
+    }

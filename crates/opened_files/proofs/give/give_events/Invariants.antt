@@ -1,0 +1,13 @@
+use Rattle.std.proofs.Common.{◌≡◌, List}
+use Rattle.ew_model.specs.declared.event.Event.{Event}
+use Rattle.opened_files.proofs.Giving.{IsGivenFront}
+use Rattle.opened_files.proofs.give.give_events.Given as goal
+
+abbrev pub invariant-loop-given : goal.invariant-loop-given
+invariant-loop-given l = record {
+  limits : l.given.limits ≡ l.fn.limits;
+  front : (before : List Event) × IsGivenFront before l.initial.reader.found l.given l.reader l.fn.limits.events;
+}
+
+abbrev pub decreases-loop-given : goal.decreases-loop-given
+decreases-loop-given l = l.reader.records

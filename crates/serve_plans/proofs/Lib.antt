@@ -1,0 +1,11 @@
+pub mod Answers
+pub mod Closings
+pub mod Cutting
+pub mod Ends
+pub mod Opening
+pub mod Pieces
+pub mod Prompt
+pub mod Served
+pub mod Speaking
+pub mod Takes
+pub mod Talks

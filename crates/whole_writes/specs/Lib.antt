@@ -1,0 +1,2 @@
+-- Outputs that are written whole.
+pub mod Written
