@@ -1,2 +1,12 @@
+pub mod Faults
+pub mod LineCourses
+pub mod LineRuns
+pub mod LineTables
 pub mod Outputs
-pub mod Runs
+pub mod Replies
+pub mod SessionCourses
+pub mod SessionOutputs
+pub mod SessionRuns
+pub mod SessionTables
+pub mod Starved
+pub mod Touches

@@ -60,6 +60,16 @@ EndOut (Ok p) Done old new flushed = Appends old new (out_of p) × IsFlushed new
 EndOut (Ok p) SinkFailed old new flushed = GrowsByFront old new (out_of p)
 EndOut _ _ old new flushed = new ≡ old
 
+-- nothing is flushed but at an end that is well
+abbrev pub EndFlushed : Ending → Option ℕ → Option ℕ → Type 0
+EndFlushed Done old new = ⊤
+EndFlushed _ old new = new ≡ old
+
+-- nothing is flushed where there is no plan, or it isn't carried out whole
+abbrev pub KeepsFlushed : Result Plan Stop → Ending → Option ℕ → Option ℕ → Type 0
+KeepsFlushed (Err _) ending old new = new ≡ old
+KeepsFlushed (Ok p) ending old new = EndFlushed ending old new
+
 -- which count moved while the plan was carried out
 abbrev pub EndShelfCount : Result Plan Stop → Ending → ℕ → ℕ → Type 0
 EndShelfCount (Ok _) ShelfFailed before now = (before ≤ now) × Rose before now

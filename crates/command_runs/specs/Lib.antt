@@ -1,3 +1,4 @@
 -- How a run ends.
 pub mod Endings
-pub mod Written
+pub mod LineTouches
+pub mod SessionEndings

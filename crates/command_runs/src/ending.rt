@@ -1,11 +1,13 @@
 //! How a run ends, once its plan is made.
 ghost use Rattle.std.specs.Prelude.{◌≡◌};
-ghost use Rattle.command_runs.specs.Endings.{IsDoneOrSinkFailed, PrintLeaves, EndFiles, EndOut, EndShelfCount, EndSinkCount, EndsPlan, SaysNone, end_of_stop, end_status, end_text};
+ghost use Rattle.command_runs.specs.Endings.{IsDoneOrSinkFailed, PrintLeaves, EndFiles, EndFlushed, EndOut, EndShelfCount, EndSinkCount, EndsPlan, KeepsFlushed, SaysNone, end_of_stop, end_status, end_text};
+ghost use Rattle.command_runs.specs.SessionEndings.{EndsSession, SessionFiles, SessionFlushed, SessionOut, SessionShelfCount, SessionSinkCount};
 ghost use Rattle.command_table.specs.Outputs.{Tells};
 
-use crate::output::{write_all, write_and_flush};
 use ew_outside::{Failed, Shelf, ShelfFault, Sink};
 use opened_files::reply::{Plan, Stop};
+use serve_plans::halt::Halt;
+use whole_writes::{write_all, write_and_flush};
 
 /// How a run ends.
 #[derive(Debug, Drop)]
@@ -33,6 +35,7 @@ impl From<Stop> for Ending {
 pub fn print<K: Sink>(out: &mut K, bytes: &[u8]) -> Ending
     ensures status { IsDoneOrSinkFailed result }
     ensures out { PrintLeaves result (K.taken out.old) (K.taken out.new) (K.flushed out.new) bytes.now }
+    ensures flushed { EndFlushed result (K.flushed out.old) (K.flushed out.new) }
     ensures count { EndSinkCount result (K.faults out.old) (K.faults out.new) }
 {
     match write_and_flush(out, bytes) {
@@ -50,6 +53,7 @@ pub fn carry_out<H: Shelf, K: Sink>(
     ensures which { EndsPlan planned.entry result }
     ensures files { EndFiles planned.entry result (H.files shelf.old) (H.files shelf.new) }
     ensures out { EndOut planned.entry result (K.taken out.old) (K.taken out.new) (K.flushed out.new) }
+    ensures flushed { KeepsFlushed planned.entry result (K.flushed out.old) (K.flushed out.new) }
     ensures shelf { EndShelfCount planned.entry result (H.faults shelf.old) (H.faults shelf.new) }
     ensures sink { EndSinkCount result (K.faults out.old) (K.faults out.new) }
     ensures misses { H.misses shelf.new ≡ H.misses shelf.old }
@@ -71,6 +75,29 @@ pub fn carry_out<H: Shelf, K: Sink>(
             Err(ShelfFault::Failed) => Ending::ShelfFailed,
             Err(ShelfFault::OutOfMemory) => Ending::OutOfMemory,
         },
+    }
+}
+
+/// Stores and prints what closes a session; where it was broken off, nothing.
+pub fn finish<H: Shelf, K: Sink>(
+    planned: Result<Plan<'_>, Halt>,
+    shelf: &mut H,
+    out: &mut K,
+) -> Ending
+    ensures which { EndsSession planned.entry result }
+    ensures files { SessionFiles planned.entry result (H.files shelf.old) (H.files shelf.new) }
+    ensures out { SessionOut planned.entry result (K.taken out.old) (K.taken out.new) (K.flushed out.new) }
+    ensures flushed { SessionFlushed planned.entry result (K.flushed out.old) (K.flushed out.new) }
+    ensures shelf { SessionShelfCount planned.entry result (H.faults shelf.old) (H.faults shelf.new) }
+    ensures sink { SessionSinkCount planned.entry result (K.faults out.old) (K.faults out.new) }
+    ensures misses { H.misses shelf.new ≡ H.misses shelf.old }
+    ensures loads { H.loads shelf.new ≡ H.loads shelf.old }
+    ensures lost { H.lost shelf.new ≡ H.lost shelf.old }
+{
+    match planned {
+        Err(Halt::SinkFailed) => Ending::SinkFailed,
+        Err(Halt::Stopped(stop)) => Ending::from(stop),
+        Ok(plan) => carry_out(Ok(plan), shelf, out),
     }
 }
 

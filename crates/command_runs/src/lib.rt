@@ -2,6 +2,5 @@
 #![tactic(auto)]
 
 pub mod ending;
-mod output;
 pub mod start;
 pub mod top;

@@ -1,12 +1,13 @@
 use Rattle.std.proofs.Common.{None}
 use Rattle.command_table.specs.Headline.{seen}
-use Rattle.command_runs.proofs.Runs.{is_run}
-use Rattle.command_runs.proofs.top.run_line.Goals as goal
+use Rattle.command_runs.proofs.LineRuns.{is_run}
+use Rattle.command_runs.proofs.top.run_command.Goals as goal
 
 pub returns-clause-run : goal.returns-clause-run
 returns-clause-run g c =
     is_run _ _ c.make_plan-planned.result c.carry_out-ending.result _
-    (seen (g.H.Shelf.files c.make_plan-planned.new.shelf) (g.H.Shelf.faults c.make_plan-planned.new.shelf) (g.H.Shelf.misses c.make_plan-planned.new.shelf) (g.H.Shelf.loads c.make_plan-planned.new.shelf) (g.H.Shelf.lost c.make_plan-planned.new.shelf) None 0 None None 0 None 0)
+    (seen (g.H.Shelf.files c.make_plan-planned.new.shelf) (g.H.Shelf.faults c.make_plan-planned.new.shelf) (g.H.Shelf.misses c.make_plan-planned.new.shelf)
+    (g.H.Shelf.loads c.make_plan-planned.new.shelf) (g.H.Shelf.lost c.make_plan-planned.new.shelf) None 0 None None 0 None 0)
     _ _ (record {
       told = c.make_plan-planned.ensures.told;
       line = c.make_plan-planned.ensures.line;
