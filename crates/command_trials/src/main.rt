@@ -10,7 +10,7 @@
 //! - `bytes NAME TEXT` names bytes, for all that follows; `front NAME OF COUNT` the first bytes of others, and `sealed NAME OF`
 //!   others with their SHA-256 digest behind them;
 //! - `file FILE NAME` stores named bytes;
-//! - `in TEXT` and `in_bytes NAME` are the input of the next run;
+//! - `in TEXT` and `in_bytes NAME` are the input of the next run, and `slow N` lets it give at most so many bytes at a time;
 //! - `fail OBJECT N..` lets the calls with these numbers of the next run fail, of `shelf`, `source`, `out` or `err`, each counted from 0;
 //!   `land N..` lets the bytes of a store that fails land all the same;
 //! - `piece N` lets the output take at most so many bytes at a time in the next run.
@@ -30,6 +30,7 @@ mod narrow;
 mod report;
 mod run;
 mod setting;
+mod slow;
 mod words;
 mod world;
 

@@ -3,11 +3,11 @@
 use crate::fault::Fault;
 use crate::narrow::Narrow;
 use crate::setting::Setting;
+use crate::slow::Slow;
 use crate::words::{line_words, push_escaped};
 use crate::world::World;
 use command_runs::start::run_uncounted;
 use ew_model::NoMem;
-use ew_outside::MemSource;
 use std::alloc::Global;
 use std::fmt::Write;
 use std::marker::Brand;
@@ -17,7 +17,7 @@ use std::sync::ledger::Blank;
 #[derive(Drop)]
 pub struct Ran {
     status: u8,
-    source: MemSource,
+    source: Slow,
     out: Narrow,
     err: Narrow,
 }
@@ -26,13 +26,14 @@ pub struct Ran {
 fn run_over(world: &mut World, words: &[String], setting: Setting) -> Result<Ran, NoMem> {
     let Setting {
         input,
+        given,
         source,
         out,
         err,
         piece,
         ..
     } = setting;
-    let mut source = MemSource::new(input, source);
+    let mut source = Slow::new(input, given, source);
     let mut out = Narrow::new(world.alloc, piece, out)?;
     let mut err = Narrow::new(world.alloc, usize::MAX, err)?;
     let status = run_uncounted::<Brand, _, _, _, _>(
@@ -83,10 +84,10 @@ impl Ran {
     /// How often each object was called, and how many bytes of the input are left.
     pub fn calls(&self, world: &World) -> Result<String, NoMem> {
         let shelf = world.shelf.calls.made();
-        let source = self.source.calls.made();
+        let source = self.source.source.calls.made();
         let out = self.out.sink.calls.made();
         let err = self.err.sink.calls.made();
-        let left = self.source.left.as_slice().len();
+        let left = self.source.source.left.as_slice().len();
         format!(in world.alloc; "shelf {shelf} source {source} out {out} err {err} left {left}")
     }
 

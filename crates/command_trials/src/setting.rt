@@ -4,11 +4,12 @@ use crate::fault::Fault;
 use crate::words::{first_word, numbers};
 use std::alloc::Global;
 
-/// The input of a run, the numbers of the calls that fail, of the stores that land though they fail, and how many bytes the output
-/// takes at a time.
+/// The input of a run and how many bytes it gives at a time, the numbers of the calls that fail, of the stores that land though they
+/// fail, and how many bytes the output takes at a time.
 #[derive(Drop)]
 pub struct Setting {
     pub input: Vec<u8>,
+    pub given: usize,
     pub shelf: Vec<u64>,
     pub landing: Vec<u64>,
     pub source: Vec<u64>,
@@ -22,6 +23,7 @@ impl Setting {
     pub fn new(alloc: Global) -> Setting {
         Setting {
             input: Vec::new(alloc),
+            given: usize::MAX,
             shelf: Vec::new(alloc),
             landing: Vec::new(alloc),
             source: Vec::new(alloc),

@@ -100,6 +100,7 @@ impl World {
             "in_bytes" => self.next.input = self.named(rest)?.to_vec(self.alloc)?,
             "fail" => self.next.fail(self.alloc, rest)?,
             "land" => self.next.landing = numbers(self.alloc, rest)?,
+            "slow" => self.next.given = number(rest)? as usize,
             "piece" => self.next.piece = number(rest)? as usize,
             _ => return Ok(false),
         }
