@@ -431,6 +431,103 @@ def event_of(line):
     return Event(id_of(id), known, Op(int(at), ord(ch[0]) if kind == "ins" else None))
 
 
+# Sessions
+
+
+def frame(kind, body=b""):
+    return bytes([kind]) + len(body).to_bytes(4, "little") + body
+
+
+def id_bytes(id):
+    return bytes([len(id.agent)]) + id.agent + id.seq.to_bytes(4, "little")
+
+
+def event_bytes(event):
+    """An event as it stands in a frame."""
+    at, ch = event.op
+    operation = bytes([ch is None]) + at.to_bytes(4, "little") + (b"" if ch is None else ch.to_bytes(4, "little"))
+    return id_bytes(event.id) + bytes([len(event.parents)]) + b"".join(map(id_bytes, event.parents)) + operation
+
+
+def counted(items):
+    return len(items).to_bytes(4, "little") + b"".join(items)
+
+
+def draw_event(draws, events):
+    """One of the events, perhaps changed in one thing."""
+    event = draws.one_of(events)
+    choice = draws.below(24)
+    if choice == 0:
+        event = event._replace(op=Op(event.op.at + draws.below(30), event.op.ch))
+    elif choice == 1:
+        event = event._replace(parents=tuple(draws.one_of(events).id for _ in range(draws.below(4))))
+    elif choice == 2:
+        event = event._replace(id=Id(b"new", draws.below(3)))
+    elif choice == 3:
+        event = event._replace(parents=tuple(Id(b"p%02d" % n, 0) for n in range(16 + draws.below(2))))
+    elif choice == 4:
+        event = event._replace(parents=(*event.parents, event.id))
+    elif choice == 5:
+        event = event._replace(op=Op(event.op.at, 65))
+    return event
+
+
+def draw_frame(draws, events):
+    """A frame of any kind, most of them with events."""
+    kind = draws.below(20)
+    if kind < 4:
+        agents = sorted({draws.one_of(events).id.agent for _ in range(draws.below(4))})
+        return frame(1, counted([id_bytes(Id(agent, 1 + draws.below(5))) for agent in agents]))
+    if kind < 7:
+        start = draws.below(len(events))
+        return frame(2, counted([event_bytes(event) for event in events[start : start + 1 + draws.below(8)]]))
+    if kind < 15:
+        return frame(2, counted([event_bytes(draw_event(draws, events)) for _ in range(draws.below(7))]))
+    if kind < 17:
+        return draws.one_of([frame(3), frame(4, bytes(16))])
+    return draws.one_of([frame(6), frame(6), frame(5, id_bytes(events[0].id)), frame(draws.below(9), bytes(draws.below(3)))])
+
+
+def sessions(beside, draws):
+    """Peers who send frames of all kinds, some of them damaged, to one who holds a part of the events."""
+    beside.part = "sessions"
+    count = 400
+    for _ in range(count):
+        events = draw_graph(draws, 2 + draws.below(12))
+        beside.file("F", file_of(events[: draws.below(len(events) + 1)]))
+        data = bytearray(b"".join(draw_frame(draws, events) for _ in range(1 + draws.below(6))))
+        choice = draws.below(8)
+        if choice == 0:
+            del data[draws.below(len(data)) :]
+        elif choice == 1:
+            data[draws.below(len(data))] ^= 1 << draws.below(8)
+        elif choice < 4:
+            data += frame(6)
+        beside.run("serve", "F", input=bytes(data))
+        beside.run("log", "F")
+        beside.clear()
+    return count + session_rows(beside)
+
+
+def session_rows(beside):
+    """The rows of the page on sessions."""
+    page = (ROOT / "docs" / "FORMATS.md").read_text()
+    rows = re.findall(r"^\| (?:`([0-9a-f ]+)`|the output of the first row) \| (?:`([0-9a-f ]+)`|none) \| (\d)(?:, `(egw: .*)`)? \|$", page, re.MULTILINE)
+    if len(rows) != 9:
+        beside.wrong(f"docs/FORMATS.md has {len(rows)} rows of sessions, not 9")
+    first, second, third = (Event(Id(b"a", n), (Id(b"a", n - 1),) if n else (), Op(n, 97 + n)) for n in range(3))
+    for asked, answered, status, _ in rows:
+        beside.file("F", file_of([first, second, third]))
+        got = beside.run("serve", "F", input=bytes.fromhex(asked or rows[0][1]))
+        if got != (int(status), bytes.fromhex(answered)):
+            beside.wrong(f"the row of docs/FORMATS.md on the frames {asked} is another")
+    beside.file("F", file_of([]))
+    beside.run("serve", "F", input=bytes.fromhex(rows[0][1]))
+    beside.run("log", "F")
+    beside.clear()
+    return len(rows)
+
+
 # Scripts with bad lines
 
 
@@ -465,8 +562,8 @@ def scripts(beside, draws):
 # Lines of words
 
 
-WORDS = ["new", "edit", "cat", "heads", "log", "check", "merge", "replay", "ask", "F", "F", "F", "G", "--agent", "--agent", "--agent=a", "--agent=", "--agent==a", "a",
-         "-", "--", "--", "", "-h", "--help", "help", "-V", "--version", "--at", "--at", "--at=", "--at=root", "--at=a:1", "root", "a:0", "a:2,a:0", "b:0", "-F", "--agents", "--agen", "-agent", "---", "--=", "a" * 32, "a" * 33, "-1", "ä", "-ä", "=", "a b"]
+WORDS = ["new", "edit", "cat", "heads", "log", "check", "merge", "replay", "ask", "serve", "make", "F", "F", "F", "G", "--agent", "--agent", "--agent=a", "--agent=", "--agent==a", "a",
+         "-", "--", "--", "", "-h", "--help", "help", "-V", "--version", "--at", "--at", "--at=", "--at=root", "--at=a:1", "root", "a:0", "a:2,a:0", "b:0", "--seed", "--seed=7", "--count", "--count=3", "7", "-F", "--agents", "--agen", "-agent", "---", "--=", "a" * 32, "a" * 33, "-1", "ä", "-ä", "=", "a b"]
 TAKEN = [["edit", "F", "--agent", "a"], ["edit", "--agent", "a", "F"], ["edit", "--agent=a", "--", "F"], ["edit", "F", "--agent=a"], ["edit", "--agent", "a", "--", "-F"],
          ["edit", "F", "--", "--agent", "a"], ["edit", "F", "--agent", "--", "a"], ["edit", "F", "--agent", "a", "--agent", "a"], ["edit", "F", "--agent", "a", "--agent=a"],
          ["edit", "--agent", "--agent", "a", "F"], ["edit", "F", "--agent", "-"], ["edit", "F", "--agent", ""], ["edit", "F", "--agent", "a", "--"], ["edit", "--", "F"],
@@ -493,7 +590,22 @@ TAKEN = [["edit", "F", "--agent", "a"], ["edit", "--agent", "a", "F"], ["edit", 
          ["ask", "G"], ["ask", "nowhere"], ["ask", ""], ["ask", "-"], ["ask", "F", "--agent", "a"], ["ask", "--agent=a", "F"], ["ask", "F", "--at", "a:0"], ["ask", "F", "--at=a:0"],
          ["ask", "--at", "root", "F"], ["ask", "F", "--", "--at"], ["ask", "F", "--help"], ["ask", "F", "-h"], ["ask", "help"], ["help", "ask"], ["Ask", "F"], ["ASK", "F"], ["ask ", "F"], [" ask", "F"],
          ["ask\n", "F"], ["asks", "F"], ["as", "F"], ["--", "ask", "F"], [b"ask", b"\xff"],
-         ["serve", "F"], ["net"], ["make", "--seed", "1", "--count", "1"], [b"cat", b"\xff"], [b"\xff", b"F"]]
+         ["make", "--seed", "1", "--count", "1"], ["make", "--count", "1", "--seed", "1"], ["make", "--seed=1", "--count=1"], ["make", "--seed=1", "--count", "1"], ["make", "--count=1", "--seed", "1"],
+         ["make", "--seed", "1"], ["make", "--count", "1"], ["make"], ["make", "--seed", "1", "--count"], ["make", "--seed", "--count", "1"], ["make", "--seed=", "--count=1"], ["make", "--seed=1", "--count="],
+         ["make", "--seed=1", "--seed=1", "--count=1"], ["make", "--seed=1", "--count=1", "--count=1"], ["make", "--seed=1", "--count=1", "--"], ["make", "--", "--seed=1", "--count=1"],
+         ["make", "F", "--seed=1", "--count=1"], ["make", "--seed=1", "F", "--count=1"], ["make", "--seed=1", "--count=1", "F"], ["make", "--seed=1", "--count=1", "--", "F"], ["make", "--seed=1", "--count=1", "-"],
+         ["make", "--seed=1", "--count=1", ""], ["make", "--seed=1", "--count=1", "--agent=a"], ["make", "--seed=1", "--count=1", "--at", "root"], ["make", "--seed=1", "--count=1", "--help"],
+         ["make", "--seed", "-1", "--count=1"], ["make", "--seed=-1", "--count=1"], ["make", "--seed=1", "--count", "-1"], ["make", "--seed=1", "--count=-1"], ["make", "--seed=1", "--count=-0"],
+         ["make", "--seed=+1", "--count=+1"], ["make", "--seed=++1", "--count=1"], ["make", "--seed=1", "--count=+"], ["make", "--seed=+", "--count=1"], ["make", "--seed=0", "--count=0"], ["make", "--seed=01", "--count=1"],
+         ["make", "--seed=1", "--count=0001"], ["make", "--seed=1", "--count=" + "0" * 5000 + "2"], ["make", "--seed=" + "0" * 5000 + "7", "--count=2"], ["make", "--seed=+007", "--count=002"],
+         ["make", "--seed=18446744073709551615", "--count=3"], ["make", "--seed=18446744073709551616", "--count=3"], ["make", "--seed=" + "9" * 5000, "--count=3"], ["make", "--seed=4294967296", "--count=3"],
+         ["make", "--seed=1", "--count=1000001"], ["make", "--seed=1", "--count=4294967296"], ["make", "--seed=1", "--count=4294967297"], ["make", "--seed=1", "--count=18446744073709551617"], ["make", "--seed=1", "--count=" + "9" * 5000],
+         ["make", "--seed= 1", "--count=1"], ["make", "--seed=1 ", "--count=1"], ["make", "--seed=1\n", "--count=1"], ["make", "--seed=1", "--count=1_0"], ["make", "--seed=1", "--count=1e1"], ["make", "--seed=0x1", "--count=1"],
+         ["make", "--seed=1.0", "--count=1"], ["make", "--seed=a", "--count=1"], ["make", "--seed=1", "--count=b"], ["make", "--seed=٣", "--count=1"], ["make", "--seed=1", "--count=٣"], ["make", b"--seed=\xff", "--count=1"],
+         ["make", "--seed=1", b"--count=1\xff"], ["make", "--see=1", "--count=1"], ["make", "--seeds=1", "--count=1"], ["make", "-seed=1", "--count=1"], ["--seed=1", "make", "--count=1"], ["Make", "--seed=1", "--count=1"],
+         ["make ", "--seed=1", "--count=1"], ["help", "make"], ["cat", "F", "--seed=1"], ["new", "H", "--count=1"], ["merge", "F", "G", "--seed=1", "--count=1"], ["edit", "F", "--agent=a", "--count=1"],
+         ["serve", "F"], ["serve"], ["serve", "F", "G"], ["serve", "--", "F"], ["serve", "F", "--"], ["serve", "-F"], ["serve", "--", "-F"], ["serve", "nowhere"], ["serve", ""], ["serve", "F", "--agent", "a"],
+         ["serve", "F", "--at", "a:0"], ["serve", "F", "--help"], ["help", "serve"], ["Serve", "F"], ["serves", "F"], [b"serve", b"\xff"], ["net"], [b"cat", b"\xff"], [b"\xff", b"F"]]
 
 
 def words(beside, draws):
@@ -501,13 +613,64 @@ def words(beside, draws):
     beside.run("new", "F")
     beside.run("edit", "F", "--agent", "a", input=b"ins 0 abc")
     beside.copy("F", "kept")
-    lines = TAKEN + [[draws.one_of(WORDS[:9])] + [draws.one_of(WORDS) for _ in range(draws.below(6))] for _ in range(400)]
+    lines = TAKEN + [[draws.one_of(WORDS[:11])] + [draws.one_of(WORDS) for _ in range(draws.below(6))] for _ in range(400)]
     lines += [["edit"] + [draws.one_of(["F", "--agent", "--agent=a", "a", "--", "-", "-x", ""]) for _ in range(1 + draws.below(5))] for _ in range(200)]
     lines += [["cat"] + [draws.one_of(["F", "F", "--at", "--at=a:1", "a:0", "root", "b:0", "--", "-", "-x", ""]) for _ in range(1 + draws.below(5))] for _ in range(200)]
+    lines += [["make"] + [draws.one_of(["--seed", "--seed=7", "--count", "--count=3", "5", "5", "+4", "-", "--", "F"]) for _ in range(1 + draws.below(5))] for _ in range(200)]
     for line in lines:
         beside.run(*line, input=b"ins 0 x")
     beside.clear()
     return len(lines)
+
+
+# Made histories
+
+
+def make_with_files(beside, seed, count):
+    """What `make` is to print, by the files of three people who do what it does."""
+    draws, people = Draws(seed), ["p0", "p1", "p2"]
+    lengths, scripts = [0] * 3, [[], [], []]
+    for name in people:
+        beside.run("new", name)
+
+    def give(giver, taker):
+        for name, lines in zip(people, scripts):
+            if lines:
+                beside.run("edit", name, "--agent", name, input="\n".join(lines).encode())
+                lines.clear()
+        beside.run("merge", people[taker], people[giver])
+        lengths[taker] = len(beside.run("cat", people[taker])[1])
+
+    for step in range(count):
+        peer, quarter, place = draws.below(3), draws.below(4), draws.below(2**31)
+        if quarter == 0 and lengths[peer]:
+            scripts[peer].append(f"del {place % lengths[peer]} 1")
+            lengths[peer] -= 1
+        else:
+            scripts[peer].append(f"ins {place % (lengths[peer] + 1)} {chr(ord('a') + draws.below(26))}")
+            lengths[peer] += 1
+        if step % 64 == 63:
+            give(step // 64 % 3, (step // 64 + 1) % 3)
+    for giver, taker in ((0, 1), (1, 2), (2, 0), (0, 1)):
+        give(giver, taker)
+    numbers = dict(line.split(" ") for line in beside.run("check", "p0")[1].decode().splitlines())
+    lines = [f"{word} {numbers[word]}\n" for word in ("events", "length", "heads", "cuts")]
+    lines.append(f"sha256 {hashlib.sha256(beside.run('cat', 'p0')[1]).hexdigest()}\n")
+    lines.append(f"agree {'yes' if len({beside.run('ask', name) for name in people}) == 1 else 'no'}\n")
+    beside.clear()
+    return "".join(lines).encode()
+
+
+def made(beside, draws):
+    """Histories that `make` makes, and the same edits done with files."""
+    beside.part = "made histories"
+    tried = [(1, count) for count in (0, 1, 2, 63, 64, 65, 127, 128, 192, 193, 400)]
+    tried += [(seed, 100) for seed in (0, 7, 2**63, 2**64 - 1)]
+    tried += [(draws.below(2**31), draws.below(300)) for _ in range(10)]
+    for seed, count in tried:
+        wanted = make_with_files(beside, seed, count)
+        if beside.run("make", "--seed", str(seed), "--count", str(count)) != (0, wanted):
+            beside.wrong(f"three people who do what `make` does with the seed {seed} and {count} edits come to other numbers")
 
 
 # Limits, and what the system refuses
@@ -527,6 +690,8 @@ def limits(beside):
     beside.run("edit", "F", "--agent", "a", input=b"\n" * MOST_INPUT)
     beside.run("edit", "F", "--agent", "a", input=b"\n" * (MOST_INPUT + 1))
     beside.run("edit", "F", "--agent", "a", input=b"ins 0 " + b"x" * (MOST_EVENTS + 1))
+    for more in (0, 1):
+        beside.run("serve", "F", input=b"\x01" + (4 + 37 * MOST_EVENTS).to_bytes(4, "little") + bytes(MOST_INPUT - 5 + more))
     for size in (MOST_FILE, MOST_FILE + 1):
         for folder, _ in beside.sides:
             with open(folder / "large", "wb") as file:
@@ -536,6 +701,7 @@ def limits(beside):
         beside.run("cat", "large", "--at", "a:00")
         beside.run("replay", "large")
         beside.run("ask", "large")
+        beside.run("serve", "large", input=frame(6))
         beside.run("new", "large")
     beside.clear()
 
@@ -555,6 +721,7 @@ def refusals(beside):
         beside.run("cat", name, "--at", "b:0")
         beside.run("replay", name)
         beside.run("ask", name)
+        beside.run("serve", name, input=frame(6))
         beside.run("edit", name, "--agent", "a", input=b"ins 0 x")
         beside.run("merge", name, "F")
         beside.run("merge", "F", name)
@@ -567,11 +734,17 @@ def refusals(beside):
             beside.run("cat", "F", "--at", version, out=full)
         beside.run("replay", "F", out=full)
         beside.run("ask", "F", out=full)
+        beside.run("serve", "F", input=frame(1, bytes(4)), out=full)
+        beside.run("serve", "F", input=frame(3), out=full)
+        beside.run("serve", "F", input=frame(6), out=full)
+        beside.run("serve", "F", input=b"\7", err=full)
         beside.run("new", "unseen", out=full)
         beside.run("replay", "unseen", out=full)
         beside.run("ask", "unseen", out=full)
         beside.run("cat", "F", "--at", "b:0", err=full)
         beside.run("edit", "F", "--agent", "a", input=b"ins 0 z", out=full)
+        beside.run("make", "--seed", "1", "--count", "5", out=full)
+        beside.run("make", "--seed", "1", err=full)
         beside.run("cat", "nowhere", err=full)
         beside.run("ask", "nowhere", err=full)
         beside.run("cat", err=full)
@@ -581,6 +754,9 @@ def refusals(beside):
     beside.run("cat", "F", "--at", "a:0", input=FOLDER)
     beside.run("replay", "F", input=FOLDER)
     beside.run("ask", "F", input=FOLDER)
+    beside.run("serve", "F", input=FOLDER)
+    beside.run("serve", "nowhere", input=FOLDER)
+    beside.run("make", "--seed", "1", "--count", "5", input=FOLDER)
     beside.clear()
 
 
@@ -590,10 +766,11 @@ WANTED += [(3, "egw: no file NAME"), (3, "egw: file NAME is there"), (4, "egw: F
 WANTED += [(4, f"egw: F: byte N: {fault}") for fault in ("cut", "bad name", "name twice", "agent number", "id twice", "parent count", "parent position", "parent order", "kind", "scalar", "trailing bytes", "unused agent")]
 WANTED += [(4, f"egw: F: event N: {fault}") for fault in ("not reduced", "skipped", "out of range, length N")]
 WANTED += [(5, "egw: line N: unreadable"), (5, "egw: line N: out of range, length N"), (5, "egw: clash NAME"), (5, "egw: unknown NAME")]
+WANTED += [(5, f"egw: frame N: {fault}") for fault in ("cut", "bad kind N", "too long, N", "bad body")]
 WANTED += [(6, f"egw: {what} failed") for what in ("shelf", "source", "sink")]
 WANTED += [(7, "egw: F: more than N bytes"), (7, "egw: F: more than N events"), (7, "egw: input: more than N bytes"), (7, "egw: more than N events"), (7, "egw: N heads, more than N")]
 # And each status that a command may come to, but for memory.
-STATUSES = {"cat --at": (0, 2, 3, 4, 5, 6, 7), "replay": (0, 2, 3, 4, 6, 7), "ask": (0, 2, 3, 4, 6, 7)}
+STATUSES = {"cat --at": (0, 2, 3, 4, 5, 6, 7), "replay": (0, 2, 3, 4, 6, 7), "ask": (0, 2, 3, 4, 6, 7), "serve": (0, 2, 3, 4, 5, 6, 7), "make": (0, 2, 6)}
 
 
 def main():
@@ -605,9 +782,11 @@ def main():
         beside.part = part
         files += sum(make(beside, draws) for _ in range(count))
     files += by_hand(beside, draws)
+    served = sessions(beside, draws)
     asked = versions(beside, draws)
     scripts_run = scripts(beside, draws)
     lines = words(beside, draws)
+    made(beside, draws)
     limits(beside)
     refusals(beside)
     beside.part = "texts"
@@ -619,7 +798,7 @@ def main():
             if not beside.statuses[command, status]:
                 beside.wrong(f"never seen: status {status} of {command}")
     parts = ", ".join(f"{part} {count}" for part, count in beside.parts.items())
-    print(f"the second reader: {sum(beside.parts.values())} runs compared ({parts}), over {files} files, {asked} words for a version, {scripts_run} scripts and {lines} lines of words")
+    print(f"the second reader: {sum(beside.parts.values())} runs compared ({parts}), over {files} files, {asked} words for a version, {served} sessions, {scripts_run} scripts and {lines} lines of words")
     told = ", ".join(f"{command} {sum(beside.statuses[command, status] for status in statuses)}" for command, statuses in STATUSES.items())
     print(f"the second reader: of these {told}")
     if beside.failing:

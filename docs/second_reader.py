@@ -1,7 +1,8 @@
 #!/usr/bin/env python3
 """A second implementation of `egw`, written from docs/FORMATS.md alone.
 
-It has new, edit, cat, heads, log, replay, check, ask and merge. Its authors had never seen the program.
+It has new, edit, cat, heads, log, replay, check, merge, ask, serve and make. Its authors
+had never seen the program, but for those of `serve` and `make`.
 The sections follow those of the page. Python 3, nothing else.
 """
 
@@ -18,10 +19,11 @@ import sys
 
 MAX_EVENTS, MAX_FILE, MAX_INPUT, MAX_PARENTS = 1000000, 115000048, 16777216, 16
 MAX_NUMBER = 4294967295
+MAX_WAITING, MAX_BODY, MAX_HAVE, PIECE = 65536, 1048576, 4 + 37 * MAX_EVENTS, 4096
 ESCAPE = re.compile(r'\\(.?)', re.DOTALL)
 PLAIN = {'n': '\n', '\\': '\\'}
 INSERT, DELETE, LEFT, RIGHT = 0, 1, 0, 1
-HAVE = 1
+HAVE, EVENTS, DONE, TOOK, CLASH, BYE = range(1, 7)
 NAME = re.compile('[a-zA-Z0-9_][a-zA-Z0-9_-]{0,31}')
 NUMBER = '(0|[1-9][0-9]{0,9})'
 IDENT = re.compile('(%s):%s' % (NAME.pattern, NUMBER))
@@ -370,11 +372,220 @@ def do_edit(history, agent, number, edit):
 # Frames
 
 
+def frame(kind, body=b''):
+    """A frame of this kind and body."""
+    return struct.pack('<BI', kind, len(body)) + body
+
+
+def ident_bytes(ident):
+    """An id as it stands in frames."""
+    return name_bytes(ident[0]) + struct.pack('<I', ident[1])
+
+
 def have_frame(counts):
     """The Have of how many events of each agent there are."""
-    held = [name_bytes(name) + struct.pack('<I', count) for name, count in sorted(counts.items())]
-    body = struct.pack('<I', len(held)) + b''.join(held)
-    return struct.pack('<BI', HAVE, len(body)) + body
+    held = [ident_bytes(pair) for pair in sorted(counts.items())]
+    return frame(HAVE, struct.pack('<I', len(held)) + b''.join(held))
+
+
+def event_bytes(event):
+    """An event as it stands in frames."""
+    parents = b''.join(map(ident_bytes, event.parents))
+    operation = struct.pack('<BI', event.kind, event.index)
+    char = struct.pack('<I', ord(event.char)) if event.kind == INSERT else b''
+    return ident_bytes(event.id) + bytes([len(event.parents)]) + parents + operation + char
+
+
+def events_frames(events):
+    """The Events frames of a list of events, one behind the other."""
+    count = (MAX_BODY - 4) // 639
+    parts = [events[at:at + count] for at in range(0, len(events), count)]
+    return b''.join(frame(EVENTS, struct.pack('<I', len(part)) + b''.join(map(event_bytes, part)))
+                    for part in parts)
+
+
+class BadBody(Exception):
+    """A body that no frame of its kind has."""
+
+
+class Body:
+    """The fields of a frame's body."""
+
+    def __init__(self, data):
+        self.data, self.at = data, 0
+
+    def take(self, size):
+        """Take so many bytes."""
+        self.at += size
+        if self.at > len(self.data):
+            raise BadBody
+        return self.data[self.at - size:self.at]
+
+    def number(self, size=4):
+        """Take a number of one byte or four."""
+        return int.from_bytes(self.take(size), 'little')
+
+    def ident(self):
+        """Take an id, or a name and a count."""
+        name = self.take(self.number(1)).decode('latin-1')
+        if not NAME.fullmatch(name):
+            raise BadBody
+        return name, self.number()
+
+    def counts(self):
+        """Take the content of a Have: how many events of each agent."""
+        pairs = [self.ident() for _ in range(self.number())]
+        names = [name for name, _ in pairs]
+        if names != sorted(set(names)) or not all(count for _, count in pairs):
+            raise BadBody
+        return dict(pairs)
+
+    def event(self):
+        """Take an event."""
+        ident = self.ident()
+        parents = tuple(self.ident() for _ in range(self.number(1)))
+        kind, index = self.number(1), self.number()
+        scalar = self.number() if kind == INSERT else None
+        if kind > DELETE or scalar and (scalar > 0x10FFFF or 0xD800 <= scalar <= 0xDFFF):
+            raise BadBody
+        return Event(ident, parents, kind, index, '' if scalar is None else chr(scalar))
+
+    def events(self):
+        """Take the content of an Events frame."""
+        return [self.event() for _ in range(self.number())]
+
+    def numbers(self):
+        """Take the content of a Took."""
+        return [self.number() for _ in range(4)]
+
+    def nothing(self):
+        """Take what a Done and a Bye have."""
+
+
+CONTENTS = {HAVE: Body.counts, EVENTS: Body.events, DONE: Body.nothing, TOOK: Body.numbers,
+            CLASH: Body.ident, BYE: Body.nothing}
+
+
+def first_frame(data, number):
+    """The kind, the content and the end of the frame at the front of the bytes; None where it isn't whole yet."""
+    if data and data[0] not in CONTENTS:
+        raise Refusal(5, 'frame %d: bad kind %d' % (number, data[0]))
+    if len(data) < 5:
+        return None
+    size = int.from_bytes(data[1:5], 'little')
+    if size > (MAX_HAVE if data[0] == HAVE else MAX_BODY):
+        raise Refusal(5, 'frame %d: too long, %d' % (number, size))
+    if len(data) < 5 + size:
+        return None
+    body = Body(bytes(data[5:5 + size]))
+    try:
+        content = CONTENTS[data[0]](body)
+    except BadBody:
+        content = BadBody
+    if content is BadBody or body.at < size:
+        raise Refusal(5, 'frame %d: bad body' % number)
+    return data[0], content, 5 + size
+
+
+# Serving a peer
+
+
+class Desk:
+    """A history, and the events that wait for their parents, in the order in which they came."""
+
+    def __init__(self, history):
+        self.history, self.waiting = history, {}
+
+    def there(self, ident):
+        """The event of this id that is held or waits, if there is one."""
+        if ident in self.history.where:
+            return self.history.events[self.history.where[ident]]
+        return self.waiting.get(ident)
+
+    def is_ready(self, event):
+        """Whether all parents of an event are held."""
+        return all(parent in self.history.where for parent in event.parents)
+
+    def receive(self, events):
+        """Receive events; gives the frame that tells of it, and the id of the first clash or None."""
+        told, clash = collections.Counter(), None
+        for event in events:
+            there = self.there(event.id)
+            if there:
+                told['repeats' if there == event else 'refused'] += 1
+                clash = clash or (None if there == event else event.id)
+            elif event.id in event.parents or len(event.parents) > MAX_PARENTS or \
+                    list(event.parents) != sorted(set(event.parents)):
+                told['refused'] += 1
+            elif self.is_ready(event):
+                self.settle(event, told)
+            elif len(self.waiting) == MAX_WAITING:
+                told['refused'] += 1
+            else:
+                self.waiting[event.id] = event
+        if clash:
+            return frame(CLASH, ident_bytes(clash)), clash
+        numbers = told['accepted'], len(self.waiting), told['repeats'], told['refused']
+        return frame(TOOK, struct.pack('<4I', *numbers)), None
+
+    def settle(self, event, told):
+        """Judge an event whose parents are held, and behind it those that waited for it."""
+        while event:
+            told['accepted' if self.append(event) else 'refused'] += 1
+            event = next(filter(self.is_ready, self.waiting.values()), None)
+            if event:
+                del self.waiting[event.id]
+
+    def append(self, event):
+        """Append an event if there is room and it is good; says whether it was."""
+        if len(self.history.events) == MAX_EVENTS:
+            return False
+        try:
+            self.history.add(event)
+        except Refusal:
+            return False
+        return True
+
+    def missing(self, counts):
+        """The events that are lacking where there are so many of each agent."""
+        return [event for event in self.history.events if event.id[1] >= counts.get(event.id[0], 0)]
+
+    def answer(self, kind, content):
+        """The bytes that answer a frame, and the id of a clash or None."""
+        if kind == HAVE:
+            return events_frames(self.missing(content)) + frame(DONE), None
+        if kind == EVENTS:
+            return self.receive(content)
+        return b'', content if kind == CLASH else None
+
+
+def talk(desk):
+    """Answer the frames of the input up to its end, or up to a Bye; gives the bytes to print behind the store."""
+    pending, number, left = bytearray(), 1, MAX_INPUT
+    while True:
+        found = first_frame(pending, number)
+        if not found:
+            with using('source'):
+                piece = os.read(0, min(left, PIECE) or 1)
+            if piece and not left:
+                raise Refusal(7, 'input: more than %d bytes' % MAX_INPUT)
+            if not piece and pending:
+                raise Refusal(5, 'frame %d: cut' % number)
+            if not piece:
+                return b''
+            pending += piece
+            left -= len(piece)
+            continue
+        kind, content, end = found
+        del pending[:end]
+        number += 1
+        if kind == BYE:
+            return frame(BYE)
+        reply, clash = desk.answer(kind, content)
+        with using('sink'):
+            write_all(1, reply)
+        if clash:
+            raise Refusal(5, 'clash %s' % spell(clash))
 
 
 # Files, input and output
@@ -511,6 +722,16 @@ def run_ask(files, _values):
     return have_frame({name: len(places) for name, places in by_agent.items()})
 
 
+def run_serve(files, _values):
+    """Serve a peer, and store the history if it grew."""
+    history = load(files[0])
+    before = len(history.events)
+    printed = talk(Desk(history))
+    if len(history.events) > before:
+        store(files[0], history.events)
+    return printed
+
+
 def run_merge(files, _values):
     """Add the events of the other file that the first one lacks."""
     history, other = load(files[0]), load(files[1])
@@ -531,6 +752,54 @@ def run_merge(files, _values):
         len(accepted), len(other.events) - len(accepted), cut)
 
 
+class Draws:
+    """A row of drawn numbers that a seed begins."""
+
+    def __init__(self, seed):
+        self.state = seed
+
+    def draw(self):
+        """The next number."""
+        self.state = (self.state * 6364136223846793005 + 1442695040888963407) % 2 ** 64
+        return self.state >> 33
+
+
+def do_drawn_edit(history, agent, draws):
+    """Do the edit that is drawn next."""
+    length = len(history.visible())
+    deletes, place = draws.draw() % 4 == 0, draws.draw()
+    if deletes and length:
+        edit = DELETE, place % length, 1, ''
+    else:
+        edit = INSERT, place % (length + 1), 1, chr(ord('a') + draws.draw() % 26)
+    do_edit(history, agent, 0, edit)
+
+
+def run_make(_files, values):
+    """Make a history by a seed and a number of edits, and print its numbers."""
+    seed, count = values
+    draws, peers = Draws(seed), [History('') for _ in range(3)]
+    desks = [Desk(peer) for peer in peers]
+
+    def give(giver, taker):
+        lacked = [event for event in peers[giver].events if event.id not in peers[taker].where]
+        desks[taker].receive(lacked)
+
+    for step in range(count):
+        peer = draws.draw() % 3
+        do_drawn_edit(peers[peer], 'p%d' % peer, draws)
+        if step % 64 == 63:
+            give(step // 64 % 3, (step // 64 + 1) % 3)
+    for giver, taker in (0, 1), (1, 2), (2, 0), (0, 1):
+        give(giver, taker)
+    first = peers[0]
+    text = ''.join(node.char for node in first.visible()).encode('utf-8')
+    agree = all(set(peer.events) == set(first.events) for peer in peers)
+    return 'events %d\nlength %d\nheads %d\ncuts %d\nsha256 %s\nagree %s\n' % (
+        len(first.events), len(first.visible()), len(first.heads), len(first.cuts()),
+        hashlib.sha256(text).hexdigest(), 'yes' if agree else 'no')
+
+
 def parse_name(word):
     """A name, or None where it is none."""
     return word if NAME.fullmatch(word) else None
@@ -546,33 +815,42 @@ def parse_version(word):
     return [(ident[1], int(ident[2])) for ident in found]
 
 
-# The command, the number of its files, its option, how often that has to be there, and what reads its value.
-NO_OPTION = None, 0, None
-COMMANDS = {'new': (run_new, 1, *NO_OPTION), 'edit': (run_edit, 1, '--agent', 1, parse_name),
-            'cat': (run_cat, 1, '--at', 0, parse_version), 'heads': (run_heads, 1, *NO_OPTION),
-            'log': (run_log, 1, *NO_OPTION), 'replay': (run_replay, 1, *NO_OPTION),
-            'check': (run_check, 1, *NO_OPTION), 'ask': (run_ask, 1, *NO_OPTION),
-            'merge': (run_merge, 2, *NO_OPTION)}
+def parse_up_to(most):
+    """What reads a number up to another, which may have a plus and zeros in front."""
+    def parse(word):
+        digits = re.fullmatch('[+]?0*([0-9]{1,20})', word)
+        return int(digits[1]) if digits and int(digits[1]) <= most else None
+    return parse
+
+
+# The command, the number of its files, and its options: how often each has to be there, and what reads its value.
+COMMANDS = {'new': (run_new, 1, {}), 'edit': (run_edit, 1, {'--agent': (1, parse_name)}),
+            'cat': (run_cat, 1, {'--at': (0, parse_version)}), 'heads': (run_heads, 1, {}),
+            'log': (run_log, 1, {}), 'replay': (run_replay, 1, {}),
+            'check': (run_check, 1, {}), 'ask': (run_ask, 1, {}), 'serve': (run_serve, 1, {}),
+            'merge': (run_merge, 2, {}),
+            'make': (run_make, 0, {'--seed': (1, parse_up_to(2 ** 64 - 1)), '--count': (1, parse_up_to(MAX_EVENTS))})}
 
 
 def take(words):
-    """The command, the files and the option's values of words that are taken."""
+    """The command, the files and the options' values of words that are taken, in the order of the options."""
     if words[0] not in COMMANDS:
         raise Refusal(2, USAGE)
-    command, count, option, least, parse = COMMANDS[words[0]]
-    files, values, rest = [], [], iter(words[1:])
+    command, count, options = COMMANDS[words[0]]
+    files, given, rest = [], {option: [] for option in options}, iter(words[1:])
     for word in rest:
         name, equals, value = word.partition('=')
         if word == '--':
             files.extend(rest)
-        elif name == option:
-            # A next word that begins with `-` is no name and no version, so it needs no rule of its own.
-            values.append(parse(value if equals else next(rest, '-')))
+        elif name in options:
+            # A next word that begins with `-` is no name, no version and no number, so it needs no rule of its own.
+            given[name].append(options[name][1](value if equals else next(rest, '-')))
         elif word.startswith('-') and word != '-':
             raise Refusal(2, USAGE)
         else:
             files.append(word)
-    if len(files) != count or not least <= len(values) <= 1 or None in values:
+    values = [value for option in options for value in given[option]]
+    if len(files) != count or None in values or any(not options[option][0] <= len(given[option]) <= 1 for option in options):
         raise Refusal(2, USAGE)
     return command, files, values
 

@@ -1,0 +1,147 @@
+"""Writes the files, the frames and the scripts of .ci/hostile into the working folder."""
+
+import hashlib
+import itertools
+
+GREATEST = 4294967295
+MOST_INPUT = 16_777_216
+BODY = 1_048_576
+
+
+def number(value, size=4):
+    return value.to_bytes(size, "little")
+
+
+def put(name, *parts):
+    with open(name, "wb") as file:
+        file.writelines(parts)
+
+
+def put_file(name, *parts):
+    """A file with its digest behind it."""
+    data = b"EGWFILE\x01" + b"".join(parts)
+    put(name, data, hashlib.sha256(data).digest())
+
+
+def names(agents):
+    return number(len(agents)) + b"".join(number(len(name), 1) + name for name in agents)
+
+
+def record(agent, seq, parents, kind, at, ch=None):
+    front = number(agent) + number(seq) + number(len(parents), 1) + b"".join(map(number, parents))
+    return front + number(kind, 1) + number(at) + (b"" if ch is None else number(ch))
+
+
+def records(made):
+    made = list(made)
+    return number(len(made)) + b"".join(made)
+
+
+def chain(count, ch, agent=0):
+    """What one agent types, each event on the one before."""
+    return (record(agent, n, [n - 1] if n else [], 0, n, ch) for n in range(count))
+
+
+def id_of(agent, seq):
+    return number(len(agent), 1) + agent + number(seq)
+
+
+def event(id, parents, kind, at, ch=None):
+    """An event in a frame; ids are pairs."""
+    front = id_of(*id) + number(len(parents), 1) + b"".join(id_of(*parent) for parent in parents)
+    return front + number(kind, 1) + number(at) + (b"" if ch is None else number(ch))
+
+
+def frame(kind, body=b""):
+    return number(kind, 1) + number(len(body)) + body
+
+
+def events_frame(events):
+    events = list(events)
+    return frame(2, number(len(events)) + b"".join(events))
+
+
+LETTERS = sorted(b"0123456789ABCDEFGHIJKLMNOPQRSTUVWXYZ_abcdefghijklmnopqrstuvwxyz")
+FOUR = (bytes(letters) for letters in itertools.product(LETTERS, repeat=4))
+LONG = b"n" * 31
+BYE = frame(6)
+
+
+def make_files():
+    """Files that only claim, files with a number at its end, and large ones."""
+    a, first = [b"a"], record(0, 0, [], 0, 0, 97)
+    put("zeros", bytes(MOST_INPUT))
+    put_file("agents", number(GREATEST), b"\x03abc")
+    put_file("agents_named", number(GREATEST), b"\x01a", b"\x01b")
+    put_file("events", names(a), number(GREATEST))
+    put_file("events_one", names(a), number(GREATEST), first)
+    put_file("million", names(a), number(1_000_000))
+    put_file("million_one", names(a), number(1_000_000), first)
+    put_file("above", names(a), number(1_000_001), first)
+    put_file("names", names(list(itertools.islice(FOUR, 1_000_000))), number(0))
+    put_file("agent_number", names(a), records([record(GREATEST, 0, [], 0, 0, 97)]))
+    put_file("sequence", names(a), records([record(0, GREATEST, [], 0, 0, 97)]))
+    put_file("sequence_behind", names(a), records([first, record(0, GREATEST, [0], 0, 1, 97)]))
+    put_file("index", names(a), records([record(0, 0, [], 0, GREATEST, 97)]))
+    put_file("index_deleted", names(a), records([first, record(0, 1, [0], 1, GREATEST)]))
+    put_file("parents", names(a), records([first, record(0, 1, [0] * 255, 0, 0, 97)]))
+    put_file("position", names(a), records([first, record(0, 1, [GREATEST], 0, 0, 97)]))
+    put_file("scalar", names(a), records([record(0, 0, [], 0, 0, GREATEST)]))
+    put_file("twice", names([b"b", b"a", b"b"]), number(0))
+    put_file("ab", names([b"a", b"b"]), records([first, record(1, 0, [], 0, 0, 98)]))
+    put_file("ba", names([b"b", b"a"]), records([record(0, 0, [], 0, 0, 98), record(1, 0, [], 0, 0, 97)]))
+    put_file("ab_other", names([b"a", b"b"]), records([first, record(1, 0, [], 0, 0, 99)]))
+    for heads in (16, 17):
+        agents = [b"p%02d" % n for n in range(heads)]
+        put_file(f"heads{heads}", names(agents), records(record(n, 0, [], 0, 0, 97 + n) for n in range(heads)))
+    put_file("clash_one", names(a), records(chain(100_000, 97)))
+    put_file("clash_other", names(a), records(chain(100_000, 98)))
+    agents = [b"f%d" % n for n in range(2000)]
+    put_file("fan_one", names(agents), records(record(n, 0, [], 0, 0, 97) for n in range(2000)))
+    put_file("fan_other", names(agents), records(record(n, 0, [], 0, 0, 98) for n in range(2000)))
+    forks = [b"d%d" % n for n in range(40_000)]
+    put_file("forks", names(a + forks), records([first, *(record(1 + n, 0, [0], 1, 0) for n in range(40_000))]))
+    put_file("letter", names(a), records([first]))
+
+
+def make_inputs():
+    """Scripts and frames."""
+    put("line", b"ins 0 ", b"x" * (MOST_INPUT - 6))
+    put("line_longer", b"ins 0 ", b"x" * (MOST_INPUT - 5))
+    put("line_unreadable", b"x" * MOST_INPUT)
+    put("line_escaped", b"ins 0 ", b"\\n" * 500_000)
+    put("lines_empty", b"\n" * MOST_INPUT)
+    put("lines", b"ins 0 x\n" * 100_000)
+    put("lines_full", b"ins 0 x\n" * (MOST_INPUT // 8))
+    put("lines_of_nothing", b"ins 0 \n" * (MOST_INPUT // 7))
+    put("lines_deleting", b"del 0 1\n" * 100_000)
+    put("letters", b"ins 0 ", b"x" * 100_000)
+    put("letters_million", b"ins 0 ", b"x" * 1_000_000)
+    put("have_claimed", frame(1, number(GREATEST)))
+    put("events_claimed", frame(2, number(GREATEST)))
+    put("events_claimed_full", frame(2, number(GREATEST) + bytes(BODY - 4)))
+    put("events_longer", frame(2, number(GREATEST) + bytes(BODY - 3)))
+    put("have_cut", b"\x01", number(37_000_004), number(GREATEST))
+    held = [id_of(bytes(name), GREATEST) for name in itertools.islice(itertools.product(LETTERS, repeat=4), 1_864_134)]
+    put("have_full", frame(1, number(len(held)) + b"".join(held)))
+    per = (BODY - 4) // 22
+    one = [events_frame(event((b"b", n), [(b"z", 0)], 0, 0, 120) for n in range(at, at + per)) for at in range(0, 16 * per, per)]
+    put("unknown_one", one[0])
+    put("unknown", *one)
+    backwards = [event((b"b", n), [(b"b", n - 1)], 0, n, 120) for n in range(65_536, 0, -1)]
+    parts = [events_frame(backwards[at : at + 40_000]) for at in range(0, 65_536, 40_000)]
+    put("backwards", *parts, events_frame([event((b"b", 0), [], 0, 0, 120)]), BYE)
+    forks = [event((b"d%d" % n, 0), [(b"a", 0)], 1, 0) for n in range(20_000)]
+    put("forks_sent", events_frame(forks), BYE)
+    many = [(b"p%03d" % n, 0) for n in range(255)]
+    refused = [event((b"b", 0), many, 0, 0, 120), event((b"b", 0), [(b"a", 0)], 0, GREATEST, 120), event((b"b", GREATEST), [(b"a", 0)], 0, 0, 120)]
+    waits = [event((b"b", GREATEST), [(b"b", GREATEST - 1)], 0, 0, 120), event((b"c", 0), [(b"b", GREATEST)], 1, GREATEST)]
+    put("edges", events_frame(refused), events_frame(waits), frame(1, number(1) + id_of(b"a", GREATEST)), BYE)
+    put("one_more", events_frame([event((b"b", 0), [(b"a", 999_999)], 0, 0, 120)]))
+    put("bye", BYE)
+    put("script", b"ins 0 x\n")
+    put("nothing")
+
+
+make_files()
+make_inputs()

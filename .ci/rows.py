@@ -1,0 +1,320 @@
+"""The table of calls that fail: for each command each call of the shelf, the input and the outputs fails once. And bytes changed.
+
+    rows.py REPOSITORY          compares: the second reader has to give the answer of each row of crates/command_trials/stdin, and
+                                the table has to stand at its end, whole
+    rows.py REPOSITORY write    writes the table there, with the answers of the second reader, and how many rows each group has
+
+Of each case of CASES the call number k of an object fails, for k from 0 to the number of calls that the case makes, which is the
+run in which nothing fails. A store that fails is tried twice: its bytes don't land, and do. Behind them come files, frames and
+scripts with one byte changed, or cut at each place. The program has no part in it.
+"""
+
+import pathlib
+import sys
+from collections import namedtuple
+
+sys.dont_write_bytecode = True
+sys.path.insert(0, str(pathlib.Path(__file__).parent))
+
+from outside import OBJECTS, Outside, Reader, Rows, escaped  # noqa: E402
+
+ROOT = pathlib.Path(sys.argv[1])
+TRIALS = ROOT / "crates" / "command_trials"
+FIRST = "named bytes of the table of calls that fail"
+
+# What a case runs: its title, the words, which named bytes each file has, the input, and what the next run meets besides. NEW in the
+# words is a name that no run before has used. The limits are those of the program, or events, waiting, input and body.
+Case = namedtuple("Case", "title words files input more limits", defaults=({}, b"", (), "program"))
+
+
+def number(value, size=4):
+    return value.to_bytes(size, "little")
+
+
+def record(agent, seq, parents, kind, at, ch=None):
+    """A record of a file, of which the agent and the parents are numbers."""
+    front = number(agent) + number(seq) + number(len(parents), 1) + b"".join(map(number, parents))
+    return front + number(kind, 1) + number(at) + (b"" if ch is None else number(ord(ch)))
+
+
+def content(agents, records):
+    """A file without its digest."""
+    names = b"".join(number(len(name), 1) + name for name in agents)
+    return b"EGWFILE\x01" + number(len(agents)) + names + number(len(records)) + b"".join(records)
+
+
+def typed(agent, text, position=0):
+    """The records of a text that one agent types at the start of a file, or behind so many records."""
+    return [record(agent, n, [position + n - 1] if n else [], 0, n, ch) for n, ch in enumerate(text)]
+
+
+def frame(kind, body=b""):
+    return number(kind, 1) + number(len(body)) + body
+
+
+def event(agent, seq, parents, at, ch):
+    """An insertion in a frame; each parent is an agent and a number."""
+    ids = [number(len(name), 1) + name + number(seq) for name, seq in [(agent, seq), *parents]]
+    return ids[0] + number(len(parents), 1) + b"".join(ids[1:]) + number(0, 1) + number(at) + number(ord(ch))
+
+
+# Two words typed apart, what comes of them, and files that are refused.
+ABC, XYZ = typed(0, "abc"), typed(0, "xyz")
+LATER = record(1, 0, [2], 0, 3, "Q")
+FILES = {
+    "empty": content([], []),
+    "abc": content([b"a"], ABC),
+    "xyz": content([b"b"], XYZ),
+    "both": content([b"a", b"b"], ABC + typed(1, "xyz", 3)),
+    "abcQ": content([b"a", b"b"], ABC + [LATER]),
+    "other_abc": content([b"a"], typed(0, "Abc")),
+    "unreduced": content([b"a", b"b"], [*typed(0, "ab"), record(1, 0, [0, 1], 0, 0, "X")]),
+    "unlike": bytes(20),
+}
+HAVE = frame(1, number(1) + b"\x01a" + number(2))
+EVENTS = frame(2, number(1) + event(b"b", 0, [(b"a", 2)], 3, "Q"))
+WAITING = frame(2, number(1) + event(b"c", 0, [(b"z", 0)], 0, "w"))
+CLASH = frame(2, number(1) + event(b"a", 0, [], 0, "A"))
+BYE = frame(6)
+F, FG = {"F": "abc"}, {"F": "abc", "G": "xyz"}
+
+CASES = [
+    Case("new", "new NEW"),
+    Case("new, where the file is there", "new F", F),
+    Case("edit", "edit F --agent b", F, b"ins 3 Q"),
+    Case("edit, in pieces", "edit F --agent b", F, b"\nins 3 Q\n", ("slow 4", "piece 3")),
+    Case("edit of no events", "edit F --agent b", F, b"del 3 0"),
+    Case("edit of no lines", "edit F --agent b", F),
+    Case("edit by a line that is unreadable", "edit F --agent b", F, b"ins 0 x\nins 00 x"),
+    Case("edit by a line that is out of range", "edit F --agent b", F, b"ins 0 x\nins 9 x"),
+    Case("edit past the limit of events", "edit F --agent b", F, b"ins 0 x", (), "3 1 64 643"),
+    Case("edit past the limit of the input", "edit F --agent b", F, b"ins 0 " + b"x" * 60, (), "3 1 64 643"),
+    Case("edit of no file", "edit F --agent b", {}, b"ins 3 Q"),
+    Case("cat", "cat F", F),
+    Case("cat, in pieces", "cat F", F, b"", ("piece 1",)),
+    Case("cat of no events", "cat F", {"F": "empty"}),
+    Case("cat of no file", "cat F"),
+    Case("cat of a file with a bad event", "cat F", {"F": "unreduced"}),
+    Case("cat at a version", "cat F --at a:1", F),
+    Case("cat at a version that is unknown", "cat F --at a:1,z:9", F),
+    Case("heads", "heads F", FG | {"F": "both"}),
+    Case("heads, in pieces", "heads F", {"F": "both"}, b"", ("piece 3",)),
+    Case("log", "log F", F),
+    Case("log, in pieces", "log F", F, b"", ("piece 16",)),
+    Case("replay", "replay F", F),
+    Case("replay, in pieces", "replay F", F, b"", ("piece 8",)),
+    Case("check", "check F", F),
+    Case("check, in pieces", "check F", F, b"", ("piece 11",)),
+    Case("ask", "ask F", F),
+    Case("ask, in pieces", "ask F", F, b"", ("piece 4",)),
+    Case("merge", "merge F G", FG),
+    Case("merge, in pieces", "merge F G", FG, b"", ("piece 9",)),
+    Case("merge of repeats", "merge F G", {"F": "both", "G": "xyz"}),
+    Case("merge with itself", "merge F F", F),
+    Case("merge that meets a clash", "merge F G", {"F": "abc", "G": "other_abc"}),
+    Case("merge with no file", "merge F G", F),
+    Case("merge with a file that is none", "merge F G", {"F": "abc", "G": "unlike"}),
+    Case("merge past the limit of events", "merge F G", FG, b"", (), "5 1 64 643"),
+    Case("serve: what is lacking", "serve F", F, HAVE),
+    Case("serve: events, up to the end of the input", "serve F", F, EVENTS),
+    Case("serve: events, and a Bye", "serve F", F, EVENTS + BYE),
+    Case("serve: events and more, in pieces", "serve F", F, HAVE + EVENTS + HAVE + BYE, ("slow 9", "piece 13")),
+    Case("serve: events that wait", "serve F", F, WAITING + BYE),
+    Case("serve: repeats", "serve F", {"F": "abcQ"}, EVENTS + BYE),
+    Case("serve: a clash", "serve F", F, EVENTS + CLASH),
+    Case("serve: a clash that is told", "serve F", F, frame(5, b"\x01z" + number(9))),
+    Case("serve: a frame that is cut", "serve F", F, EVENTS + BYE[:4]),
+    Case("serve: a frame of no kind", "serve F", F, EVENTS + b"\x07"),
+    Case("serve: no frames", "serve F", F),
+    Case("serve past the limit of the input", "serve F", F, EVENTS + BYE, (), "8 1 33 643"),
+    Case("serve of no file", "serve F", {}, EVENTS),
+    Case("make", "make --seed 7 --count 3"),
+    Case("make, in pieces", "make --seed 7 --count 3", {}, b"", ("piece 9",)),
+    Case("make past the limit of events", "make --seed 1 --count 6", {}, b"", (), "3 1 64 643"),
+    Case("words that are not taken", "cat F G", F),
+]
+
+
+# A change of one byte of the file of one letter, and what has to be told of it: worked out by hand.
+CHANGES = [
+    (12, 0, "byte 12: bad name"), (13, 0x20, "byte 12: bad name"), (8, 2, "byte 14: bad name"), (18, 1, "byte 18: agent number"),
+    (26, 17, "byte 26: parent count"), (26, 1, "byte 27: parent position"), (14, 2, "byte 36: cut"), (14, 0, "byte 18: trailing bytes"),
+    (33, 0xD8, "byte 32: scalar"), (27, 2, "byte 27: kind"), (31, 1, "event 0: out of range, length 0"),
+    (22, 1, "event 0: skipped"), (7, 2, "version 2"), (0, 0x65, "not an event file"), (8, 0, "byte 16: agent number"),
+]
+
+
+def spelled(data):
+    """Bytes in a row that has no answer: a space at the end is spelled out."""
+    text = escaped(data)
+    return text[:-1] + "%20" if text.endswith(" ") else text
+
+
+class Table:
+    """The rows of the table, with the answers of the second reader."""
+
+    def __init__(self, reader):
+        self.rows, self.groups, self.fresh = Rows(reader), [], 0
+
+    def begin(self, limits, title):
+        self.rows.begin(limits)
+        self.groups.append([f"{limits}: {title}"])
+
+    def ready(self, row):
+        assert self.rows.make_ready(row), row
+        self.groups[-1].append(row)
+
+    def ask(self, asked):
+        self.groups[-1].append(f"{asked} = {self.rows.answer(asked)}")
+
+    def name_files(self):
+        self.begin("program", FIRST)
+        for name, data in FILES.items():
+            self.ready(f"bytes {name}_undigested {spelled(data)}")
+            self.ready(f"sealed {name}_file {name}_undigested")
+
+    def run(self, case, *settings):
+        """A run of a case, and all that is asked of it."""
+        words = case.words.replace("NEW", f"N{self.fresh}")
+        self.fresh += 1
+        for file, name in case.files.items():
+            self.ready(f"file {file} {name}_file")
+        for row in [*case.more, *settings, *([f"in {spelled(case.input)}"] if case.input else [])]:
+            self.ready(row)
+        self.ask(f"run {words}")
+        self.ask("calls")
+        if self.rows.outside.taken["out"]:
+            self.ask("flushed")
+        named = {data: name for name, data in self.rows.bytes.items() if name.endswith("_file")}
+        for file in case.files or [word for word in words.split(" ")[1:] if word[0] in "NFG"]:
+            found = self.rows.outside.files.get(file, self.rows.bytes["empty_file"])
+            self.ask(f"same {file} {named[found]}")
+
+    def add(self, case):
+        """All rows of a case: each call fails, and then none of them. Nothing tells that number of the error output's calls."""
+        self.begin(case.limits, f"each call fails: {case.title}")
+        self.run(case)
+        made, stores = dict(self.rows.outside.made), self.rows.outside.stores
+        for what in OBJECTS:
+            for k in range(made[what] + 1):
+                self.run(case, f"fail {what} {k}")
+                if what == "shelf" and k in stores:
+                    self.run(case, f"fail {what} {k}", f"land {k}")
+
+    def file_bytes(self, name, data, asked="cat F"):
+        """A file of these bytes, with their digest behind them."""
+        self.ready(f"bytes {name} {spelled(data)}")
+        self.ready(f"sealed {name}_digested {name}")
+        self.ready(f"file F {name}_digested")
+        self.ask(f"run {asked}")
+
+    def add_changes(self):
+        """Files with one byte changed, each with its digest; first those whose faults were worked out by hand."""
+        letter = content([b"a"], typed(0, "a"))
+        self.begin("program", "a file with one byte changed, as worked out by hand")
+        for place, value, fault in CHANGES:
+            self.file_bytes("changed", letter[:place] + number(value, 1) + letter[place + 1 :])
+            assert self.groups[-1][-1] == f"run cat F = 4 err egw: F: {fault}%0a", (place, self.groups[-1][-1])
+        self.file_bytes("changed", content([b"a"], []))
+        assert self.groups[-1][-1].endswith("byte 18: unused agent%0a")
+        self.begin("program", "a file with each byte made 255 in turn")
+        for place in range(len(letter)):
+            self.file_bytes("changed", letter[:place] + b"\xff" + letter[place + 1 :], "check F")
+
+    def add_cuts(self):
+        """The file of three events, cut at each place, and with its digest right again."""
+        whole = self.rows.bytes["abc_file"]
+        self.begin("program", "a file that is cut at each place")
+        for size in range(len(whole)):
+            self.ready(f"front cut abc_file {size}")
+            self.ready("file F cut")
+            self.ask("run cat F")
+        self.begin("program", "a file that is cut at each place, with a digest behind it")
+        for size in range(16, len(whole) - 32):
+            self.ready(f"front cut abc_undigested {size}")
+            self.ready("sealed cut_digested cut")
+            self.ready("file F cut_digested")
+            self.ask("run cat F")
+
+    def add_inputs(self):
+        """Frames and a script with each byte made 255, and cut at each place. Where the status isn't 0 the file stays as it was."""
+        script = b"del 0 1\nins 2 Q\\n"
+        for title, words, data in (("an Events frame", "serve F", EVENTS), ("a Have", "serve F", HAVE), ("a script", "edit F --agent b", script)):
+            changed = [data[:place] + b"\xff" + data[place + 1 :] for place in range(len(data))]
+            for how, inputs in (("with each byte made 255", changed), ("that is cut at each place", [data[:size] for size in range(1, len(data))])):
+                self.begin("program", f"{title} {how}")
+                for given in inputs:
+                    self.ready("file F abc_file")
+                    self.ready(f"in {spelled(given)}")
+                    self.ask(f"run {words}")
+                    self.ask("same F abc_file")
+
+    def text(self):
+        return "\n\n".join("\n".join(group) for group in self.groups) + "\n"
+
+
+def make_table(reader):
+    table = Table(reader)
+    table.name_files()
+    for case in CASES:
+        table.add(case)
+    table.add_changes()
+    table.add_cuts()
+    table.add_inputs()
+    return table.text()
+
+
+def counts_of(text):
+    """What the program has to print of groups in which no row differs."""
+    told = []
+    for group in text.rstrip("\n").split("\n\n"):
+        head, *rows = group.split("\n")
+        told.append(f"{head.split(': ', 1)[1]}: {sum(' =' in row for row in rows)}\n")
+    return "".join(told)
+
+
+def compare(reader, text):
+    """Carries out all rows of a text; gives how many, and the rows that the second reader answers otherwise."""
+    rows, count, wrong = Rows(reader), 0, []
+    for group in text.rstrip("\n").split("\n\n"):
+        head, *asked = group.split("\n")
+        rows.begin(head.split(": ", 1)[0])
+        for row in asked:
+            if not rows.make_ready(row):
+                asking, _, wanted = row.partition(" =")
+                count += 1
+                answer = rows.answer(asking)
+                if answer != wanted.removeprefix(" "):
+                    wrong.append(f"{row}\n   the second reader: {answer}")
+    return count, wrong
+
+
+def main():
+    writes = sys.argv[2:] == ["write"]
+    reader = Reader(ROOT / "docs" / "second_reader.py")
+    text = (TRIALS / "stdin").read_text()
+    by_hand, _, _ = text.partition(f"program: {FIRST}\n")
+    table = make_table(reader)
+    whole = by_hand.rstrip("\n") + "\n\n" + table
+    if writes:
+        (TRIALS / "stdin").write_text(whole)
+        (TRIALS / "stdout").write_text(counts_of(whole))
+        return 0
+    count, wrong = compare(reader, text)
+    if text != whole:
+        wrong.append("the table of calls that fail isn't the one that .ci/rows.py writes")
+    if (TRIALS / "stdout").read_text() != counts_of(text):
+        wrong.append("the numbers of rows in crates/command_trials/stdout are others")
+    lacking = sorted(set(reader.code.COMMANDS) - {case.words.split(" ")[0] for case in CASES})
+    if lacking:
+        wrong.append(f"the table has no case of {', '.join(lacking)}")
+    for told in wrong:
+        print(told)
+    in_table = sum(" =" in row for row in table.split("\n"))
+    runs = sum(row.startswith("run ") for row in table.split("\n"))
+    print(f"the rows of command lines: {count} compared with the second reader, {in_table} of them made by rule: {len(CASES)} cases, {runs} runs")
+    return 1 if wrong else 0
+
+
+if __name__ == "__main__":
+    sys.exit(main())
