@@ -2,61 +2,138 @@
 
 ghost use Rattle.std.specs.Prelude.{◌+◌, ◌<◌, ◌≤◌, ◌^◌};
 
-/// How many labels that were chosen last are kept: one for each place where somebody types.
-const MOST_RECENT: usize = 8;
+/// How many streaks are kept: one for each place where somebody types.
+const MOST_STREAKS: usize = 8;
 
-/// The labels that were chosen last, in a ring.
+/// On which side of a run another one comes.
+#[derive(Clone, Copy, Debug, PartialEq, Eq)]
+enum Side {
+    Behind,
+    Ahead,
+}
+
+/// Runs that were put in one beside the other: the label of the last, and how many came on this side of the one before.
+#[derive(Clone, Copy, Debug)]
+struct Streak {
+    last: u64,
+    side: Side,
+    times: u32,
+}
+
+impl Streak {
+    /// One that nothing goes on: no run stands behind the greatest label there is.
+    const NONE: Streak = Streak {
+        last: u64::MAX,
+        side: Side::Behind,
+        times: 0,
+    };
+
+    /// Whether a run with a label above `label` and up to `most` goes on with it.
+    fn goes_on(&self, label: u64, most: u64) -> bool {
+        self.last == label || self.last.checked_sub(1) == Some(most)
+    }
+
+    /// The streak with one more run, under a label above `label` and up to `most`.
+    fn with_next(self, label: u64, most: u64) -> Streak
+        requires { label < most }
+        ensures above { label < result.last }
+        ensures within { result.last ≤ most }
+    {
+        let side = if self.last == label {
+            Side::Behind
+        } else {
+            Side::Ahead
+        };
+        let times = if self.side == side {
+            self.times.saturating_add(1)
+        } else {
+            1
+        };
+        let part = part_of(most - label - 1, times);
+        let last = match side {
+            Side::Behind => label + 1 + part,
+            Side::Ahead => most - part,
+        };
+        Streak { last, side, times }
+    }
+}
+
+/// The part of a gap between two runs, where so many came in on one side.
+fn part_of(gap: u64, times: u32) -> u64
+    ensures { result ≤ gap }
+{
+    gap / (u64::from(times) + 1)
+}
+
+/// The streaks that went on last, in a ring.
 #[derive(Clone, Copy, Debug)]
 pub struct Recent {
-    labels: [u64; MOST_RECENT],
+    streaks: [Streak; MOST_STREAKS],
     oldest: usize,
     ghost within: { oldest < 8 },
 }
 
-/// Where runs are put in one behind the other, a new label takes this part of the gap.
-const SHARE: u64 = 1024;
-
 impl Recent {
-    /// None yet: no run stands behind the greatest label there is.
+    /// None yet.
     pub const NONE: Recent = Recent {
-        labels: [u64::MAX; MOST_RECENT],
+        streaks: [Streak::NONE; MOST_STREAKS],
         oldest: 0,
     };
 
-    /// Whether a label is among them.
-    fn has(&self, label: u64) -> bool {
-        self.labels.contains(&label)
+    /// A label above `label` and up to `most`, the greatest that is free, for a run that comes in.
+    ///
+    /// The first run of a streak halves the gap, the second leaves two thirds of it to those that follow, the third three quarters,
+    /// and so on: after so many runs in one place a part as great as one of so many is left. A gap of 2^40 serves a million of
+    /// them. Runs that come on one side and the other in turn halve what is left each time.
+    pub fn choose(&mut self, label: u64, most: u64) -> u64
+        requires { label < most }
+        ensures above { label < result }
+        ensures within { result ≤ most }
+    {
+        let found = self
+            .streaks
+            .iter()
+            .position(|streak| streak.goes_on(label, most));
+        let (place, streak) = match found {
+            Some(place) => (place, self.streaks[place]),
+            None => (
+                self.begin(),
+                Streak {
+                    last: label,
+                    ..Streak::NONE
+                },
+            ),
+        };
+        let next = streak.with_next(label, most);
+        self.streaks[place] = next;
+        next.last
     }
 
-    /// Notes the label of a run that was put behind another: in the other's place, or else in that of the oldest.
-    pub fn note(&mut self, label: u64, own: u64) {
-        match self.labels.iter().position(|recent| *recent == label) {
-            Some(place) => self.labels[place] = own,
-            None => {
-                self.labels[self.oldest] = own;
-                self.oldest = (self.oldest + 1) % MOST_RECENT;
-            }
-        }
+    /// A place for one more streak, that of the oldest.
+    fn begin(&mut self) -> usize
+        ensures { result < 8 }
+    {
+        let place = self.oldest;
+        self.oldest = (place + 1) % MOST_STREAKS;
+        place
     }
 }
 
-/// A label above `label` and up to `most`, the greatest that is free. `recent` has the labels that were chosen last.
-///
-/// Where runs come one behind the other, each behind one that came lately, the new label is near the lower end of what is free,
-/// and where each comes before one that came lately, near the upper end. Then each takes a small part of the gap, and a gap of
-/// 2^32 serves more than ten thousand of them; elsewhere the gap is halved. At either end of the list the new label is near
-/// the runs that are there.
-pub fn choose(label: u64, most: u64, recent: &Recent) -> u64
-    requires { label < most }
+/// A label above `label` and up to `most` for the second part of a run of so many characters, cut at one of them. Each part keeps
+/// its share of what is free: then a run may be cut between all its characters, in any order.
+pub fn share(label: u64, most: u64, at: u32, size: u32) -> u64
+    requires free { label < most }
+    requires inside { at < size }
     ensures above { label < result }
     ensures within { result ≤ most }
 {
-    let gap = most - label - 1;
-    if most == u64::MAX || recent.has(label) {
-        label + 1 + gap / SHARE
-    } else if label == 0 || recent.has(most + 1) {
-        most - gap / SHARE
-    } else {
-        label + 1 + gap / 2
-    }
+    label + 1 + share_of(most - label - 1, at, size)
+}
+
+/// The share of a gap that so many of a run's characters have.
+fn share_of(gap: u64, at: u32, size: u32) -> u64
+    requires { at < size }
+    ensures { result ≤ gap }
+{
+    gap / u64::from(size) * u64::from(at)
 }

@@ -6,6 +6,7 @@ ghost use Rattle.order_tree.specs.Blocks.{items_of, IsHalved, IsSupplied};
 ghost use Rattle.order_tree.specs.Edits.{IsPlaced, HasLabel, IsEdited, IsChange};
 
 use crate::edit::{Edit, put};
+use crate::label::share;
 use crate::part::{entries_up_to, free_before, place_of};
 use crate::spares::{MOST_PARTS, Spares};
 use crate::summary::Sums;
@@ -137,9 +138,9 @@ fn split_entry<R: Run + Drop>(
     let list = entries.as_slice();
     let k = place_of(list, way.label);
     let most = free_before(list, k + 1, way.most);
-    let own = spares.choose(way.label, most);
-    let block = block_for(list.len(), way.above, spares)?;
     let run = &list[k].1;
+    let own = share(way.label, most, at, run.size());
+    let block = block_for(list.len(), way.above, spares)?;
     let lost = Sums::of(run);
     let (first, second) = run.split(at);
     let gained = Sums::of(&first).plus(Sums::of(&second));

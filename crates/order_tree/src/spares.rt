@@ -4,7 +4,7 @@ ghost use Rattle.std.specs.Prelude.{◌≡◌, ◌+◌, ◌<◌, ◌≤◌, [], 
 ghost use Rattle.order_tree.specs.Blocks.{IsRoomy};
 
 use crate::branch::Branch;
-use crate::label::{Recent, choose};
+use crate::label::Recent;
 use ew_model::run::Run;
 use std::alloc::{AllocError, Global};
 use std::marker::Model;
@@ -12,7 +12,7 @@ use std::marker::Model;
 /// How many parts a node has at most.
 pub const MOST_PARTS: usize = 16;
 
-/// What a new run can need: empty blocks with room for the branches of a node, and the labels that were chosen last. Contracts see
+/// What a new run can need: empty blocks with room for the branches of a node, and the streaks that went on last. Contracts see
 /// the number of blocks.
 #[derive(Drop)]
 pub struct Spares<R: Run> {
@@ -44,13 +44,20 @@ impl<R: Run + Drop> Spares<R> {
         }
     }
 
-    /// A label above `label` and up to `most`.
-    pub fn choose(&self, label: u64, most: u64) -> u64
+    /// A label above `label` and up to `most`, for a run that comes in.
+    pub fn choose(&mut self, label: u64, most: u64) -> u64
         requires { label < most }
         ensures above { label < result }
         ensures within { result ≤ most }
+        ensures spares { self.new ≡ self.old }
     {
-        choose(label, most, &self.recent)
+        self.recent.choose(label, most)
+    }
+
+    /// The streaks that went on last.
+    pub fn recent(&self) -> Recent {
+        let _ = &self.blocks;
+        self.recent
     }
 
     /// An empty block for the runs of a leaf, and `above` blocks for the nodes above it that are full.

@@ -176,7 +176,7 @@ impl<R: Run + Drop> OrderTree<R> {
         let mut spares = Spares::new(self.alloc, self.recent);
         let own = insert_run(&mut self.root, label, run, &mut spares, visits)?;
         self.runs += 1;
-        self.recent.note(label, own);
+        self.recent = spares.recent();
         Ok(own)
     }
 
@@ -199,7 +199,6 @@ impl<R: Run + Drop> OrderTree<R> {
         let mut spares = Spares::new(self.alloc, self.recent);
         let own = edit_root(&mut self.root, label, Edit::Split(at), &mut spares, visits)?;
         self.runs += 1;
-        self.recent.note(label, own);
         Ok(own)
     }
 

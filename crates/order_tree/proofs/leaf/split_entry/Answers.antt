@@ -1,4 +1,4 @@
-use Rattle.std.proofs.Common.{◌≡◌, ◌+◌, ◌<◌, ℕ, length, slice_index_or, sym, ap, ◌∙◌}
+use Rattle.std.proofs.Common.{◌≡◌, ◌+◌, ◌<◌, ℕ, length, slice_index_or, sym, ap, ◌∙◌, arith}
 use Rattle.std.proofs.lemmas.List.{get_or_default}
 use Rattle.order_tree.specs.declared.summary.Sums.{Sums}
 use Rattle.order_tree.proofs.EntryLaws.{as_parts}
@@ -11,8 +11,8 @@ place_of-k-requires-clause-rising g c = rw c.as_slice-list.ensures.value (as_par
 pub free_before-most-requires-clause-rising : goal.free_before-most-requires-clause-rising
 free_before-most-requires-clause-rising g c = rw c.as_slice-list.ensures.value (as_parts c.args.entries.now.items c.requires.rising)
 
-pub choose-own-requires : goal.choose-own-requires
-choose-own-requires g c =
+pub share-own-requires-clause-free : goal.share-own-requires-clause-free
+share-own-requires-clause-free g c =
     let ps = c.args.entries.now.items in
     let k = c.place_of-k.result in
     let list = c.as_slice-list.ensures.value in
@@ -24,6 +24,19 @@ choose-own-requires g c =
     let p = slice_index_or ps k (c.args.way.label, r) in
     let is : p ≡ slice_index_or ps k p = get_or_default ps k (c.args.way.label, r) p lt in
     free_here g.R.Run ps k c.args.way.label p r lt is c.requires.rising below above c.requires.placed.1 (c.args.way.most + 1) c.free_before-most.result free c.requires.label
+
+pub share-own-requires-clause-inside : goal.share-own-requires-clause-inside
+share-own-requires-clause-inside g c =
+    let ps = c.args.entries.now.items in
+    let k = c.place_of-k.result in
+    let list = c.as_slice-list.ensures.value in
+    let lt : k < length ps = rw list at c.place_of-k.ensures.within in
+    let below = rw list at c.place_of-k.ensures.before in
+    let above = rw list at c.place_of-k.ensures.behind in
+    let is : c.index-list-k.result ≡ slice_index_or ps k c.index-list-k.result = rw list at c.index-list-k.is in
+    let same = entry_is g.R.Run ps k c.args.way.label c.index-list-k.result c.requires.placed.0 lt is c.requires.rising below above c.requires.placed.1 in
+    let long = ap (λ (q : ℕ × _). length (g.R.Run.chars q.1)) (sym c.index-list-k.is ∙ same) in
+    omega (arith, c.size.ensures, long, c.requires.placed.3)
 
 pub split-first-requires-clause-rest : goal.split-first-requires-clause-rest
 split-first-requires-clause-rest g c =
@@ -55,8 +68,8 @@ returns-clause-edited g c =
     let second = c.split-first.result.1 in
     let parts = parts_are g.R.Run _ r c.args.at first second (ap (λ (q : ℕ × _). q.1) (own ∙ same)) cut.first cut.second cut.fits cut.back in
     let sum = c.plus-gained.ensures in
-    split_is g.R.Run ps k c.args.way.label c.index-list-k.result r lt is c.requires.rising below above c.requires.placed.1 _ c.args.at (c.args.way.most + 1) c.choose-own.result c.free_before-most.result first second c.of-lost.result c.plus-gained.result
-    c.put-tail.ensures.items parts c.choose-own.ensures.above c.choose-own.ensures.within free
+    split_is g.R.Run ps k c.args.way.label c.index-list-k.result r lt is c.requires.rising below above c.requires.placed.1 _ c.args.at (c.args.way.most + 1) c.share-own.result c.free_before-most.result first second c.of-lost.result c.plus-gained.result
+    c.put-tail.ensures.items parts c.share-own.ensures.above c.share-own.ensures.within free
     (c.of-lost.ensures.known ∙ ap (λ (q : ℕ × _). g.R.Run.known q.1) own) (c.of-lost.ensures.prepared ∙ ap (λ (q : ℕ × _). g.R.Run.prepared q.1) own) (c.of-lost.ensures.effect ∙ ap (λ (q : ℕ × _). g.R.Run.effect q.1) own)
     (ap (λ (s : Sums). s.known) sum ∙ ap (λ (n : ℕ). n + c.of-2.result.known) c.of.ensures.known ∙ ap (λ (n : ℕ). g.R.Run.known first + n) c.of-2.ensures.known)
     (ap (λ (s : Sums). s.prepared) sum ∙ ap (λ (n : ℕ). n + c.of-2.result.prepared) c.of.ensures.prepared ∙ ap (λ (n : ℕ). g.R.Run.prepared first + n) c.of-2.ensures.prepared)
