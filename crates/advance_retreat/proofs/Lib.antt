@@ -9,7 +9,6 @@ pub mod ChangedRuns
 pub mod Changing
 pub mod CharLaws
 pub mod CharPlaces
-pub mod Children
 pub mod Counters
 pub mod CutChars
 pub mod CutPairs
@@ -23,11 +22,13 @@ pub mod ExchangedChars
 pub mod FewCalls
 pub mod FewRuns
 pub mod Found
+pub mod Hanging
 pub mod Holding
 pub mod InsertedPairs
 pub mod Inserting
 pub mod JoinedRuns
 pub mod Keeping
+pub mod KnownChanges
 pub mod KnownNodes
 pub mod KnownRuns
 pub mod Lasts
@@ -49,9 +50,13 @@ pub mod Putting
 pub mod Renamed
 pub mod Replaced
 pub mod RightChildren
+pub mod RightCounts
+pub mod RightKeeping
+pub mod RightMoves
 pub mod Room
 pub mod RunChars
 pub mod RunsAt
 pub mod Splits
 pub mod Standings
+pub mod TreeMoves
 pub mod VisiblePlaces

@@ -5,11 +5,7 @@ use Rattle.ew_model.specs.declared.node.Node.{Node}
 use Rattle.ew_model.specs.declared.node.Node.TheVariants.{Root, Base, Event}
 use Rattle.walker_record.specs.Stretches.{Stretch, node_on, first_part, second_part}
 use Rattle.advance_retreat.specs.Loose.{begins_in, ends_in, loose_behind, loose_in, is_one}
-
-on_on : (v : Node) (m n : ℕ) → node_on (node_on v m) n ≡ node_on v (m + n)
-on_on Root m n = refl
-on_on (Base i) m n = let same : i + m + n ≡ i + (m + n) = omega arith in ap Base same
-on_on (Event i) m n = let same : i + m + n ≡ i + (m + n) = omega arith in ap Event same
+use Rattle.advance_retreat.proofs.Places.{on_on}
 
 -- what one run adds
 abbrev pub one_of : Bool → Bool → ℕ

@@ -95,7 +95,7 @@ none_node w e = cc
 
 -- by the position and the node found for it
 module _ (s : Kept) (b : ℕ) (events : List (Applied ℕ)) (prepared : List ℕ) (st : StandsFor s b events prepared) (lv : ℕ) where
-  found_node : (applied : is_applied events lv) → let n = note_named s b events prepared st lv applied in target_at s.targets lv ≡ Some (node_of (notes s b events prepared st) (about n.0.entry))
+  pub found_node : (applied : is_applied events lv) → let n = note_named s b events prepared st lv applied in target_at s.targets lv ≡ Some (node_of (notes s b events prepared st) (about n.0.entry))
   found_node applied = let n = note_named s b events prepared st lv applied in ap (target_at s.targets) (sym n.2) ∙ target_told s b events prepared st n.0 n.1
 
   pub no_target : is_applied events lv → target_at s.targets lv ≡ None → ⊥

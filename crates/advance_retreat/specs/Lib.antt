@@ -6,5 +6,6 @@ pub mod Laid
 pub mod Loose
 pub mod Refusals
 pub mod Replacing
+pub mod Rights
 pub mod Spots
 pub mod Standing

@@ -7,10 +7,12 @@ mod characters;
 mod fault;
 mod labels;
 mod offsets;
+mod rights;
 mod runs;
 mod spot;
 mod state;
 mod target;
+mod tree;
 
 pub use fault::ApplyFault;
 pub use state::State;

@@ -1,11 +1,13 @@
 //! What a new character hangs on.
 
-ghost use Rattle.std.specs.Prelude.{◌≡◌, drop};
-ghost use Rattle.advance_retreat.specs.Spots.{Left, first_known, has_next_base, has_known_right, hold_of};
+ghost use Rattle.std.specs.Prelude.{◌≡◌, ◌||◌, nat_lt};
+ghost use Rattle.advance_retreat.specs.Rights.{counted};
+ghost use Rattle.advance_retreat.specs.Spots.{has_next_base, hold_by};
 
-use crate::characters::{Characters, Gap};
+use crate::characters::Gap;
+use crate::rights::Rights;
 use ew_model::node::Node;
-use fugue_place::{Siblings, Side};
+use fugue_place::Side;
 
 /// The node that a new one becomes a child of, and on which side.
 #[derive(Clone, Copy)]
@@ -16,11 +18,11 @@ pub struct Hold {
 
 /// Where a character goes in this gap: it is a right child of its left neighbour, or a left child of the node that follows in
 /// what is prepared, where that is a right child already.
-pub fn hold_of(base: u32, characters: &Characters, siblings: &Siblings, gap: Gap) -> Hold
-    ensures { (left : Left) → gap.left ≡ left.node → gap.next ≡ first_known (drop left.behind characters.now.records) → result ≡ hold_of base characters.now.records siblings.now left }
+pub fn hold_of(base: u32, rights: &Rights, gap: Gap) -> Hold
+    ensures { result ≡ hold_by (has_next_base base gap.left || nat_lt 0 ((counted rights.now).count gap.left)) gap.next gap.left }
 {
     match gap.next {
-        Some(next) if has_known_right(base, characters, siblings, gap.left) => Hold {
+        Some(next) if has_known_right(base, rights, gap.left) => Hold {
             parent: next,
             side: Side::Left,
         },
@@ -32,10 +34,10 @@ pub fn hold_of(base: u32, characters: &Characters, siblings: &Siblings, gap: Gap
 }
 
 /// Whether the node has a right child in what is prepared.
-fn has_known_right(base: u32, characters: &Characters, siblings: &Siblings, node: Node) -> bool
-    ensures { result ≡ has_known_right base characters.now.records siblings.now node }
+fn has_known_right(base: u32, rights: &Rights, node: Node) -> bool
+    ensures { result ≡ (has_next_base base node || nat_lt 0 ((counted rights.now).count node)) }
 {
-    has_next_base(base, node) || siblings.has_known_right(node, |child| characters.knows(child))
+    has_next_base(base, node) || rights.has_known(node)
 }
 
 /// Whether a base character is the right child of the node.

@@ -8,6 +8,7 @@ ghost use Rattle.ew_model.specs.Places.Act.{InsertAs, DeleteAt};
 ghost use Rattle.ew_model.specs.Tree.{Applied, tree_of};
 ghost use Rattle.ew_model.specs.Records.{next_of, without, prepared_entries, applied_entries};
 ghost use Rattle.walker_record.specs.Stretches.{Stretch};
+ghost use Rattle.fugue_place.specs.Attachments.{is_there, AreAttached};
 ghost use Rattle.advance_retreat.specs.declared.fault.ApplyFault.TheVariants as apply;
 ghost use Rattle.advance_retreat.specs.Kept.{with_lost, with_deletion, target_at, HasRoom};
 ghost use Rattle.advance_retreat.specs.Laid.{records_in};
@@ -17,16 +18,15 @@ ghost use Rattle.advance_retreat.specs.Conditions.{MayInsert, MayDelete, MayAdva
 ghost use Rattle.advance_retreat.specs.Spots.{MayHang, Puts};
 
 use crate::change::Change;
-use crate::characters::Characters;
 use crate::fault::ApplyFault;
-use crate::spot::{Hold, hold_of};
+use crate::spot::Hold;
 use crate::target::Targets;
+use crate::tree::Tree;
 use ew_model::NoMem;
 use ew_model::id::Id;
 use ew_model::node::Node;
 use ew_model::steps::Steps;
 use ew_model::text_op::TextOp;
-use fugue_place::Siblings;
 use std::alloc::{AllocError, Global};
 use std::marker::Model;
 use std::sync::ledger::Ledger;
@@ -37,8 +37,7 @@ const MOST: u32 = 1 << 24;
 /// What a walker knows of the events that it applied over a base: the text that they leave, and the version that is prepared.
 pub struct State {
     base: u32,
-    characters: Characters,
-    siblings: Siblings,
+    tree: Tree,
     targets: Targets,
     lost: u32,
 }
@@ -47,8 +46,7 @@ impl Drop for State {
     fn drop(self) {
         let State {
             base: _,
-            characters: _,
-            siblings: _,
+            tree: _,
             targets: _,
             lost: _,
         } = self;
@@ -61,9 +59,9 @@ impl Model for State {
 
     ghost Value = { Kept };
 
-    ghost view = { λ s. record { base = s.base; records = s.characters.records; attached = s.siblings; targets = s.targets; lost = s.lost } };
+    ghost view = { λ s. record { base = s.base; records = s.tree.records; attached = s.tree.attached; targets = s.targets; lost = s.lost } };
 
-    ghost invariant = { λ s. FewLoose s.targets s.characters.runs s.lost };
+    ghost invariant = { λ s. FewLoose s.targets s.tree.runs s.lost };
 }
 
 impl State {
@@ -79,8 +77,7 @@ impl State {
         }
         Ok(State {
             base: len,
-            characters: Characters::base(alloc, len)?,
-            siblings: Siblings::new(alloc)?,
+            tree: Tree::base(alloc, len)?,
             targets: Targets::new(alloc),
             lost: 0,
         })
@@ -90,14 +87,14 @@ impl State {
     pub fn prepared_len(&self) -> u32
         ensures { (b : ℕ) (events : List (Applied ℕ)) (prepared : List ℕ) → StandsFor self.now b events prepared → result ≡ length (visible (prepared_entries b events prepared)) }
     {
-        self.characters.visible()
+        self.tree.visible()
     }
 
     /// How many characters the text of all applied events has.
     pub fn effect_len(&self) -> u32
         ensures { (b : ℕ) (events : List (Applied ℕ)) (prepared : List ℕ) → StandsFor self.now b events prepared → result ≡ length (visible (applied_entries b events)) }
     {
-        self.characters.shown()
+        self.tree.shown()
     }
 
     /// How many runs of characters are kept: at most one, and two more for each applied event and each lost apply.
@@ -105,7 +102,7 @@ impl State {
         ensures kept { (rs : List Stretch) × (result ≡ length rs) × (self.now.records ≡ records_in rs) }
         ensures few { (b : ℕ) (events : List (Applied ℕ)) (prepared : List ℕ) → StandsFor self.now b events prepared → result ≤ 1 + 2 * (length events + self.now.lost) }
     {
-        self.characters.runs()
+        self.tree.runs()
     }
 
     /// How many applies were refused for want of memory since the state was made or cleared. It stands still at 2^32 - 1.
@@ -166,7 +163,7 @@ impl State {
     {
         // A name has at least one byte.
         let _agent = id.agent.as_slice();
-        let Some(gap) = self.characters.gap_at(at) else {
+        let Some(gap) = self.tree.gap_at(at) else {
             return Err(ApplyFault::OutOfRange {
                 len: self.prepared_len(),
             });
@@ -175,7 +172,7 @@ impl State {
             self.lost = one_more(self.lost);
             return Err(ApplyFault::OutOfMemory);
         }
-        let hold = hold_of(self.base, &self.characters, &self.siblings, gap);
+        let hold = self.tree.hold_of(self.base, gap);
         let at = self.put(lv, id, hold)?;
         Ok(TextOp::Ins { at, ch })
     }
@@ -184,20 +181,15 @@ impl State {
     fn put(&mut self, lv: u32, id: Id, hold: Hold) -> Result<u32, NoMem>
         requires hangs { MayHang self.old lv id hold }
         requires new { target_at self.old.targets lv ≡ None }
+        requires sound { AreAttached [] self.old.attached }
         ensures ok { IfOk result (λ at. Puts self.old self.new lv id hold at) }
         ensures err { OnErr result (self.new ≡ with_lost self.old (one_more self.old.lost)) }
     {
-        let own = Id {
-            agent: id.agent,
-            seq: id.seq,
-        };
-        let place = self.siblings.position(hold.parent, hold.side, own);
         if let Err(e) = self.targets.add(lv, Node::Event(lv)) {
             self.lost = one_more(self.lost);
             return Err(e);
         }
-        let characters = &mut self.characters;
-        match characters.insert(&mut self.siblings, hold, id, lv, place) {
+        match self.tree.insert(hold, id, lv) {
             Ok(at) => Ok(at),
             Err(e) => {
                 self.targets.take_back(lv);
@@ -239,7 +231,7 @@ impl State {
         ensures err { OnErr result (self.new ≡ with_lost self.old self.new.lost) }
         ensures lost { self.new.lost ≡ lost_after result self.old.lost }
     {
-        let Some(deletion) = self.characters.deletion_at(at) else {
+        let Some(deletion) = self.tree.deletion_at(at) else {
             return Err(ApplyFault::OutOfRange {
                 len: self.prepared_len(),
             });
@@ -256,6 +248,9 @@ impl State {
     fn strike(&mut self, lv: u32, node: Node) -> Result<(), NoMem>
         requires room { AllByRecursion HasRoom self.old.records }
         requires new { target_at self.old.targets lv ≡ None }
+        requires few { length self.old.records ≤ 2 ^ 25 }
+        requires sound { AreAttached [] self.old.attached }
+        requires there { is_there self.old.attached node ≡ true }
         ensures ok { OnOk result (self.new ≡ with_deletion self.old lv node) }
         ensures err { OnErr result (self.new ≡ with_lost self.old (one_more self.old.lost)) }
     {
@@ -263,7 +258,7 @@ impl State {
             self.lost = one_more(self.lost);
             return Err(e);
         }
-        match self.characters.change(node, Change::Strike) {
+        match self.tree.change(node, Change::Strike) {
             Ok(()) => Ok(()),
             Err(e) => {
                 self.targets.take_back(lv);
@@ -283,7 +278,7 @@ impl State {
     {
         steps.tick();
         if let Some(node) = self.targets.node(lv) {
-            self.characters.change(node, Change::Raise)?;
+            self.tree.change(node, Change::Raise)?;
         }
         Ok(())
     }
@@ -298,7 +293,7 @@ impl State {
     {
         steps.tick();
         if let Some(node) = self.targets.node(lv) {
-            self.characters.change(node, Change::Lower)?;
+            self.tree.change(node, Change::Lower)?;
         }
         Ok(())
     }

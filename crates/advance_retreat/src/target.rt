@@ -93,7 +93,7 @@ impl Targets {
     }
 }
 
-fn node_at(nodes: &BTreeMap<u32, Node>, lv: u32) -> Option<Node>
+pub fn node_at(nodes: &BTreeMap<u32, Node>, lv: u32) -> Option<Node>
     ensures { result ≡ get nat_cmp nodes.now lv }
 {
     match nodes.get(&lv) {
@@ -102,7 +102,7 @@ fn node_at(nodes: &BTreeMap<u32, Node>, lv: u32) -> Option<Node>
     }
 }
 
-fn keep(nodes: &mut BTreeMap<u32, Node>, lv: u32, node: Node) -> Result<(), NoMem>
+pub fn keep(nodes: &mut BTreeMap<u32, Node>, lv: u32, node: Node) -> Result<(), NoMem>
     ensures ok { OnOk result ((k : ℕ) → get nat_cmp nodes.new k ≡ (if nat_eq lv k then Some node else get nat_cmp nodes.old k)) }
     ensures err { OnErr result ((k : ℕ) → get nat_cmp nodes.new k ≡ get nat_cmp nodes.old k) }
 {
@@ -112,7 +112,7 @@ fn keep(nodes: &mut BTreeMap<u32, Node>, lv: u32, node: Node) -> Result<(), NoMe
     }
 }
 
-fn forget(nodes: &mut BTreeMap<u32, Node>, lv: u32)
+pub fn forget(nodes: &mut BTreeMap<u32, Node>, lv: u32)
     ensures { (k : ℕ) → get nat_cmp nodes.new k ≡ (if nat_eq lv k then None else get nat_cmp nodes.old k) }
 {
     let _ = nodes.remove(&lv);

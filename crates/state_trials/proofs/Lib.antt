@@ -1,1 +1,3 @@
 mod Allowed
+mod LineCalls
+mod Lines

@@ -2,7 +2,7 @@
 
 ghost use Rattle.std.specs.Prelude.{◌≡◌, ◌<◌};
 
-use crate::state_rows;
+use crate::{line_rows, state_rows};
 use ew_model::NoMem;
 use ew_model::steps::Steps;
 use std::alloc::Global;
@@ -72,6 +72,7 @@ fn run_rows<'a, L: Ledger>(
     let (kind, words) = first_word(about);
     match kind {
         "state" => state_rows::run(alloc, words, rows, report, steps),
+        "line" => line_rows::run(alloc, words, rows, report, steps),
         _ => Err(Fault::Unreadable),
     }
 }

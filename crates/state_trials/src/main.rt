@@ -1,8 +1,12 @@
 //! Rows of the state of a walker: carried out, and compared.
 #![tactic(auto)]
 
+mod calls;
 mod conditions;
 mod groups;
+mod line_calls;
+mod line_rows;
+mod series;
 mod state_rows;
 mod told;
 

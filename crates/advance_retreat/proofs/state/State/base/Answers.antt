@@ -8,11 +8,11 @@ use Rattle.advance_retreat.proofs.LooseEvents.{base_few}
 use Rattle.advance_retreat.proofs.state.State.base.Goals as goal
 
 pub invariant_of-result : goal.invariant_of-result
-invariant_of-result c = subst (λ (ts : List Target). FewLoose ts c.in_ok-base.field-0.runs 0) (sym c.new-2.ensures) (base_few c.in_ok-base.field-0.runs c.in_ok-base.ensures.few)
+invariant_of-result c = subst (λ (ts : List Target). FewLoose ts c.in_ok-base.field-0.runs 0) (sym c.new.ensures) (base_few c.in_ok-base.field-0.runs c.in_ok-base.ensures.few)
 
 pub returns-clause-stands : goal.returns-clause-stands
 returns-clause-stands c =
     let len = c.args.len in
     subst (λ (s : Kept). StandsFor s len [] [])
-    (λ i. record { base = len; records = sym c.in_ok-base.ensures.records i; attached = sym c.in_ok-new.ensures i; targets = sym c.new-2.ensures i; lost = 0 })
+    (λ i. record { base = len; records = sym c.in_ok-base.ensures.records i; attached = sym c.in_ok-base.ensures.attached i; targets = sym c.new.ensures i; lost = 0 })
     (base_stands len (omega (arith, c.if-len-gt-MOST.false)))

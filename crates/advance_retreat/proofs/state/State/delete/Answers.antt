@@ -3,12 +3,14 @@ use Rattle.std.proofs.lemmas.Result.{err_from_is_err_and}
 use Rattle.ew_model.specs.Entries.{visible}
 use Rattle.ew_model.specs.Places.Act.{DeleteAt}
 use Rattle.ew_model.specs.Records.{next_of, prepared_entries}
+use Rattle.fugue_place.specs.Attachments.{is_there}
 use Rattle.advance_retreat.specs.declared.fault.ApplyFault.TheVariants.{OutOfMemory}
 use Rattle.advance_retreat.specs.Kept.{Kept, with_deletion, visible_in}
 use Rattle.advance_retreat.specs.Spots.{IsDeletion}
 use Rattle.advance_retreat.specs.Standing.{StandsFor}
 use Rattle.advance_retreat.proofs.Answering.{refused, not_refused, answered}
 use Rattle.advance_retreat.proofs.Found.{new_target}
+use Rattle.advance_retreat.proofs.Hanging.{few_records, visible_there}
 use Rattle.advance_retreat.proofs.Keeping.{has_room, visible_told}
 use Rattle.advance_retreat.proofs.Room.{can_delete}
 use Rattle.advance_retreat.proofs.Deleting.{deleted, deletion_does, in_range}
@@ -40,6 +42,18 @@ strike-requires-clause-room c = let q = c.requires in has_room c.args.self.now q
 
 pub strike-requires-clause-new : goal.strike-requires-clause-new
 strike-requires-clause-new c = let q = c.requires in new_target c.args.self.now q.0 q.1 q.2 q.3 c.args.lv q.4
+
+pub strike-requires-clause-few : goal.strike-requires-clause-few
+strike-requires-clause-few c = let q = c.requires in few_records c.args.self.now q.0 q.1 q.2 q.3
+
+pub strike-requires-clause-sound : goal.strike-requires-clause-sound
+strike-requires-clause-sound c = c.requires.3.children.sound
+
+pub strike-requires-clause-there : goal.strike-requires-clause-there
+strike-requires-clause-there c =
+    let q = c.requires in
+    let f : IsDeletion c.args.self.now.records c.args.at c.in-Some.deletion = subst (λ (s : Kept). IsDeletion s.records c.args.at c.in-Some.deletion) c.self.view_is c.in-Some.ensures.some in
+    ap (is_there c.args.self.now.attached) f.node ∙ visible_there c.args.self.now q.0 q.1 q.2 q.3 c.args.at f.place f.here
 
 -- the record found is the one changed
 found : (c : In_ok-strike) → IsDeletion c.args.self.now.records c.args.at c.in-Some.deletion

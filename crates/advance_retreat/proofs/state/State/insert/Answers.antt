@@ -36,6 +36,9 @@ put-requires-clause-hangs c =
     c.hold_of-hold.ensures gap.left gap.node gap.next ∙ ap (λ (s : Kept). hold_of s.base s.records s.attached gap.left) c.self.view_is in
     asked now q.0 q.1 q.2 q.3 c.args.at gap.left left c.args.lv c.args.id (has_agent c.args.id.agent c.as_slice-agent.ensures.name) (can_insert q.0 q.1 c.args.lv c.args.id q.4 (sym (c.has_room_for_character.ensures q.0 q.1 q.2 q.3) ∙ c.if-not-has_room_for_character.false)) c.hold_of-hold.result hold
 
+pub put-requires-clause-sound : goal.put-requires-clause-sound
+put-requires-clause-sound c = c.requires.3.children.sound
+
 pub put-requires-clause-new : goal.put-requires-clause-new
 put-requires-clause-new c = let q = c.requires in new_target c.args.self.now q.0 q.1 q.2 q.3 c.args.lv q.4.position
 

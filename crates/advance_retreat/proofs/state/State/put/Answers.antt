@@ -14,13 +14,14 @@ invariant_of-self-in-Ok c =
     let ts = inside.targets in
     let t : Target = record { lv = c.args.lv; node = Event c.args.lv } in
     subst (λ (us : List Target). FewLoose us c.insert.new.self.runs inside.lost) (sym c.in_default.ensures.ok)
-    (told_few ts t inside.characters.runs c.insert.new.self.runs inside.lost c.self.invariant (c.in-Ok.ensures.told (is_told (ts ++ t ∷ [])) (last_told ts t)))
+    (told_few ts t inside.tree.runs c.insert.new.self.runs inside.lost c.self.invariant (c.in-Ok.ensures.told (is_told (ts ++ t ∷ [])) (last_told ts t)))
 
 pub returns-in-Ok-clause-ok : goal.returns-in-Ok-clause-ok
 returns-in-Ok-clause-ok c =
     let inside = c.self.inside in
-    let old : Kept = record { base = inside.base; records = inside.characters.records; attached = inside.siblings; targets = inside.targets; lost = inside.lost } in
-    let new : Kept = record { base = inside.base; records = c.insert.new.self.records; attached = c.insert.new.siblings; targets = c.add.new.self; lost = inside.lost } in
+    let old : Kept = record { base = inside.base; records = inside.tree.records; attached = inside.tree.attached; targets = inside.targets; lost = inside.lost } in
+    let tree = c.insert.new.self in
+    let came = c.in-Ok.ensures.comes in
+    let new : Kept = record { base = inside.base; records = tree.records; attached = tree.attached; targets = c.add.new.self; lost = inside.lost } in
     subst (λ (s : Kept). Puts s new c.args.lv c.args.id c.args.hold c.in-Ok.at) c.self.view_is
-    (puts_by old c.insert.new.self.records c.insert.new.siblings c.add.new.self c.args.lv c.args.id c.args.hold c.position-place.result c.in-Ok.at
-    c.position-place.ensures c.in-Ok.ensures.comes c.in-Ok.ensures.attached c.in_default.ensures.ok)
+    (puts_by old tree.records tree.attached c.add.new.self c.args.lv c.args.id c.args.hold came.0 c.in-Ok.at came.1 came.2 c.in-Ok.ensures.attached c.in_default.ensures.ok)

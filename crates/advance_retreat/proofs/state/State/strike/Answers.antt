@@ -10,4 +10,4 @@ invariant_of-self-in-Ok c =
     let ts = inside.targets in
     let t : Target = record { lv = c.args.lv; node = c.args.node } in
     subst (λ (us : List Target). FewLoose us c.change.new.self.runs inside.lost) (sym c.in_default.ensures.ok)
-    (told_few ts t inside.characters.runs c.change.new.self.runs inside.lost c.self.invariant (c.change.ensures.told (is_told (ts ++ t ∷ [])) (last_told ts t)))
+    (told_few ts t inside.tree.runs c.change.new.self.runs inside.lost c.self.invariant (c.change.ensures.told (is_told (ts ++ t ∷ [])) (last_told ts t)))

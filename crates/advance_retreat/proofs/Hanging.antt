@@ -1,0 +1,51 @@
+-- The nodes that a state changes hang in its tree; what a new one hangs on, by the counts of right children.
+use Rattle.std.proofs.Common.{◌≡◌, ℕ, ◌≤◌, ◌^◌, ◌||◌, true, nat_lt, Option, Some, List, length, drop, slice_get, inl, refl, sym, ap, ◌∙◌, subst, arith}
+use Rattle.ew_model.specs.declared.node.Node.{Node}
+use Rattle.ew_model.specs.Sets.{Among}
+use Rattle.ew_model.specs.Tree.{Applied}
+use Rattle.ew_model.proofs.SetLaws.{joined_right}
+use Rattle.walker_record.specs.Stretches.{Stretch}
+use Rattle.fugue_place.specs.declared.child.Attached.{Attached}
+use Rattle.fugue_place.specs.Attachments.{is_there}
+use Rattle.advance_retreat.specs.Kept.{Kept, target_at}
+use Rattle.advance_retreat.specs.Rights.{Counted, AreRights}
+use Rattle.advance_retreat.specs.Spots.{Left, IsVisibleAt, first_known, has_next_base, hold_by, hold_of}
+use Rattle.advance_retreat.specs.Standing.{node_of, kept_record, about, is_applied, StandsFor}
+use Rattle.advance_retreat.proofs.CharLaws.{own_char, char_there}
+use Rattle.advance_retreat.proofs.Cuts.{cut_at}
+use Rattle.advance_retreat.proofs.Keeping.{notes, rs, grown, note_named, records_few}
+use Rattle.advance_retreat.proofs.Moving.{found_node}
+use Rattle.advance_retreat.proofs.Nodes.{about_char, char_cases}
+use Rattle.advance_retreat.proofs.RightMoves.{known_child}
+
+some_node : (v w : Node) → Some v ≡ Some w → v ≡ w
+some_node v w e = cc
+
+module _ (s : Kept) (b : ℕ) (events : List (Applied ℕ)) (prepared : List ℕ) (st : StandsFor s b events prepared) where
+  -- so many characters are kept
+  pub few_records : length s.records ≤ 2 ^ 25
+  few_records = let few = records_few s b events prepared st in omega (arith, few, st.short_base, st.short_history)
+
+  -- what an applied event is about
+  pub target_there : (lv : ℕ) (v : Node) → target_at s.targets lv ≡ Some v → is_applied events lv → is_there s.attached v ≡ true
+  target_there lv v found applied =
+      let ns = notes s b events prepared st in
+      let n = note_named s b events prepared st lv applied in
+      let z = about_char b events ns (grown s b events prepared st) n.0 n.1 in
+      let own : v ≡ node_of ns z.0.id = some_node v (node_of ns (about n.0.entry)) (sym found ∙ found_node s b events prepared st lv applied) ∙ ap (node_of ns) (sym z.2) in
+      ap (is_there s.attached) own ∙ char_there s b events prepared st z.0 (char_cases b events ns (grown s b events prepared st) z.0 z.1)
+
+  -- what is visible
+  pub visible_there : (at k : ℕ) (found : IsVisibleAt s.records at k) → is_there s.attached found.0.from ≡ true
+  visible_there at k found =
+      let ns = notes s b events prepared st in
+      let cut = cut_at (kept_record ns) (rs s b events prepared st) k found.0 (ap (λ (ks : List Stretch). slice_get ks k) (sym st.records) ∙ found.1) in
+      let among : Among cut.here (rs s b events prepared st) = subst (Among cut.here) (sym cut.whole) (joined_right cut.front _ cut.here (inl refl)) in
+      ap (λ (r : Stretch). is_there s.attached r.from) (sym cut.image) ∙ char_there s b events prepared st cut.here.node (own_char s b events prepared st cut.here among)
+
+-- by the counts, a new character hangs where it should
+pub hold_is : (rs : List Stretch) (attached : List Attached) (c : Counted) → AreRights rs attached c → (b : ℕ) (l : Left) (left : Node) (next : Option Node) → left ≡ l.node → next ≡ first_known (drop l.behind rs)
+    → hold_by (has_next_base b left || nat_lt 0 (c.count left)) next left ≡ hold_of b rs attached l
+hold_is rs attached c rights b l left next here behind =
+    (λ i. hold_by (has_next_base b (here i) || nat_lt 0 (c.count (here i))) (behind i) (here i))
+    ∙ ap (λ known. hold_by (has_next_base b l.node || known) (first_known (drop l.behind rs)) l.node) (ap (nat_lt 0) (rights.counts l.node) ∙ known_child rs attached l.node)

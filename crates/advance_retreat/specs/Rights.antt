@@ -1,0 +1,75 @@
+-- How many right children of each node are inserted in what is prepared.
+use Rattle.std.specs.Prelude.{◌≡◌, ℕ, ◌+◌, ◌<◌, ◌≤◌, ◌^◌, Bool, ◌&&◌, if◌then◌else◌, List, filter, length, Option, Some, None, IsSome, unwrap_or}
+use Rattle.std.specs.Ordering.{nat_cmp}
+use Rattle.std.specs.BTreeMap.{get}
+use Rattle.ew_model.specs.declared.node.Node.{Node}
+use Rattle.ew_model.specs.declared.node.Node.TheVariants.{Root, Base, Event}
+use Rattle.ew_model.specs.Sets.{Among}
+use Rattle.walker_record.specs.Stretches.{Stretch}
+use Rattle.fugue_place.specs.declared.child.Attached.{Attached}
+use Rattle.fugue_place.specs.declared.child.Side.TheVariants.{Right as right}
+use Rattle.fugue_place.specs.Neighbours.{is_child, side_eq}
+use Rattle.fugue_place.specs.Spots.{node_cmp}
+use Rattle.advance_retreat.specs.declared.rights.Rights.{Rights}
+use Rattle.advance_retreat.specs.Kept.{knows}
+use Rattle.advance_retreat.specs.Replacing.{one_if}
+
+-- the records of characters, the runs that they are kept in, and the children of the tree's nodes
+pub record InTree : Type 0 where
+  pub records : List Stretch
+  pub runs : List Stretch
+  pub attached : List Attached
+
+-- the parent of each event's node that is a right child, and how many right children of a node are inserted
+pub record Counted : Type 0 where
+  pub parent_at : ℕ → Option Node
+  pub count : Node → ℕ
+
+-- the parent of a node that is a right child
+abbrev pub parent_of : Counted → Node → Option Node
+parent_of c Root = None
+parent_of c (Base i) = None
+parent_of c (Event n) = c.parent_at n
+
+-- how many right children of a node are inserted
+abbrev pub known_right : List Stretch → List Attached → Node → ℕ
+known_right rs attached v = length (filter (λ (a : Attached). is_child v right a && knows rs a.node) attached)
+
+-- a child's parent, where it is a right child
+abbrev pub right_parent : Attached → Option Node
+right_parent a = if side_eq a.side right then Some a.parent else None
+
+-- the parents and the counts are those of the attached children
+pub record AreRights (rs : List Stretch) (attached : List Attached) (c : Counted) : Type 0 where
+  pub parents : (a : Attached) → Among a attached → parent_of c a.node ≡ right_parent a
+  pub counts : (v : Node) → c.count v ≡ known_right rs attached v
+
+-- a count that is kept, or 0
+abbrev pub or_none : Option ℕ → ℕ
+or_none o = unwrap_or o 0
+
+-- what the tables tell
+abbrev pub counted : Rights → Counted
+counted r = record { parent_at = get nat_cmp r.parents; count = λ v. or_none (get node_cmp r.counts v) }
+
+-- each of those parents has a count
+abbrev pub HaveCounts : (ℕ → Option Node) → (Node → Option ℕ) → Type 0
+HaveCounts parent_at count_at = (n : ℕ) (p : Node) → parent_at n ≡ Some p → IsSome (count_at p)
+
+abbrev pub IsWhole : Rights → Type 0
+IsWhole r = HaveCounts (get nat_cmp r.parents) (get node_cmp r.counts)
+
+-- the tables tell of the attached children
+pub record KeepRights (rs : List Stretch) (attached : List Attached) (r : Rights) : Type 0 where
+  pub rights : AreRights rs attached (counted r)
+  pub whole : IsWhole r
+
+-- a node's state came from the first to the second, and only the count of its parent may change
+pub record Shifts (old new : Counted) (v : Node) (was is : Bool) : Type 0 where
+  pub parents : (n : ℕ) → new.parent_at n ≡ old.parent_at n
+  pub own : (p : Node) → parent_of old v ≡ Some p → new.count p + one_if was ≡ old.count p + one_if is
+  pub others : (w : Node) → (parent_of old v ≡ Some w → ⊥) → new.count w ≡ old.count w
+
+-- the count of the parent may change so
+abbrev pub MayShift : Counted → Node → Bool → Bool → Type 0
+MayShift c v was is = (p : Node) → parent_of c v ≡ Some p → (one_if was ≤ c.count p) × (c.count p + one_if is < 2 ^ 32)

@@ -1,0 +1,153 @@
+//! The characters of a state, and the tree that their nodes hang in.
+
+ghost use Rattle.std.specs.Prelude.{◌≡◌, ◌+◌, ◌*◌, ◌<◌, ◌≤◌, ◌^◌, Bool, List, true, false, ◌∷◌, [], ◌++◌, length, map, drop, IfSome, IfNone, IfOk, OnOk, OnErr};
+ghost use Rattle.std.specs.List.{AllByRecursion, list_any};
+ghost use Rattle.ew_model.specs.declared.node.Node.{Node as Nodes};
+ghost use Rattle.ew_model.specs.declared.node.Node.TheVariants as nodes;
+ghost use Rattle.fugue_place.specs.declared.child.Side.TheVariants as sides;
+ghost use Rattle.fugue_place.specs.declared.neighbour.Place.{Place};
+ghost use Rattle.fugue_place.specs.Attachments.{is_attached, is_there, has_id, AreAttached};
+ghost use Rattle.fugue_place.specs.Neighbours.{has_beyond, IsPlaceOfNew};
+ghost use Rattle.advance_retreat.specs.declared.target.Target.{Target};
+ghost use Rattle.advance_retreat.specs.Kept.{is_of, visible_in, shown_in, base_records, changed_at, HasRoom};
+ghost use Rattle.advance_retreat.specs.Laid.{records_in};
+ghost use Rattle.advance_retreat.specs.Loose.{loose_in, is_told};
+ghost use Rattle.advance_retreat.specs.Spots.{Left, IsGap, IsDeletion, Comes, first_known, hold_of};
+
+use crate::change::Change;
+use crate::characters::{Characters, Deletion, Gap};
+use crate::rights::Rights;
+use crate::spot::{Hold, hold_of};
+use ew_model::NoMem;
+use ew_model::id::Id;
+use ew_model::node::Node;
+use fugue_place::Siblings;
+use std::alloc::Global;
+use std::marker::Model;
+
+/// The characters, the tree of their nodes, and how many right children of each node are inserted in what is prepared.
+#[derive(Drop)]
+pub struct Tree {
+    characters: Characters,
+    siblings: Siblings,
+    rights: Rights,
+}
+
+impl Model for Tree {
+    ghost use Rattle.advance_retreat.specs.Rights.{InTree, KeepRights};
+
+    ghost Value = { InTree };
+
+    ghost view = { λ t. record { records = t.characters.records; runs = t.characters.runs; attached = t.siblings } };
+
+    ghost invariant = { λ t. KeepRights t.characters.records t.siblings t.rights };
+}
+
+impl Tree {
+    /// The characters of a base.
+    pub fn base(alloc: Global, len: u32) -> Result<Tree, NoMem>
+        requires { len ≤ 2 ^ 24 }
+        ensures records { IfOk result (λ t. t.records ≡ base_records len) }
+        ensures attached { IfOk result (λ t. t.attached ≡ []) }
+        ensures few { IfOk result (λ t. length t.runs ≤ 1) }
+    {
+        Ok(Tree {
+            characters: Characters::base(alloc, len)?,
+            siblings: Siblings::new(alloc)?,
+            rights: Rights::new(alloc),
+        })
+    }
+
+    /// How many characters are visible in what is prepared.
+    pub fn visible(&self) -> u32
+        ensures { result ≡ visible_in self.now.records }
+    {
+        self.characters.visible()
+    }
+
+    /// How many are in the text.
+    pub fn shown(&self) -> u32
+        ensures { result ≡ shown_in self.now.records }
+    {
+        self.characters.shown()
+    }
+
+    /// How many runs they are kept in: at most two for the character of each of some events, and those that stand apart for none.
+    pub fn runs(&self) -> u32
+        ensures value { result ≡ length self.now.runs }
+        ensures kept { self.now.records ≡ records_in self.now.runs }
+        ensures few { (targets : List Target) → result ≤ loose_in (is_told targets) self.now.runs + 2 * length targets }
+    {
+        self.characters.runs()
+    }
+
+    /// What stands around an index of what is prepared. None where the index is past the end.
+    pub fn gap_at(&self, at: u32) -> Option<Gap>
+        ensures some { IfSome result (IsGap self.now.records at) }
+        ensures none { IfNone result (visible_in self.now.records < at) }
+    {
+        self.characters.gap_at(at)
+    }
+
+    /// What a new character hangs on in this gap, over a base of so many characters.
+    pub fn hold_of(&self, base: u32, gap: Gap) -> Hold
+        ensures { (left : Left) → gap.left ≡ left.node → gap.next ≡ first_known (drop left.behind self.now.records) → result ≡ hold_of base self.now.records self.now.attached left }
+    {
+        hold_of(base, &self.rights, gap)
+    }
+
+    /// The deletion of the character at an index of what is prepared. None where no character is there.
+    pub fn deletion_at(&self, at: u32) -> Option<Deletion>
+        ensures some { IfSome result (IsDeletion self.now.records at) }
+        ensures none { IfNone result (visible_in self.now.records ≤ at) }
+    {
+        self.characters.deletion_at(at)
+    }
+
+    /// Changes the states of a character.
+    pub fn change(&mut self, node: Node, change: Change) -> Result<(), NoMem>
+        requires room { AllByRecursion HasRoom self.old.records }
+        requires few { length self.old.records ≤ 2 ^ 25 }
+        requires sound { AreAttached [] self.old.attached }
+        requires there { is_there self.old.attached node ≡ true }
+        ensures ok { OnOk result (self.new.records ≡ map (changed_at node change) self.old.records) }
+        ensures err { OnErr result (self.new.records ≡ self.old.records) }
+        ensures attached { self.new.attached ≡ self.old.attached }
+        ensures loose { (among : Nodes → Bool) → loose_in among self.new.runs ≤ loose_in among self.old.runs + 2 }
+        ensures told { (among : Nodes → Bool) → among node ≡ true → loose_in among self.new.runs ≤ loose_in among self.old.runs }
+    {
+        let was = self.characters.knows(node);
+        self.characters.change(node, change)?;
+        let is = self.characters.knows(node);
+        self.rights.shift(node, was, is);
+        Ok(())
+    }
+
+    /// Attaches the node of a new event, and puts its character beside its neighbour. Answers its index in the text.
+    pub fn insert(&mut self, hold: Hold, id: Id, lv: u32) -> Result<u32, NoMem>
+        requires parent { is_there self.old.attached hold.parent ≡ true }
+        requires unused { has_id self.old.attached id ≡ false }
+        requires new { is_attached self.old.attached (nodes.Event lv) ≡ false }
+        requires unrecorded { list_any (is_of (nodes.Event lv)) self.old.records ≡ false }
+        requires last { hold.side ≡ sides.Right → has_beyond self.old.attached hold.parent ≡ false }
+        requires room { length self.old.records < 2 ^ 25 }
+        requires sound { AreAttached [] self.old.attached }
+        ensures comes { IfOk result (λ at. (place : Place) × IsPlaceOfNew self.old.attached hold.parent hold.side id place × Comes self.old.records self.new.records place lv at) }
+        ensures attached { OnOk result (self.new.attached ≡ self.old.attached ++ record { parent = hold.parent; side = hold.side; id = id; node = nodes.Event lv } ∷ []) }
+        ensures err { OnErr result (self.new.records ≡ self.old.records) }
+        ensures detached { OnErr result (self.new.attached ≡ self.old.attached) }
+        ensures told { OnOk result ((among : Nodes → Bool) → among (nodes.Event lv) ≡ true → loose_in among self.new.runs ≤ loose_in among self.old.runs) }
+        ensures loose { OnErr result ((among : Nodes → Bool) → loose_in among self.new.runs ≤ loose_in among self.old.runs + 2) }
+    {
+        let own = Id {
+            agent: id.agent,
+            seq: id.seq,
+        };
+        let place = self.siblings.position(hold.parent, hold.side, own);
+        self.rights.note(lv, hold)?;
+        let characters = &mut self.characters;
+        let at = characters.insert(&mut self.siblings, hold, id, lv, place)?;
+        self.rights.shift(Node::Event(lv), false, true);
+        Ok(at)
+    }
+}
