@@ -2,12 +2,14 @@
 use Rattle.std.proofs.Common.{◌≡◌, ℕ, zero, suc, ◌+◌, ◌-◌, ◌*◌, ◌^◌, ◌<◌, ◌≤◌, List, [], ◌∷◌, ◌++◌, length, take, drop, insert, remove, slice_set, slice_index_or, slice_get, Option, Some, None, arith, refl, sym, ap, ◌∙◌, subst, append_assoc, append-nil, length-append, take-append-drop, length-take-le, take_at, drop_at}
 use Rattle.std.proofs.lemmas.List.{take_more}
 use Rattle.std.proofs.lemmas.List.Concat.{flat_map-append}
-use Rattle.std.proofs.lemmas.List.Edits.{insert-append_left, insert-append_right, remove-append_left, remove-append_right}
+use Rattle.std.proofs.lemmas.List.Edits.{remove-append_left, remove-append_right}
 use Rattle.std.proofs.lemmas.List.Sums.{sum_by-cons, sum_by-append}
 use Rattle.std.proofs.Math.Nat.{pow-succ'}
 use Rattle.rope.specs.Nodes.{Seen, all_chars, all_leaves}
 use Rattle.rope.specs.Shape.{IsSound, AllBelow, least}
 use Rattle.rope.specs.Rights.{chars_of_right, IsLike, with_right}
+use Rattle.rope.specs.Typed.{with_more}
+use Rattle.rope.proofs.TypedRuns.{more_inside}
 
 -- it, as a list of branches
 abbrev pub listed : Option Seen → List Seen
@@ -46,27 +48,21 @@ chars_put ks k w right lt =
     ∙ ap (λ (cs : List ℕ). all_chars (take k ks) ++ (w.chars ++ cs)) (all_chars-append (listed right) rest ∙ ap (λ (cs : List ℕ). cs ++ all_chars rest) (chars_of_listed right))
     ∙ ap (λ (cs : List ℕ). all_chars (take k ks) ++ cs) (sym (append_assoc w.chars (chars_of_right right) (all_chars rest)))
 
--- a character put into the middle of three lists, or taken out of it
-insert_inside : (p v q : List ℕ) (rest ch : ℕ) → rest ≤ length v → insert (p ++ (v ++ q)) (length p + rest) ch ≡ p ++ (insert v rest ch ++ q)
-insert_inside p v q rest ch le =
-    let place : length p + rest - length p ≡ rest = omega arith in
-    insert-append_right p (v ++ q) (length p) (length p + rest) ch refl (omega arith)
-    ∙ ap (λ (cs : List ℕ). p ++ cs) (ap (λ (i : ℕ). insert (v ++ q) i ch) place ∙ insert-append_left v q rest ch le)
-
+-- a character taken out of the middle of three lists
 remove_inside : (p v q : List ℕ) (rest : ℕ) → rest < length v → remove (p ++ (v ++ q)) (length p + rest) ≡ p ++ (remove v rest ++ q)
 remove_inside p v q rest lt =
     let place : length p + rest - length p ≡ rest = omega arith in
     remove-append_right p (v ++ q) (length p) (length p + rest) refl (omega arith)
     ∙ ap (λ (cs : List ℕ). p ++ cs) (ap (λ (i : ℕ). remove (v ++ q) i) place ∙ remove-append_left v q rest lt)
 
--- what a character put into branch k does to all of them
-pub grown_chars : (ks : List Seen) (k at rest ch : ℕ) (v w : Seen) (right : Option Seen) → k < length ks → v ≡ slice_index_or ks k v → at ≡ length (all_chars (take k ks)) + rest → rest ≤ length v.chars
-    → w.chars ++ chars_of_right right ≡ insert v.chars rest ch → all_chars (with_right (slice_set ks k w) (k + 1) right) ≡ insert (all_chars ks) at ch
-grown_chars ks k at rest ch v w right lt is place le e =
+-- what more characters put into branch k do to all of them
+pub grown_chars : (ks : List Seen) (k at rest : ℕ) (more : List ℕ) (v w : Seen) (right : Option Seen) → k < length ks → v ≡ slice_index_or ks k v → at ≡ length (all_chars (take k ks)) + rest → rest ≤ length v.chars
+    → w.chars ++ chars_of_right right ≡ with_more v.chars rest more → all_chars (with_right (slice_set ks k w) (k + 1) right) ≡ with_more (all_chars ks) at more
+grown_chars ks k at rest more v w right lt is place le e =
     let p = all_chars (take k ks) in
     let q = all_chars (drop (k + 1) ks) in
-    chars_put ks k w right lt ∙ ap (λ (cs : List ℕ). p ++ (cs ++ q)) e ∙ sym (insert_inside p v.chars q rest ch le)
-    ∙ ap (λ (i : ℕ). insert (p ++ (v.chars ++ q)) i ch) (sym place) ∙ ap (λ (cs : List ℕ). insert cs at ch) (sym (chars_split ks k v lt is))
+    chars_put ks k w right lt ∙ ap (λ (cs : List ℕ). p ++ (cs ++ q)) e ∙ sym (more_inside p v.chars q more rest le)
+    ∙ ap (λ (i : ℕ). with_more (p ++ (v.chars ++ q)) i more) (sym place) ∙ ap (λ (cs : List ℕ). with_more cs at more) (sym (chars_split ks k v lt is))
 
 -- and one taken out of it
 pub less_chars : (ks : List Seen) (k at rest : ℕ) (v w : Seen) → k < length ks → v ≡ slice_index_or ks k v → at ≡ length (all_chars (take k ks)) + rest → rest < length v.chars

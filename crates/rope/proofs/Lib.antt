@@ -3,3 +3,4 @@ pub mod KidLists
 pub mod ShortTexts
 pub mod SoundNodes
 pub mod SpareCounts
+pub mod TypedRuns

@@ -1,5 +1,5 @@
 -- What is short on the way is short at the end; and insertions are counted.
-use Rattle.std.proofs.Common.{◌≡◌, ◌+◌, ◌≤◌, ℕ, Bool, true, false, cond, refl, zero-add, List, [], ◌∷◌, length, drop, slice_index_or, zero, suc, ◌<◌, arith, count_by}
+use Rattle.std.proofs.Common.{◌≡◌, ◌+◌, ◌≤◌, ℕ, Bool, true, false, cond, refl, zero-add, List, [], ◌∷◌, length, count_by}
 use Rattle.std.proofs.lemmas.List.Recursion.{is_count_by}
 use Rattle.ew_model.specs.declared.text_op.TextOp.{TextOp}
 use Rattle.ew_model.specs.Operations.{changed_by, changed_by_all}
@@ -11,15 +11,10 @@ pub short_at_last : (text : List ℕ) (ops : List TextOp) → AllStayShort text 
 short_at_last text [] h = h
 short_at_last text (op ∷ ops) h = short_at_last (changed_by op text) ops h.1
 
-short_first : (text : List ℕ) (ops : List TextOp) → AllStayShort text ops → length text ≤ most_chars
+-- so is the first
+pub short_first : (text : List ℕ) (ops : List TextOp) → AllStayShort text ops → length text ≤ most_chars
 short_first text [] h = h
 short_first text (op ∷ ops) h = h.0
-
--- the text after the next operation is short
-pub short_next : (ops : List TextOp) (i : ℕ) (d : TextOp) (text : List ℕ) → i < length ops → AllStayShort text (drop i ops) → length (changed_by (slice_index_or ops i d) text) ≤ most_chars
-short_next [] i d text lt h = absurd (omega arith)
-short_next (op ∷ ops) zero d text lt h = short_first (changed_by op text) ops h.1
-short_next (op ∷ ops) (suc i) d text lt h = short_next ops i d text (omega arith) h
 
 room_at : (b : Bool) (n : ℕ) → cond b 1 0 + n ≡ cond b (1 + n) n
 room_at true n = refl

@@ -5,4 +5,5 @@ pub mod Lengths
 pub mod Nodes
 pub mod Rights
 pub mod Shape
+pub mod Typed
 pub mod Whole

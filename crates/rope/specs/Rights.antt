@@ -5,6 +5,7 @@ use Rattle.std.specs.declared.alloc.Global.{Global}
 use Rattle.rope.specs.Blocks.{IsRoomy}
 use Rattle.rope.specs.Nodes.{Seen}
 use Rattle.rope.specs.Shape.{IsSound}
+use Rattle.rope.specs.Typed.{with_more}
 
 -- its characters, none where there is none
 abbrev pub chars_of_right : Option Seen → List ℕ
@@ -31,9 +32,9 @@ abbrev pub with_right : List Seen → ℕ → Option Seen → List Seen
 with_right ks at None = ks
 with_right ks at (Some b) = insert ks at b
 
--- a character was put into a branch at an index, which may have been cut in two
-pub record IsGrown (old new : Seen) (right : Option Seen) (at ch : ℕ) : Type 0 where
-  pub chars : new.chars ++ chars_of_right right ≡ insert old.chars at ch
+-- more characters were put into a branch at an index, which may have been cut in two
+pub record IsGrown (old new : Seen) (right : Option Seen) (at : ℕ) (more : List ℕ) : Type 0 where
+  pub chars : new.chars ++ chars_of_right right ≡ with_more old.chars at more
   pub depth : new.depth ≡ old.depth
   pub sound : IsSound new
   pub like : IsLike old.depth right

@@ -5,6 +5,7 @@ ghost use Rattle.rope.specs.Blocks.{IsRoomy};
 ghost use Rattle.rope.specs.Nodes.{all_chars};
 ghost use Rattle.rope.specs.Shape.{AllBelow, IsSound, least};
 ghost use Rattle.rope.specs.Rights.{chars_of_right, IsLike, IsLeft, IsGrown, IsLastOf};
+ghost use Rattle.rope.specs.Typed.{typed};
 
 use crate::halves::{insert_in_leaf, put_kid, settle};
 use crate::kids::{above_kids, kid_at, kid_open, needed, sizes_in};
@@ -12,6 +13,7 @@ use crate::leaf::Leaf;
 use crate::mend::mend;
 use crate::spares::{MOST_KIDS, Spares};
 use ew_model::NoMem;
+use ew_model::text_op::TextOp;
 use std::alloc::Global;
 use std::marker::Model;
 
@@ -183,20 +185,22 @@ impl Branch {
         }
     }
 
-    /// Puts a character at an index. Where the node was full, its second half is the answer. What is wanting for the nodes that are
-    /// cut in two is taken before the first change: so many full nodes stand right above.
+    /// Puts the characters of typed operations in at an index. Where the node was full, its second half is the answer. What is wanting
+    /// for the nodes that are cut in two is taken before the first change: so many full nodes stand right above.
     pub fn insert(
         &mut self,
         at: u32,
-        ch: char,
+        ops: &[TextOp],
         above: u32,
         spares: &mut Spares,
     ) -> Result<Option<Branch>, NoMem>
         requires within { at ≤ length self.old.chars }
         requires sound { IsSound self.old }
-        requires small { length self.old.chars + 1 < 2 ^ 32 }
+        requires small { length self.old.chars + length (typed ops.now) < 2 ^ 32 }
         requires above { above + self.old.depth < 2 ^ 32 }
-        ensures grown { IfOk result (λ right. IsGrown self.old self.new right at ch) }
+        requires some { 0 < length (typed ops.now) }
+        requires few { length ops.now ≤ 32 }
+        ensures grown { IfOk result (λ right. IsGrown self.old self.new right at (typed ops.now)) }
         ensures left { IfOk result (λ right. IsLeft above right spares.new.nodes) }
         ensures err { OnErr result (self.new ≡ self.old) }
         ensures leaves { spares.old.leaves ≤ spares.new.leaves + 1 }
@@ -205,14 +209,14 @@ impl Branch {
     {
         match &mut self.node {
             Node::Leaf(leaf) => {
-                let right = insert_in_leaf(leaf, at, ch, above, spares)?;
+                let right = insert_in_leaf(leaf, at, ops, above, spares)?;
                 self.count = leaf.len();
                 Ok(right)
             }
             Node::Inner(kids) => {
                 let (k, rest) = kid_open(kids.as_slice(), at);
                 let above_kids = above_kids(kids.as_slice(), above);
-                let right = kids[k].insert(rest, ch, above_kids, spares)?;
+                let right = kids[k].insert(rest, ops, above_kids, spares)?;
                 let right = settle(self.depth, kids, k + 1, right, spares);
                 let sizes = sizes_in(self.depth, kids.as_slice());
                 self.count = sizes.chars;

@@ -5,11 +5,14 @@ ghost use Rattle.rope.specs.Blocks.{HasPlace, items_of};
 ghost use Rattle.rope.specs.Nodes.{all_chars};
 ghost use Rattle.rope.specs.Shape.{AllBelow};
 ghost use Rattle.rope.specs.Rights.{chars_of_right, IsLike, with_right, HasSpare, IsLeft};
+ghost use Rattle.rope.specs.Typed.{typed, with_more};
 
 use crate::branch::Branch;
 use crate::leaf::{HALF, Leaf, MOST_CHARS};
 use crate::spares::{MOST_KIDS, Spares};
+use crate::typed::put_typed;
 use ew_model::NoMem;
+use ew_model::text_op::TextOp;
 
 /// Puts a branch into a node of this depth at a place. Where the node is full, its second half goes into the block, and is the answer.
 pub fn put_kid(
@@ -142,17 +145,19 @@ fn move_tail(from: &mut Vec<Branch>, at: usize, to: &mut Vec<Branch>)
     to.reverse();
 }
 
-/// Puts a character into a leaf. Where the leaf is full, its second half is the answer; for it, and for so many full nodes right
-/// above, leaves and blocks are held before the first change.
+/// Puts the characters of typed operations into a leaf. Where there is no room for them, its second half is the answer; for it, and
+/// for so many full nodes right above, leaves and blocks are held before the first change.
 pub fn insert_in_leaf(
     leaf: &mut Leaf,
     at: u32,
-    ch: char,
+    ops: &[TextOp],
     above: u32,
     spares: &mut Spares,
 ) -> Result<Option<Branch>, NoMem>
-    requires { at ≤ length leaf.old }
-    ensures chars { IfOk result (λ right. leaf.new ++ chars_of_right right ≡ insert leaf.old at ch) }
+    requires within { at ≤ length leaf.old }
+    requires typed { 0 < length (typed ops.now) }
+    requires few { length ops.now ≤ 32 }
+    ensures chars { IfOk result (λ right. leaf.new ++ chars_of_right right ≡ with_more leaf.old at (typed ops.now)) }
     ensures some { IfOk result (λ _. 0 < length leaf.new) }
     ensures like { IfOk result (λ right. IsLike 1 right) }
     ensures left { IfOk result (λ right. IsLeft above right spares.new.nodes) }
@@ -161,29 +166,31 @@ pub fn insert_in_leaf(
     ensures nodes { spares.old.nodes ≤ spares.new.nodes }
     ensures sure { 1 ≤ spares.old.leaves → above ≤ spares.old.nodes → IsOk result }
 {
-    if leaf.len() < MOST_CHARS as u32 {
-        leaf.insert(at, ch);
+    if leaf.len() as usize + ops.len() <= MOST_CHARS {
+        put_typed(leaf, at, ops);
         return Ok(None);
     }
     spares.hold(1, above)?;
     let mut tail = spares.take_leaf();
-    insert_halving(leaf, at, ch, &mut tail);
+    insert_halving(leaf, at, ops, &mut tail);
     Ok(Some(Branch::leaf(tail)))
 }
 
-/// Puts a character into a full leaf, whose second half goes into the empty one.
-fn insert_halving(leaf: &mut Leaf, at: u32, ch: char, tail: &mut Leaf)
+/// Puts the characters of typed operations into a leaf whose second half goes into the empty one.
+fn insert_halving(leaf: &mut Leaf, at: u32, ops: &[TextOp], tail: &mut Leaf)
     requires at_most { at ≤ length leaf.old }
-    requires full { length leaf.old ≡ 64 }
+    requires many { 32 < length leaf.old }
+    requires short { length leaf.old ≤ 64 }
+    requires few { length ops.now ≤ 32 }
     requires empty { tail.old ≡ [] }
-    ensures chars { leaf.new ++ tail.new ≡ insert leaf.old at ch }
+    ensures chars { leaf.new ++ tail.new ≡ with_more leaf.old at (typed ops.now) }
     ensures left { 0 < length leaf.new }
     ensures right { 0 < length tail.new }
 {
     leaf.move_half(tail);
     if at <= HALF as u32 {
-        leaf.insert(at, ch);
+        put_typed(leaf, at, ops);
     } else {
-        tail.insert(at - HALF as u32, ch);
+        put_typed(tail, at - HALF as u32, ops);
     }
 }

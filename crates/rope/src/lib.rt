@@ -11,5 +11,6 @@ mod mend;
 mod root;
 mod spares;
 mod text;
+mod typed;
 
 pub use text::{Rope, Shape};

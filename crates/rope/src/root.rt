@@ -1,15 +1,17 @@
 //! Changes of a whole tree, which has no node where there are no characters.
 
-ghost use Rattle.std.specs.Prelude.{◌≡◌, ◌+◌, ◌*◌, ◌^◌, ◌<◌, ◌≤◌, [], ◌++◌, length, insert, remove, IfOk, IsOk, OnOk, OnErr};
-ghost use Rattle.ew_model.specs.Operations.{changed_by, changed_by_all};
-ghost use Rattle.ew_model.specs.TextLaws.{Fits, AllFit};
-ghost use Rattle.rope.specs.Changes.{room_for, room_for_all};
+ghost use Rattle.std.specs.Prelude.{◌≡◌, ◌+◌, ◌*◌, ◌^◌, ◌<◌, ◌≤◌, [], ◌++◌, length, take, remove, IfOk, IsOk, OnOk, OnErr};
+ghost use Rattle.ew_model.specs.Operations.{changed_by_all};
+ghost use Rattle.ew_model.specs.TextLaws.{AllFit};
+ghost use Rattle.rope.specs.Changes.{room_for_all};
 ghost use Rattle.rope.specs.Lengths.{most_chars, AllStayShort};
+ghost use Rattle.rope.specs.Typed.{typed, with_more, IsTyped};
 ghost use Rattle.rope.specs.Whole.{chars_of_root, depth_of, IsRoot, IsRooted};
 ghost use Rattle.rope.specs.Rights.{IsLike, IsLeft, chars_of_right};
 
 use crate::branch::Branch;
 use crate::spares::Spares;
+use crate::typed::{put_typed, typed_length};
 use ew_model::NoMem;
 use ew_model::text_op::TextOp;
 use std::alloc::Global;
@@ -27,17 +29,19 @@ pub fn copy_root(root: &Option<Branch>, alloc: Global) -> Result<Option<Branch>,
     }
 }
 
-/// Puts a character at an index. What is wanting for it is taken before the first change.
-pub fn insert_char(
+/// Puts the characters of typed operations in at an index. What is wanting for them is taken before the first change.
+pub fn insert_typed(
     root: &mut Option<Branch>,
     at: u32,
-    ch: char,
+    ops: &[TextOp],
     spares: &mut Spares,
 ) -> Result<(), NoMem>
     requires within { at ≤ length (chars_of_root root.old) }
-    requires short { length (chars_of_root root.old) < most_chars }
+    requires short { length (chars_of_root root.old) + length (typed ops.now) ≤ most_chars }
+    requires some { 0 < length (typed ops.now) }
+    requires few { length ops.now ≤ 32 }
     requires root { IsRoot root.old }
-    ensures ok { OnOk result (chars_of_root root.new ≡ insert (chars_of_root root.old) at ch) }
+    ensures ok { OnOk result (chars_of_root root.new ≡ with_more (chars_of_root root.old) at (typed ops.now)) }
     ensures err { OnErr result (root.new ≡ root.old) }
     ensures root { IsRoot root.new }
     ensures leaves { spares.old.leaves ≤ spares.new.leaves + 1 }
@@ -45,17 +49,19 @@ pub fn insert_char(
     ensures sure { 1 ≤ spares.old.leaves → 25 ≤ spares.old.nodes → IsOk result }
 {
     let Some(branch) = root else {
-        return plant(root, ch, spares);
+        return plant(root, ops, spares);
     };
-    let right = branch.insert(at, ch, 1, spares)?;
+    let right = branch.insert(at, ops, 1, spares)?;
     raise(root, right, spares);
     Ok(())
 }
 
-/// Puts the first character.
-fn plant(root: &mut Option<Branch>, ch: char, spares: &mut Spares) -> Result<(), NoMem>
-    requires { chars_of_root root.old ≡ [] }
-    ensures ok { OnOk result (chars_of_root root.new ≡ insert [] 0 ch) }
+/// Puts the first characters.
+fn plant(root: &mut Option<Branch>, ops: &[TextOp], spares: &mut Spares) -> Result<(), NoMem>
+    requires none { chars_of_root root.old ≡ [] }
+    requires some { 0 < length (typed ops.now) }
+    requires few { length ops.now ≤ 32 }
+    ensures ok { OnOk result (chars_of_root root.new ≡ with_more [] 0 (typed ops.now)) }
     ensures err { OnErr result (root.new ≡ root.old) }
     ensures root { IsRoot root.old → IsRoot root.new }
     ensures leaves { spares.old.leaves ≤ spares.new.leaves + 1 }
@@ -64,7 +70,7 @@ fn plant(root: &mut Option<Branch>, ch: char, spares: &mut Spares) -> Result<(),
 {
     spares.hold(1, 0)?;
     let mut leaf = spares.take_leaf();
-    leaf.insert(0, ch);
+    put_typed(&mut leaf, 0, ops);
     *root = Some(Branch::leaf(leaf));
     Ok(())
 }
@@ -121,27 +127,6 @@ fn lowered(branch: Branch) -> Option<Branch>
     }
 }
 
-/// Does an operation.
-fn change(root: &mut Option<Branch>, op: TextOp, spares: &mut Spares) -> Result<(), NoMem>
-    requires fits { Fits (length (chars_of_root root.old)) op }
-    requires short { length (changed_by op (chars_of_root root.old)) ≤ most_chars }
-    requires root { IsRoot root.old }
-    ensures ok { OnOk result (chars_of_root root.new ≡ changed_by op (chars_of_root root.old)) }
-    ensures root { IsRoot root.new }
-    ensures leaves { spares.old.leaves ≤ spares.new.leaves + room_for op }
-    ensures nodes { spares.old.nodes ≤ spares.new.nodes + 25 * room_for op }
-    ensures sure { room_for op ≤ spares.old.leaves → 25 * room_for op ≤ spares.old.nodes → IsOk result }
-{
-    match op {
-        TextOp::Ins { at, ch } => insert_char(root, at, ch, spares),
-        TextOp::Del { at } => {
-            remove_char(root, at);
-            Ok(())
-        }
-        TextOp::Nothing => Ok(()),
-    }
-}
-
 /// Does the operations one after another. After a refusal some of them are done.
 pub fn change_all(
     root: &mut Option<Branch>,
@@ -155,8 +140,62 @@ pub fn change_all(
     ensures root { IsRoot root.new }
     ensures sure { room_for_all ops.now ≤ spares.old.leaves → 25 * room_for_all ops.now ≤ spares.old.nodes → IsOk result }
 {
-    for op in ops {
-        change(root, *op, spares)?;
+    let mut rest = ops;
+    while !rest.is_empty() {
+        let many = change_first(root, rest, spares)?;
+        let (_, behind) = rest.split_at(many);
+        rest = behind;
     }
     Ok(())
+}
+
+/// Does the first of the operations, and with an insertion those that type on behind it. Answers how many are done.
+fn change_first(
+    root: &mut Option<Branch>,
+    ops: &[TextOp],
+    spares: &mut Spares,
+) -> Result<usize, NoMem>
+    requires some { 0 < length ops.now }
+    requires fit { AllFit (chars_of_root root.old) ops.now }
+    requires short { AllStayShort (chars_of_root root.old) ops.now }
+    requires root { IsRoot root.old }
+    ensures some { IfOk result (λ n. (1 ≤ n) × (n ≤ length ops.now)) }
+    ensures ok { IfOk result (λ n. chars_of_root root.new ≡ changed_by_all (take n ops.now) (chars_of_root root.old)) }
+    ensures root { IsRoot root.new }
+    ensures leaves { IfOk result (λ n. spares.old.leaves ≤ spares.new.leaves + room_for_all (take n ops.now)) }
+    ensures nodes { IfOk result (λ n. spares.old.nodes ≤ spares.new.nodes + 25 * room_for_all (take n ops.now)) }
+    ensures sure { room_for_all ops.now ≤ spares.old.leaves → 25 * room_for_all ops.now ≤ spares.old.nodes → IsOk result }
+{
+    match ops[0] {
+        TextOp::Ins { at, .. } => change_typed(root, at, ops, spares),
+        TextOp::Del { at } => {
+            remove_char(root, at);
+            Ok(1)
+        }
+        TextOp::Nothing => Ok(1),
+    }
+}
+
+/// Does the insertions that stand first among the operations, each of which types on behind the one before. Answers how many.
+fn change_typed(
+    root: &mut Option<Branch>,
+    at: u32,
+    ops: &[TextOp],
+    spares: &mut Spares,
+) -> Result<usize, NoMem>
+    requires some { 0 < length ops.now }
+    requires first { IsTyped at (take 1 ops.now) }
+    requires fit { AllFit (chars_of_root root.old) ops.now }
+    requires short { AllStayShort (chars_of_root root.old) ops.now }
+    requires root { IsRoot root.old }
+    ensures some { IfOk result (λ n. (1 ≤ n) × (n ≤ length ops.now)) }
+    ensures ok { IfOk result (λ n. chars_of_root root.new ≡ changed_by_all (take n ops.now) (chars_of_root root.old)) }
+    ensures root { IsRoot root.new }
+    ensures leaves { IfOk result (λ n. spares.old.leaves ≤ spares.new.leaves + room_for_all (take n ops.now)) }
+    ensures nodes { IfOk result (λ n. spares.old.nodes ≤ spares.new.nodes + 25 * room_for_all (take n ops.now)) }
+    ensures sure { room_for_all ops.now ≤ spares.old.leaves → 25 * room_for_all ops.now ≤ spares.old.nodes → IsOk result }
+{
+    let many = typed_length(at, ops);
+    insert_typed(root, at, &ops[..many], spares)?;
+    Ok(many)
 }

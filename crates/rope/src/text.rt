@@ -5,10 +5,12 @@ ghost use Rattle.ew_model.specs.Operations.{changed_by_all};
 ghost use Rattle.ew_model.specs.TextLaws.{AllFit};
 ghost use Rattle.rope.specs.Lengths.{most_chars, AllStayShort};
 ghost use Rattle.rope.specs.Changes.{room_for_all};
+ghost use Rattle.rope.specs.Typed.{IsTyped};
 
 use crate::branch::Branch;
-use crate::root::{MOST_BLOCKS, change_all, copy_root, insert_char, remove_char};
+use crate::root::{MOST_BLOCKS, change_all, copy_root, insert_typed, remove_char};
 use crate::spares::Spares;
+use crate::typed::typed_at;
 use ew_model::NoMem;
 use ew_model::text_op::TextOp;
 use std::alloc::Global;
@@ -120,7 +122,7 @@ impl Rope {
         ensures err { OnErr result (self.new ≡ self.old) }
     {
         let mut spares = Spares::new(self.alloc);
-        insert_char(&mut self.root, at, ch, &mut spares)
+        insert_typed(&mut self.root, at, &[TextOp::Ins { at, ch }], &mut spares)
     }
 
     /// Takes the character at the index out.
@@ -140,6 +142,9 @@ impl Rope {
         ensures ok { OnOk result (self.new ≡ changed_by_all ops.now self.old) }
         ensures err { OnErr result (self.new ≡ self.old) }
     {
+        if let Some(at) = typed_at(ops) {
+            return self.change_typed(at, ops);
+        }
         let insertions = count_insertions(ops);
         if insertions <= self.leaves() as usize / FEW_SHARE {
             self.change_here(insertions as u32, ops)
@@ -161,6 +166,21 @@ impl Rope {
 }
 
 impl Rope {
+    /// Puts the characters of typed operations in, by one way down.
+    fn change_typed(&mut self, at: u32, ops: &[TextOp]) -> Result<(), NoMem>
+        requires some { 0 < length ops.now }
+        requires few { length ops.now ≤ 32 }
+        requires typed { IsTyped at ops.now }
+        requires fit { AllFit self.old ops.now }
+        requires short { AllStayShort self.old ops.now }
+        ensures ok { OnOk result (self.new ≡ changed_by_all ops.now self.old) }
+        ensures err { OnErr result (self.new ≡ self.old) }
+    {
+        let mut spares = Spares::new(self.alloc);
+        insert_typed(&mut self.root, at, ops, &mut spares)?;
+        Ok(())
+    }
+
     /// Does operations with few insertions, for all of which leaves and blocks are held first.
     fn change_here(&mut self, insertions: u32, ops: &[TextOp]) -> Result<(), NoMem>
         requires fit { AllFit self.old ops.now }

@@ -35,7 +35,7 @@ impl Beside {
         let mut equal = true;
         for turn in 0..many {
             let put = self.put(way, turn)?;
-            equal = equal && put && self.is_equal_at(turn)?;
+            equal = equal && put && self.is_equal_at(turn, many)?;
         }
         Ok(equal && self.is_equal()?)
     }
@@ -45,7 +45,7 @@ impl Beside {
         let mut equal = true;
         for turn in 0..many {
             let taken = self.take(way, turn)?;
-            equal = equal && taken && self.is_equal_at(turn)?;
+            equal = equal && taken && self.is_equal_at(turn, many)?;
         }
         Ok(equal && self.is_equal()?)
     }
@@ -72,9 +72,9 @@ impl Beside {
         Ok(true)
     }
 
-    /// Whether both are equal, looked at in every hundredth turn.
-    fn is_equal_at(&self, turn: u32) -> Result<bool, NoMem> {
-        if turn % 100 > 0 {
+    /// Whether both are equal, looked at in some thirty turns of so many.
+    fn is_equal_at(&self, turn: u32, many: u32) -> Result<bool, NoMem> {
+        if turn % (many / 30).max(1) > 0 {
             return Ok(true);
         }
         self.is_equal()
