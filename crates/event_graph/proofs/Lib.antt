@@ -7,6 +7,7 @@ pub mod GoingOn
 pub mod Rebuilt
 pub mod Grown
 pub mod Numbers
+pub mod OneHead
 pub mod IdRows
 pub mod Lists
 pub mod Counted

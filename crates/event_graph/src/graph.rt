@@ -20,7 +20,7 @@ ghost use Rattle.event_graph.specs.Rows.{row_in};
 ghost use Rattle.event_graph.specs.Summary.{summary_of};
 
 use crate::ids::{agents, ascend, counts, ids_at, is_among};
-use crate::parts::{append, append_apart};
+use crate::parts::{append, append_apart, only_head};
 use agent_ids::AgentTable;
 use ancestors::{Spans, contains, diff, is_reduced};
 use critical::Cuts;
@@ -40,13 +40,24 @@ const MOST_PARENTS: usize = 16;
 
 /// A history of events, each of which was judged good when it came. Contracts see the list of its events, the oldest
 /// first. A position is a place in that list, from 0.
-#[derive(Drop)]
 pub struct Graph {
     alloc: Global,
     ids: AgentTable,
     events: EventRuns,
     heads: Frontier,
     cuts: Cuts,
+}
+
+impl Drop for Graph {
+    fn drop(self) {
+        let Graph {
+            alloc: _,
+            ids: _,
+            events: _,
+            heads: _,
+            cuts: _,
+        } = self;
+    }
 }
 
 impl Model for Graph {
@@ -346,17 +357,17 @@ impl Graph {
         }
     }
 
-    /// Puts an event behind the others whose parents are all the heads.
+    /// Puts an event behind the others whose parents are all the heads. Then it is the only head.
     fn put_on_heads(&mut self, e: &Event, positions: &[u32]) -> Result<(), NoMem>
         requires good { graph_verdict self.old e.now ≡ Good }
         requires room { length self.old + 1 < 2 ^ 32 }
         requires sound { IsSound e.now }
         requires parents { positions.now ≡ positions_in self.old e.now.parents }
+        requires heads { positions.now ≡ positions_in self.old (model.heads self.old) }
         ensures ok { OnOk result (self.new ≡ self.old ++ e.now ∷ []) }
         ensures err { OnErr result (self.new ≡ self.old) }
     {
-        let mut heads = self.heads.copy()?;
-        heads.insert_event(self.events.count(), positions)?;
+        let heads = only_head(self.alloc, self.events.count())?;
         append(
             &mut self.ids,
             &mut self.events,

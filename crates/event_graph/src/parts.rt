@@ -1,6 +1,6 @@
 //! The parts of a graph, changed together.
 
-ghost use Rattle.std.specs.Prelude.{◌≡◌, ◌+◌, ◌<◌, ◌^◌, List, ℕ, [], ◌∷◌, ◌++◌, length, true, OnOk, OnErr};
+ghost use Rattle.std.specs.Prelude.{◌≡◌, ◌+◌, ◌<◌, ◌^◌, List, ℕ, [], ◌∷◌, ◌++◌, length, true, IfOk, OnOk, OnErr};
 ghost use Rattle.std.specs.List.{All};
 ghost use Rattle.ew_model.specs.Positions.{AreParents, IsHistoryOfParents, frontier_of, is_reduced_at};
 ghost use Rattle.agent_ids.specs.Agents.{count_of};
@@ -13,6 +13,16 @@ use event_runs::EventRuns;
 use ew_model::NoMem;
 use ew_model::event::Event;
 use frontier::Frontier;
+use smallvec::SmallVec;
+use std::alloc::Global;
+
+/// The frontier whose one head stands at a position.
+pub fn only_head(alloc: Global, lv: u32) -> Result<Frontier, NoMem>
+    ensures { IfOk result (λ heads. heads ≡ lv ∷ []) }
+{
+    let heads = SmallVec::from_slice(alloc, &[lv])?;
+    Ok(Frontier::from_rising(heads))
+}
 
 /// Puts one more event behind the others, in each of the parts or in none. `heads` is the frontier so far.
 pub fn append(

@@ -14,6 +14,14 @@ put_on_heads-requires-clause-sound c =
     let kept : IsKeptOf now inside.ids inside.events inside.heads inside.cuts = subst (λ (h : List Event). IsKeptOf h inside.ids inside.events inside.heads inside.cuts) c.self.view_is c.self.invariant in
     next_sound now c.args.e.now kept.sound c.requires.good c.fits.ensures.id c.fits.ensures.op
 
+pub put_on_heads-requires-clause-heads : goal.put_on_heads-requires-clause-heads
+put_on_heads-requires-clause-heads c =
+    let now = c.args.self.now in
+    let inside = c.self.inside in
+    let kept : IsKeptOf now inside.ids inside.events inside.heads inside.cuts = subst (λ (h : List Event). IsKeptOf h inside.ids inside.events inside.heads inside.cuts) c.self.view_is c.self.invariant in
+    let all : inside.heads ≡ positions_in now (heads now) = kept.heads_are ∙ (agreement now inside.ids inside.events inside.heads inside.cuts kept).heads in
+    sym (c.equals.ensures.0 c.if-equals.true) ∙ all
+
 pub put_apart-requires-clause-sound : goal.put_apart-requires-clause-sound
 put_apart-requires-clause-sound c =
     let now = c.args.self.now in

@@ -1,27 +1,17 @@
-use Rattle.std.proofs.Common.{◌≡◌, ◌∙◌, ◌<◌, ◌∷◌, ◌++◌, [], true, List, ℕ, length, sym, ap, subst, All}
+use Rattle.std.proofs.Common.{◌≡◌, ◌∙◌, ◌∷◌, ◌++◌, [], true, List, ℕ, length, sym, ap, subst}
 use Rattle.ew_model.specs.declared.id.Id.{Id}
 use Rattle.ew_model.specs.declared.event.Event.{Event}
 use Rattle.ew_model.specs.Positions.{AreParents, frontier_of, is_reduced_at, positions_in, parent_positions}
-use Rattle.ew_model.proofs.PositionFrontier.{frontier_below}
 use Rattle.agent_ids.specs.Agents.{count_of}
 use Rattle.critical.specs.KeptCuts.{kept_for}
 use Rattle.event_runs.specs.BareEvents.{bare}
 use Rattle.event_graph.specs.Keeping.{IsKeptOf}
 use Rattle.event_graph.proofs.Admitted.{let_in}
 use Rattle.event_graph.proofs.Grown.{grown, told}
+use Rattle.event_graph.proofs.OneHead.{one_head}
 use Rattle.event_graph.proofs.Kept.{agreement, length_events, length_parents, next_parents}
 use Rattle.event_graph.proofs.Numbers.{number_next, numbered_ids}
 use Rattle.event_graph.proofs.graph.Graph.put_on_heads.Goals as goal
-
-pub insert_event-requires : goal.insert_event-requires
-insert_event-requires c =
-    let now = c.args.self.now in
-    let inside = c.self.inside in
-    let kept : IsKeptOf now inside.ids inside.events inside.heads inside.cuts = subst (λ (h : List Event). IsKeptOf h inside.ids inside.events inside.heads inside.cuts) c.self.view_is c.self.invariant in
-    let heads : frontier_of (parent_positions now) ≡ c.in_ok-heads.heads = sym (c.in_ok-heads.ensures ∙ kept.heads_are) in
-    let count : length (parent_positions now) ≡ c.count.result =
-    length_parents now inside.ids inside.events inside.heads inside.cuts kept ∙ sym (c.count.ensures.count ∙ length_events now inside.ids inside.events inside.heads inside.cuts kept) in
-    record { next = subst (λ n. All (λ h. h < n) c.in_ok-heads.heads) count (subst (All (λ h. h < length (parent_positions now))) heads (frontier_below (parent_positions now))) }
 
 pub append-requires-clause-next : goal.append-requires-clause-next
 append-requires-clause-next c =
@@ -41,7 +31,7 @@ append-requires-clause-parents c =
     subst (AreParents (length inside.events)) parents
     (subst (λ n. AreParents n (positions_in now e.parents)) (sym (length_events now inside.ids inside.events inside.heads inside.cuts kept)) (next_parents now e kept.admitted c.requires.good))
 
-whole : (c : goal.Joined-self-heads) → IsKeptOf (c.args.self.now ++ c.args.e.now ∷ []) c.append.new.ids c.append.new.runs c.insert_event.new.self c.append.new.cuts
+whole : (c : goal.Joined-self-heads) → IsKeptOf (c.args.self.now ++ c.args.e.now ∷ []) c.append.new.ids c.append.new.runs c.in_ok-heads.heads c.append.new.cuts
 whole c =
     let now = c.args.self.now in
     let e = c.args.e.now in
@@ -56,17 +46,18 @@ whole c =
     subst (AreParents c.count.result) (sym placed)
     (subst (λ n. AreParents n (positions_in now e.parents)) (sym (count ∙ length_parents now inside.ids inside.events inside.heads inside.cuts kept)) (next_parents now e kept.admitted c.requires.good)) in
     let reduced : is_reduced_at places c.args.positions.now ≡ true = ap (is_reduced_at places) placed ∙ agree.reduced e.parents ∙ (let_in now e c.requires.good).reduced in
-    grown now e c.append.new.ids c.append.new.runs c.insert_event.new.self c.append.new.cuts kept.admitted kept.sound c.requires.good c.requires.sound
+    let all : frontier_of places ≡ positions_in now e.parents = agree.heads ∙ sym c.requires.heads ∙ placed in
+    grown now e c.append.new.ids c.append.new.runs c.in_ok-heads.heads c.append.new.cuts kept.admitted kept.sound c.requires.good c.requires.sound
     (c.in_ok-append.ensures.ids ∙ ap (λ (ids : List Id). ids ++ e.id ∷ []) kept.ids_are)
     (c.in_ok-append.ensures.runs ∙ (λ i. kept.events_are i ++ bare e.op (placed i) ∷ []))
-    (c.in_ok-insert_event.ensures.frontier places agree.parents count next (c.in_ok-heads.ensures ∙ kept.heads_are) ∙ ap (λ (ps : List ℕ). frontier_of (places ++ ps ∷ [])) placed)
+    (c.in_ok-heads.ensures ∙ ap (λ n. n ∷ []) count ∙ sym (one_head places (positions_in now e.parents) agree.parents (subst (λ n. AreParents n (positions_in now e.parents)) count (subst (AreParents c.count.result) placed next)) all))
     (c.in_ok-append.ensures.cuts places agree.parents kept.cuts_are kept.heads_are reduced ∙ ap (λ (ps : List ℕ). kept_for (places ++ ps ∷ [])) placed)
 
 pub invariant_of-self-2 : goal.invariant_of-self-2
 invariant_of-self-2 c =
     let all = whole c in
-    let same = told (c.args.self.now ++ c.args.e.now ∷ []) c.append.new.ids c.append.new.runs c.insert_event.new.self c.append.new.cuts all in
-    subst (λ (h : List Event). IsKeptOf h c.append.new.ids c.append.new.runs c.insert_event.new.self c.append.new.cuts) (sym same) all
+    let same = told (c.args.self.now ++ c.args.e.now ∷ []) c.append.new.ids c.append.new.runs c.in_ok-heads.heads c.append.new.cuts all in
+    subst (λ (h : List Event). IsKeptOf h c.append.new.ids c.append.new.runs c.in_ok-heads.heads c.append.new.cuts) (sym same) all
 
 pub returns-clause-ok : goal.returns-clause-ok
-returns-clause-ok c = told (c.args.self.now ++ c.args.e.now ∷ []) c.append.new.ids c.append.new.runs c.insert_event.new.self c.append.new.cuts (whole c)
+returns-clause-ok c = told (c.args.self.now ++ c.args.e.now ∷ []) c.append.new.ids c.append.new.runs c.in_ok-heads.heads c.append.new.cuts (whole c)
