@@ -1,10 +1,10 @@
 -- Tables of places, as they grow, and the records that are written by them.
-use Rattle.std.proofs.Common.{◌≡◌, ℕ, zero, suc, ◌+◌, ◌<◌, ◌≤◌, Bool, true, false, cond, not, ◌||◌, inl, inr, List, [], ◌∷◌, ◌++◌, length, take, drop, get_or, flat_map, Option, Some, None, All, refl, sym, ap, subst, ◌∙◌, append_assoc, append-nil, arith}
+use Rattle.std.proofs.Common.{◌≡◌, ℕ, zero, suc, ◌+◌, ◌<◌, ◌≤◌, Bool, true, false, cond, not, ◌||◌, inl, inr, List, [], ◌∷◌, ◌++◌, length, take, drop, get_or, map, flat_map, Option, Some, None, All, refl, sym, ap, subst, ◌∙◌, append_assoc, append-nil, arith}
 use Rattle.std.specs.Prelude.{unwrap_or, IsSome}
 use Rattle.std.specs.Cmp.{IsEquivalence}
 use Rattle.std.specs.List.{list_any, list_all, position_or_len, AllByRecursion}
 use Rattle.std.proofs.lemmas.Bool.{cases_Bool, cond-true, cond-false, or_parts, or_left, or_right, and_parts}
-use Rattle.std.proofs.lemmas.List.{map-append, take-append-drop, take_more}
+use Rattle.std.proofs.lemmas.List.{length-map, map-append, take-append-drop, take_more}
 use Rattle.std.proofs.lemmas.List.Elements.{All-from_recursion}
 use Rattle.std.proofs.lemmas.List.Folds.{list_any-append}
 use Rattle.std.proofs.Math.Seq.{drop-cons}
@@ -18,6 +18,7 @@ use Rattle.ew_model.proofs.FileRecords.{names_equal, name_exact, id_eq_exact, pa
 use Rattle.ew_model.proofs.FileEvents.{writable_parts, record_whole, agent_open, agents_few_from, ids_count}
 use Rattle.ew_model.proofs.TextLaws.{ids_equal}
 use Rattle.event_file.specs.Places.{place_in, HasPlaces}
+use Rattle.event_file.specs.Writing.{fields_of}
 
 module _ {X : Type 0} (eq : X → X → Bool) (laws : IsEquivalence eq) (exact : (x y : X) → eq x y ≡ true → x ≡ y) where
   at_end : (xs : List X) (x y : X) → list_any (eq x) xs ≡ false → eq x y ≡ true → position_or_len (eq x) (xs ++ y ∷ []) ≡ length xs
@@ -114,6 +115,17 @@ record_by agents table e =
     ++ four_bytes e.id.seq
     ++ length e.parents ∷ flat_map (by_table table) e.parents
     ++ op_bytes e.op
+
+pub numbered_bytes : (number : Id → ℕ) (ids : List Id) → flat_map four_bytes (map number ids) ≡ flat_map (λ x. four_bytes (number x)) ids
+numbered_bytes number [] = refl
+numbered_bytes number (x ∷ ids) = ap (λ bytes. four_bytes (number x) ++ bytes) (numbered_bytes number ids)
+
+-- the record by the numbers that the table has
+pub fields_by : (agents : List (List ℕ)) (table : Id → Option ℕ) (e : Event) → fields_of (position_or_len (name_eq e.id.agent) agents) e.id.seq (map (λ x. unwrap_or (table x) 0) e.parents) e.op ≡ record_by agents table e
+fields_by agents table e =
+    let number = λ (x : Id). unwrap_or (table x) 0 in
+    ap (λ n. four_bytes (position_or_len (name_eq e.id.agent) agents) ++ four_bytes e.id.seq ++ n ∷ flat_map four_bytes (map number e.parents) ++ op_bytes e.op) (length-map e.parents number)
+    ∙ ap (λ ps. four_bytes (position_or_len (name_eq e.id.agent) agents) ++ four_bytes e.id.seq ++ length e.parents ∷ ps ++ op_bytes e.op) (numbered_bytes number e.parents)
 
 pub record_is : (events : List Event) (i : ℕ) (e : Event) (table : Id → Option ℕ) → IsWritable events → i < length events → e ≡ get_or events i e → HasPlaces id_eq table (ids_of (take i events)) → record_by (agents_of events) table e ≡ record_bytes events e
 record_is events i e table w lt is has =

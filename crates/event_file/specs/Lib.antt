@@ -5,3 +5,4 @@ pub mod Progress
 pub mod Reading
 pub mod Rest
 pub mod SeenIds
+pub mod Writing

@@ -1,9 +1,10 @@
 //! The numbers of agents.
 
-ghost use Rattle.std.specs.Prelude.{◌≡◌, ◌+◌, ◌<◌, ◌^◌, [], true, length, OnOk, IfOk};
+ghost use Rattle.std.specs.Prelude.{◌≡◌, ◌+◌, ◌<◌, ◌^◌, [], true, length, OnOk, OnErr, IfOk};
 ghost use Rattle.std.specs.List.{list_any, position_or_len};
 ghost use Rattle.ew_model.specs.Ids.{name_eq};
-ghost use Rattle.ew_model.specs.File.{with_agent, agents_of};
+ghost use Rattle.ew_model.specs.File.{agents_of};
+ghost use Rattle.event_file.specs.Writing.{with_name};
 
 use ew_model::NoMem;
 use ew_model::event::Event;
@@ -12,9 +13,9 @@ use std::alloc::Global;
 use std::collections::BTreeMap;
 use std::marker::Model;
 
-/// Agents in the order in which they came, each with its place in it. Contracts see the list of names.
+/// Agents in the order in which they came, each with its place in it, from 0. Contracts see the list of names.
 #[derive(Drop)]
-pub(crate) struct Agents {
+pub struct Agents {
     names: Vec<Name>,
     numbers: BTreeMap<Name, u32>,
 }
@@ -35,7 +36,8 @@ impl Model for Agents {
 }
 
 impl Agents {
-    fn new(alloc: Global) -> Agents
+    /// No agents.
+    pub fn new(alloc: Global) -> Agents
         ensures { result ≡ [] }
     {
         Agents {
@@ -51,35 +53,36 @@ impl Agents {
     {
         let mut agents = Agents::new(alloc);
         for event in events {
-            agents.add(event)?;
+            agents.add(&event.id.agent)?;
         }
         Ok(agents)
     }
 
-    /// The agents with that of one more event.
-    fn add(&mut self, event: &Event) -> Result<(), NoMem>
+    /// Puts an agent behind the others, unless it is there.
+    pub fn add(&mut self, name: &Name) -> Result<(), NoMem>
         requires { length self.old < 2 ^ 32 }
-        ensures { OnOk result (self.new ≡ with_agent self.old event.now) }
+        ensures ok { OnOk result (self.new ≡ with_name self.old name.now) }
+        ensures err { OnErr result (self.new ≡ self.old) }
     {
-        let name = event.id.agent;
-        if self.numbers.contains_key(&name) {
+        if self.numbers.contains_key(name) {
             return Ok(());
         }
         let number = self.names.len() as u32;
         self.names.reserve(1)?;
-        self.numbers.insert(name, number)?;
-        self.names.push_reserved(name);
+        self.numbers.insert(*name, number)?;
+        self.names.push_reserved(*name);
         Ok(())
     }
 
-    pub(crate) fn as_slice(&self) -> &[Name]
+    /// The names of the agents, in order.
+    pub fn as_slice(&self) -> &[Name]
         ensures { result.now ≡ self.now }
     {
         self.names.as_slice()
     }
 
-    /// The number of an agent that is there.
-    pub(crate) fn number_of(&self, name: &Name) -> u32
+    /// The place of an agent that is there.
+    pub fn number_of(&self, name: &Name) -> u32
         requires { list_any (name_eq name.now) self.now ≡ true }
         ensures { result ≡ position_or_len (name_eq name.now) self.now }
     {

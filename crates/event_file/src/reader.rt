@@ -60,13 +60,6 @@ impl<'a> EventReader<'a> {
         open_content(alloc, content, digest, max_events)
     }
 
-    /// How many events are still to come, where no fault does.
-    pub fn left(&self) -> u32
-        ensures { result ≡ self.now.records }
-    {
-        self.left
-    }
-
     /// The next event; None behind the last one, where no bytes are left and each agent has an event. After a fault nothing has
     /// changed.
     pub fn next(&mut self) -> Result<Option<Event>, FileFault>

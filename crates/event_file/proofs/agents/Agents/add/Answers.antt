@@ -11,7 +11,7 @@ use Rattle.ew_model.proofs.ListParts.{none_from_is_some}
 pub invariant_of-self-2 : goal.invariant_of-self-2
 invariant_of-self-2 c =
     let i = c.self.inside in
-    let name = c.args.event.now.id.agent in
+    let name = c.args.name.now in
     let table = get (slice_cmp nat_cmp) i.numbers in
     let items = c.push_reserved.ensures.items ∙ ap (λ (xs : List (List ℕ)). xs ++ name ∷ []) c.in_ok-reserve.ensures.items in
     let new = no_place name_eq names_equal name_exact i.names.items name table c.self.invariant (none_from_is_some (table name) (sym c.contains_key.ensures ∙ c.if-contains_key.false)) in

@@ -1,0 +1,18 @@
+-- The bytes of a file as it is written, by numbers.
+use Rattle.std.specs.Prelude.{ℕ, List, ◌∷◌, ◌++◌, [], length, flat_map, if◌then◌else◌, codes}
+use Rattle.std.specs.List.{list_any}
+use Rattle.ew_model.specs.declared.event.Op.{Op}
+use Rattle.ew_model.specs.Ids.{name_eq}
+use Rattle.ew_model.specs.File.{four_bytes, name_bytes, op_bytes}
+
+-- one agent more, where it isn't there yet
+abbrev pub with_name : List (List ℕ) → List ℕ → List (List ℕ)
+with_name agents name = if list_any (name_eq name) agents then agents else agents ++ name ∷ []
+
+-- what stands before so many records of these agents
+abbrev pub start_of : List (List ℕ) → ℕ → List ℕ
+start_of agents count = codes "EGWFILE" ++ 1 ∷ four_bytes (length agents) ++ flat_map name_bytes agents ++ four_bytes count
+
+-- the record of an event with the places of its agent and of its parents
+abbrev pub fields_of : ℕ → ℕ → List ℕ → Op → List ℕ
+fields_of agent seq parents op = four_bytes agent ++ four_bytes seq ++ length parents ∷ flat_map four_bytes parents ++ op_bytes op
