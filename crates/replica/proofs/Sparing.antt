@@ -25,6 +25,7 @@ use Rattle.ew_model.proofs.SetLaws.{joined_left, joined_right}
 use Rattle.ew_model.proofs.SortingLaws.{all_at, all_from}
 use Rattle.ew_model.proofs.VersionLaws.{version_held}
 use Rattle.replica.specs.Sparing.{CutsSpare}
+use Rattle.transform.proofs.Fronts.{own_version}
 
 -- COUNTS OF IDS
 count_next : (b : Bool) (x : Id) (ids : List Id) → length (cond b (x ∷ ids) ids) ≡ cond b 1 0 + length ids
@@ -107,12 +108,6 @@ apart_more : (base ids : List Id) (x : Id) → AreApart base ids → is_among ba
 apart_more base [] x h k = (k, tt)
 apart_more base (y ∷ ids) x h k = (h.0, apart_more base ids x h.1 k)
 
--- what is prepared behind one more event
-last_known : (history : List Event) (e : Event) → is_held history e.id ≡ false → ancestors (history ++ e ∷ []) (e.id ∷ []) ≡ ancestors history e.parents ++ e.id ∷ []
-last_known history e new =
-    ap ids_of (version_events_of_last history e (e.id ∷ []) (or_left (id_eq e.id e.id) false (ids_alike.refl e.id)) ∙ ap (λ (es : List Event). es ++ e ∷ []) (unheld history e.id e.parents new))
-    ∙ map-append (λ (f : Event). f.id) (version_events history e.parents) (e ∷ [])
-
 -- THE COUNT
 spared : (below between later : List Event) (prepared : List Id) → LaidOut [] ((below ++ between) ++ later) → AllKnow below (below ++ between) later → AreApart (ids_of below) prepared
     → touches_after (below ++ between) (ids_of below ++ prepared) later ≡ touches_after between prepared later
@@ -139,14 +134,14 @@ spared below between (e ∷ later) prepared laid know apart =
     let first : difference (base ++ prepared) (ancestors (below ++ between) e.parents) ≡ difference prepared (ids_of behind) =
     ap (difference (base ++ prepared)) over ∙ same_difference base prepared (ids_of behind) apart apart_behind in
     let next : ancestors ((below ++ between) ++ e ∷ []) (e.id ∷ []) ≡ base ++ (ids_of behind ++ e.id ∷ []) =
-    last_known (below ++ between) e new ∙ ap (λ ids. ids ++ e.id ∷ []) over ∙ append_assoc base (ids_of behind) (e.id ∷ []) in
+    own_version (below ++ between) e new ∙ ap (λ ids. ids ++ e.id ∷ []) over ∙ append_assoc base (ids_of behind) (e.id ∷ []) in
     let front : (below ++ between) ++ e ∷ [] ≡ below ++ (between ++ e ∷ []) = append_assoc below between (e ∷ []) in
     let laid_next : LaidOut [] ((below ++ (between ++ e ∷ [])) ++ later) =
     subst (LaidOut []) (sym (append_assoc (below ++ between) (e ∷ []) later) ∙ ap (λ (es : List Event). es ++ later) front) laid in
     let know_next : AllKnow below (below ++ (between ++ e ∷ [])) later = subst (λ (es : List Event). AllKnow below es later) front know.1 in
     let more = spared below (between ++ e ∷ []) later (ids_of behind ++ e.id ∷ []) laid_next know_next (apart_more base (ids_of behind) e.id apart_behind new_below) in
     (λ i. 1 + first i + touches_after (front i) (next i) later)
-    ∙ ap (λ n. 1 + difference prepared (ids_of behind) + n) (more ∙ ap (λ ids. touches_after (between ++ e ∷ []) ids later) (sym (last_known between e new_between)))
+    ∙ ap (λ n. 1 + difference prepared (ids_of behind) + n) (more ∙ ap (λ ids. touches_after (between ++ e ∷ []) ids later) (sym (own_version between e new_between)))
 
 pub cuts_spare : CutsSpare
 unfolding is_critical touches

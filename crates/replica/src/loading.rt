@@ -23,13 +23,23 @@ use std::sync::ledger::Ledger;
 
 /// Events on their way into a replica, so that nobody has to hold them as a list. Contracts see the limits, the events up to
 /// the first that isn't good by its id and its parents, and the verdict on that one.
-#[derive(Drop)]
 pub struct Loading {
     alloc: Global,
     limits: Limits,
     graph: Graph,
     /// The verdict on the first event that wasn't admitted. Nothing is kept of it, nor of those behind it.
     refused: Option<Verdict>,
+}
+
+impl Drop for Loading {
+    fn drop(self) {
+        let Loading {
+            alloc: _,
+            limits: _,
+            graph: _,
+            refused: _,
+        } = self;
+    }
 }
 
 impl Model for Loading {
@@ -88,8 +98,14 @@ impl Loading {
         ensures touches { (events : List Event) → WereGiven events self → steps.new ≤ steps.old + touches events 0 }
     {
         let _most = self.limits.events();
-        let (text, lengths) = load(self.alloc, &self.graph, self.refused, steps)?;
-        let replica = Replica::of_good(self.alloc, self.limits, self.graph, text, lengths)?;
+        let Loading {
+            alloc,
+            limits,
+            graph,
+            refused,
+        } = self;
+        let (text, lengths) = load(alloc, &graph, refused, steps)?;
+        let replica = Replica::of_good(alloc, limits, graph, text, lengths)?;
         Ok(replica)
     }
 }

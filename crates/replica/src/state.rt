@@ -63,7 +63,6 @@ use waiting_pool::Pool;
 const MOST_PARENTS: u32 = 16;
 
 /// The events that one person holds, with their text. Contracts see its limits, the events held and those that wait.
-#[derive(Drop)]
 pub struct Replica {
     alloc: Global,
     limits: Limits,
@@ -73,6 +72,19 @@ pub struct Replica {
     lengths: Vec<u32>,
     /// The events that wait for their parents.
     pool: Pool,
+}
+
+impl Drop for Replica {
+    fn drop(self) {
+        let Replica {
+            alloc: _,
+            limits: _,
+            graph: _,
+            text: _,
+            lengths: _,
+            pool: _,
+        } = self;
+    }
 }
 
 impl Model for Replica {

@@ -90,7 +90,7 @@ prepared_ids front from e low =
     ∙ ap (λ (w : List Event). ancestors (w ++ e ∷ []) (e.id ∷ [])) (take-append-drop from front)
 
 -- the version of the event behind the front: what it was made over, and itself
-own_version : (front : List Event) (e : Event) → is_held front e.id ≡ false → ancestors (front ++ e ∷ []) (e.id ∷ []) ≡ ancestors front e.parents ++ e.id ∷ []
+pub own_version : (front : List Event) (e : Event) → is_held front e.id ≡ false → ancestors (front ++ e ∷ []) (e.id ∷ []) ≡ ancestors front e.parents ++ e.id ∷ []
 own_version front e new =
     ap ids_of (version_events_of_last front e (e.id ∷ []) (itself_named e.id))
     ∙ ids-append (version_events front (e.id ∷ e.parents)) (e ∷ [])
