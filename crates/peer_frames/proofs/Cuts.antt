@@ -18,8 +18,8 @@ use Rattle.peer_frames.specs.Calls.Call.{Feed, Next}
 use Rattle.peer_frames.specs.Reading.{kind_byte, frame_in}
 use Rattle.peer_frames.specs.Laws.{NoFrameBeginsAnother, FrontsAreFound, FrontsAreOne, is_fault, FaultsStay, CutsAreOne, CutsAreFound, ChunkingIsNotSeen, ChunkingsAgree, IsTaken, FramesComeBack}
 use Rattle.peer_frames.proofs.Bodies.{kind_at, frame_some, frame_back}
-use Rattle.peer_frames.proofs.Fields.{some_is}
 use Rattle.peer_frames.proofs.Heads.{HeadSays, IsThere, head_says, Grows, grows, head_spelled}
+use Rattle.ew_model.proofs.FileLists.{some_is}
 
 -- ---- one front
 
@@ -178,10 +178,10 @@ faults_stay limits bytes more BadBody fault t = finds_more limits bytes more Bad
 
 -- ---- frames
 
-end_is_not : (f : Frame) (rest : List ℕ) (end : Front) → Whole f rest ≡ end → is_whole end ≡ false → ⊥
+pub end_is_not : (f : Frame) (rest : List ℕ) (end : Front) → Whole f rest ≡ end → is_whole end ≡ false → ⊥
 end_is_not f rest end e h = absurd (let t : true ≡ false = ap is_whole e ∙ h in cc)
 
-whole_parts : (f g : Frame) (r s : List ℕ) → Whole f r ≡ Whole g s → (f ≡ g) × (r ≡ s)
+pub whole_parts : (f g : Frame) (r s : List ℕ) → Whole f r ≡ Whole g s → (f ≡ g) × (r ≡ s)
 whole_parts f g r s e = (cc, cc)
 
 pub cuts_are_one : CutsAreOne
@@ -284,7 +284,7 @@ finds_spelled : (limits : LimitNumbers) (f : Frame) (rest : List ℕ) → IsTake
 finds_spelled limits f rest h =
     subst (λ g. Tells g (Whole f rest)) (sym (head_spelled limits f rest h.spelled.body h.short)) (record { sound = h.sound; spelled = h.spelled; kind = refl; bytes = refl }, refl)
 
-finds_nothing : (limits : LimitNumbers) → Finds limits [] Partial
+pub finds_nothing : (limits : LimitNumbers) → Finds limits [] Partial
 unfolding head_of
 finds_nothing limits = tt
 

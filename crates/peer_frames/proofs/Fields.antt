@@ -11,9 +11,7 @@ use Rattle.ew_model.specs.FileLaws.{AreBytes}
 use Rattle.ew_model.proofs.FileFields.{Takes, Takes-then, byte_takes, number_takes, number_again, name_takes, name_again, op_takes, op_again}
 use Rattle.peer_frames.specs.Spelling.{id_bytes}
 use Rattle.peer_frames.specs.Reading.{Reader, done, go_on, one_byte, one_number, one_name, one_operation, one_id}
-
-pub some_is : {A : Type 0} (x y : A) → Some x ≡ Some y → x ≡ y
-some_is x y e = cc
+use Rattle.ew_model.proofs.FileLists.{some_is}
 
 pub ok_is : {T E : Type 0} (r : Result T E) (y : T) → result_ok r ≡ Some y → r ≡ Ok y
 ok_is (Ok x) y e = ap Ok (some_is x y e)

@@ -3,7 +3,8 @@ use Rattle.std.proofs.Common.{◌≡◌, ℕ, zero, suc, List, [], ◌∷◌, �
 use Rattle.ew_model.specs.FileLaws.{AreBytes}
 use Rattle.ew_model.proofs.FileFields.{Takes, Takes-then}
 use Rattle.peer_frames.specs.Reading.{Reader, go_on}
-use Rattle.peer_frames.proofs.Fields.{some_is, go_some}
+use Rattle.peer_frames.proofs.Fields.{go_some}
+use Rattle.ew_model.proofs.FileLists.{some_is}
 
 -- each may stand behind those before it
 abbrev pub AllBehind : {A : Type 0} → (List A → A → Type 0) → List A → List A → Type 0
