@@ -1,7 +1,8 @@
-//! Laws on where receiving stops between two judgements: what is held, which events were judged, and which are still to come.
+//! Laws on receiving events: what stands where it stops between two judgements, and which events may be left out.
 #![tactic(auto)]
 
 ghost use Rattle.arrival_laws.specs.Accounts.{EachHasOneLastAnswer, JudgementsAccountForAll};
+ghost use Rattle.arrival_laws.specs.Repeats.{HeldEventsChangeNothing};
 
 /// The events answered Good, in order, stand behind the old history. Each received event was judged once as it came, in order, or
 /// is still to come. Each that waited, or was told to, was judged once after that, with another answer, or still waits. There are
@@ -13,4 +14,10 @@ pub fn law_accounts()
 /// Each event that waited and each that was received has one last answer, or waits, or is still to come.
 pub fn law_last_answers()
     ensures { EachHasOneLastAnswer }
+{}
+
+/// Where no waiting event is ready, receiving only those events whose ids aren't held leaves the same events held, and the same
+/// waiting, as receiving all, and takes as many touches at most.
+pub fn law_held()
+    ensures { HeldEventsChangeNothing }
 {}

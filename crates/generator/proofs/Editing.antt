@@ -1,19 +1,21 @@
 -- A peer's edit: nobody waits for its agent's events, it is a step of the making, and the peers are peers behind it.
-use Rattle.std.proofs.Common.{◌≡◌, ℕ, zero, suc, ◌<◌, ◌%◌, Bool, true, false, not, ◌&&◌, inl, List, [], ◌∷◌, ◌++◌, length, set, Ok, Err, arith, refl, sym, ap, ◌∙◌, subst}
-use Rattle.std.specs.List.{list_any, AllByRecursion}
+use Rattle.std.proofs.Common.{◌≡◌, ℕ, zero, suc, ◌<◌, ◌%◌, Bool, true, false, not, ◌&&◌, ◌||◌, inl, List, [], ◌∷◌, ◌++◌, length, set, Ok, Err, arith, refl, sym, ap, ◌∙◌, subst}
+use Rattle.std.specs.List.{list_all, list_any, AllByRecursion}
 use Rattle.std.proofs.lemmas.Bool.{false≢true, or_from}
 use Rattle.ew_model.specs.declared.id.Id.{Id}
 use Rattle.ew_model.specs.declared.event.Op.{Op}
 use Rattle.ew_model.specs.declared.event.Event.{Event}
 use Rattle.ew_model.specs.Ancestors.{heads, is_held}
 use Rattle.ew_model.specs.Edits.{edit_refusal, events_of_edit, events_of_ops}
-use Rattle.ew_model.specs.Ids.{name_eq}
+use Rattle.ew_model.specs.ArrivalLaw.{NoneReady}
+use Rattle.ew_model.specs.Ids.{id_eq, name_eq}
 use Rattle.ew_model.specs.Kept.{ReplicaState, is_awaited}
 use Rattle.ew_model.specs.Texts.{text_of}
 use Rattle.ew_model.proofs.CoverLaws.{event_of, held_of}
 use Rattle.ew_model.proofs.EditEvents.{event_by}
 use Rattle.ew_model.proofs.EditHeads.{head_held}
-use Rattle.ew_model.proofs.IdLaws.{is_same_id}
+use Rattle.ew_model.proofs.KeptLaws.{held_joined}
+use Rattle.ew_model.proofs.IdLaws.{is_same_id, names_equal}
 use Rattle.ew_model.proofs.PathOrder.{id_total}
 use Rattle.ew_model.proofs.SetLaws.{joined_right}
 use Rattle.ew_model.proofs.SortingLaws.{all_at, all_from, sort_among}
@@ -26,8 +28,9 @@ use Rattle.generator.specs.Making.{Made, Making, agent_of, edit_step, edited, ed
 use Rattle.generator.specs.Making.Made.{Going, Stopped}
 use Rattle.generator.specs.Owning.{ArePeers, IsOwned, NamesOwned}
 use Rattle.generator.proofs.Drawing.{one_op}
-use Rattle.generator.proofs.Growing.{all_joined, held_more}
+use Rattle.generator.proofs.Growing.{held_more}
 use Rattle.generator.proofs.Owned.{here, names_more, owned_more, replaced, within}
+use Rattle.ew_model.proofs.EntryLaws.{all_joined}
 
 -- nobody waits for an event of the agent's own that its peer doesn't hold
 all_fail : {X : Type 0} (p : X → Bool) (P : X → Type 0) → ((x : X) → P x → p x ≡ false) → (xs : List X) → AllByRecursion P xs → list_any p xs ≡ false
@@ -111,6 +114,32 @@ held_owned peers events x all held =
     let same : x ≡ found.0.id = (is_same_id x found.0.id).0 found.2 in
     subst (IsOwned peers) (sym same) (all_at (NamesOwned peers) events found.0 all found.1).0
 
+-- an event of a peer's own agent makes none ready that waits there
+still_waits : (peers : List ReplicaState) (n : ℕ) (held : List Event) (e : Event) → n < 3 → held ≡ (peer_at peers n).held → name_eq e.id.agent (agent_of n) ≡ true → (ids : List Id) → AllByRecursion (IsOwned peers) ids
+    → list_all (is_held held) ids ≡ false → list_all (is_held (held ++ e ∷ [])) ids ≡ false
+still_waits peers n held e less is named [] owned h = h
+still_waits peers n held e less is named (x ∷ ids) (own, owned) h =
+    ap (λ b. b && list_all (is_held (held ++ e ∷ [])) ids) not_new ∙ rest (is_held held x) (still_waits peers n held e less is named ids owned) h
+  where
+    either : (b c : Bool) → is_held held x ≡ b → id_eq x e.id ≡ c → (b || (c || false)) ≡ b
+    either true c h k = refl
+    either false false h k = refl
+    either false true h k = absurd (false≢true (sym h ∙ ap (λ xs. is_held xs x) is ∙ own n less (ap (λ (y : Id). name_eq y.agent (agent_of n)) ((is_same_id x e.id).0 k) ∙ named)))
+
+    not_new : is_held (held ++ e ∷ []) x ≡ is_held held x
+    not_new = let same : (is_held held x || (id_eq x e.id || false)) ≡ is_held held x = either (is_held held x) (id_eq x e.id) refl refl in held_joined held (e ∷ []) x ∙ same
+
+    rest : (b : Bool) → (list_all (is_held held) ids ≡ false → list_all (is_held (held ++ e ∷ [])) ids ≡ false) → (b && list_all (is_held held) ids) ≡ false
+        → (b && list_all (is_held (held ++ e ∷ [])) ids) ≡ false
+    rest true f h = f h
+    rest false f h = refl
+
+none_ready_more : (peers : List ReplicaState) (n : ℕ) (held : List Event) (e : Event) → n < 3 → held ≡ (peer_at peers n).held → name_eq e.id.agent (agent_of n) ≡ true → (waiting : List Event)
+    → AllByRecursion (NamesOwned peers) waiting → NoneReady held waiting → NoneReady (held ++ e ∷ []) waiting
+none_ready_more peers n held e less is named [] names none = tt
+none_ready_more peers n held e less is named (w ∷ waiting) (own, names) (none, others) =
+    (still_waits peers n held e less is named w.parents own.1 none, none_ready_more peers n held e less is named waiting names others)
+
 -- the peers are peers behind an edit
 pub edit_kept : (peers : List ReplicaState) (n x len : ℕ) (p new : ReplicaState) → n < 3 → ArePeers peers → p ≡ peer_at peers n → new ≡ edited_peer p (agent_of n) (drawn_edit x len).edit → ArePeers (set peers n new)
 edit_kept peers n x len p new less are is edits =
@@ -131,4 +160,5 @@ edit_kept peers n x len p new less are is edits =
     (replaced peers n next less are more (record {
       held = all_joined (NamesOwned (set peers n next)) q.held (e ∷ []) (older q.held own.held) ((itself, parents), tt);
       waiting = older q.waiting own.waiting;
+      settled = none_ready_more peers n q.held e less refl (names_equal.refl (agent_of n)) q.waiting own.waiting own.settled;
     }))

@@ -10,6 +10,7 @@ use Rattle.ew_model.specs.Verdicts.{Ruling, first_row, later_rows, verdict}
 use Rattle.ew_model.specs.Verdicts.Ruling.{Repeat, Clash, SelfParent, TooManyParents, ParentsUnsorted, Unknown, PoolFull, NotReduced, Skipped, GraphFull, OutOfRange, Good}
 use Rattle.ew_model.specs.Arrival.{Desk, Judgement, Outcome, is_ready, without_ready, at_the_pool, desk_after, judgement_of, judge_coming, judge_ready, next_judgement, judgements, with_answer}
 use Rattle.ew_model.proofs.KeptLaws.{held_joined}
+use Rattle.ew_model.proofs.EntryLaws.{all_joined}
 
 pub record KnowsDesk (P : Event → Type 0) (d : Desk) : Type 0 where
   pub held : AllByRecursion P d.held
@@ -18,10 +19,6 @@ pub record KnowsDesk (P : Event → Type 0) (d : Desk) : Type 0 where
 
 abbrev pub HoldsMore : List Event → List Event → Type 0
 HoldsMore old new = (x : Id) → is_held old x ≡ true → is_held new x ≡ true
-
-pub all_joined : {X : Type 0} (P : X → Type 0) (xs ys : List X) → AllByRecursion P xs → AllByRecursion P ys → AllByRecursion P (xs ++ ys)
-all_joined P [] ys a b = b
-all_joined P (x ∷ xs) ys (p, ps) b = (p, all_joined P xs ys ps b)
 
 pub held_more : (xs ys : List Event) → HoldsMore xs (xs ++ ys)
 held_more xs ys x h = held_joined xs ys x ∙ ap (λ b. b || is_held ys x) h

@@ -5,3 +5,4 @@ pub mod Growing
 pub mod Owned
 pub mod Steps
 pub mod Touching
+pub mod Missing

@@ -6,9 +6,13 @@ use Rattle.ew_model.specs.declared.id.Id.{Id}
 use Rattle.ew_model.specs.declared.event.Event.{Event}
 use Rattle.ew_model.specs.Ancestors.{is_held}
 use Rattle.ew_model.specs.Arrival.{arrive, desk_of, most_judgements}
+use Rattle.ew_model.specs.ArrivalLaw.{NoneReady}
 use Rattle.ew_model.specs.Kept.{ReplicaState}
 use Rattle.ew_model.specs.Limits.{program_limits}
 use Rattle.replica.specs.Receiving.{state_at}
+use Rattle.arrival_laws.specs.Repeats.{without_held}
+use Rattle.arrival_laws.proofs.Repeats.{held_events_change_nothing}
+use Rattle.arrival_laws.proofs.Settling.{none_ready_behind}
 use Rattle.generator.specs.Making.{gives, newcomer, peer_at}
 use Rattle.generator.specs.Owning.{ArePeers, HasOwned, IsOwned, NamesOwned}
 use Rattle.generator.proofs.Growing.{HoldsMore, judgements_grow}
@@ -56,6 +60,7 @@ replaced peers n p less are more has = record {
       (λ ne. subst (HasOwned (set peers n p)) (sym (elsewhere peers n m p ne)) (record {
         held = names_more peers n p less are.three more (peer_at peers m).held (are.own m small).held;
         waiting = names_more peers n p less are.three more (peer_at peers m).waiting (are.own m small).waiting;
+        settled = (are.own m small).settled;
       }))
       (equal_or_not m n);
 }
@@ -71,6 +76,7 @@ given peers giver taker first second are =
     replaced peers taker _ second are grown.1 (record {
       held = names_more peers taker _ second are.three grown.1 _ grown.0.held;
       waiting = names_more peers taker _ second are.three grown.1 _ grown.0.waiting;
+      settled = none_ready_behind p.limits p.held p.waiting (peer_at peers giver).held own.settled;
     })
 
 -- what stands at a peer's place
@@ -78,10 +84,13 @@ pub read : (peers : List ReplicaState) (n : ℕ) (q : ReplicaState) → n < 3 �
 unfolding peer_at
 read peers n q less three is = is ∙ get_or_default peers n q (newcomer program_limits) (within peers n less three)
 
--- the taker stands for what it comes to
-pub gift : (peers : List ReplicaState) (giver taker : ℕ) (p q new : ReplicaState) (events : List Event) → p ≡ peer_at peers taker → q ≡ peer_at peers giver → events ≡ q.held
-    → new ≡ state_at p.limits (arrive p.limits p.held p.waiting events) → set peers taker new ≡ gives giver taker peers
+-- the taker stands for what it comes to by the events that it didn't hold
+pub gift : (peers : List ReplicaState) (giver taker : ℕ) (p new : ReplicaState) (events : List Event) → NoneReady (peer_at peers taker).held (peer_at peers taker).waiting → p ≡ peer_at peers taker
+    → events ≡ without_held (peer_at peers taker).held (peer_at peers giver).held → new ≡ state_at p.limits (arrive p.limits p.held p.waiting events) → set peers taker new ≡ gives giver taker peers
 unfolding gives
-gift peers giver taker p q new events first second all is =
-    let held : events ≡ (peer_at peers giver).held = all ∙ ap (λ (r : ReplicaState). r.held) second in
-    ap (set peers taker) is ∙ (λ i. set peers taker (state_at (first i).limits (arrive (first i).limits (first i).held (first i).waiting (held i))))
+gift peers giver taker p new events none is few comes =
+    let q = peer_at peers taker in
+    let same = held_events_change_nothing q.limits q.held q.waiting (peer_at peers giver).held none in
+    ap (set peers taker) comes
+    ∙ (λ i. set peers taker (state_at (is i).limits (arrive (is i).limits (is i).held (is i).waiting (few i))))
+    ∙ (λ i. set peers taker (record { limits = q.limits; held = same.held i; waiting = same.waits i }))

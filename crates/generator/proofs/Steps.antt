@@ -22,9 +22,9 @@ newcomers limits = newcomer limits ∷ newcomer limits ∷ newcomer limits ∷ [
 
 none_known : (limits : LimitNumbers) (n : ℕ) → n < 3 → HasOwned (newcomers limits) (peer_at (newcomers limits) n)
 unfolding peer_at
-none_known limits zero h = record { held = tt; waiting = tt }
-none_known limits (suc zero) h = record { held = tt; waiting = tt }
-none_known limits (suc (suc zero)) h = record { held = tt; waiting = tt }
+none_known limits zero h = record { held = tt; waiting = tt; settled = tt }
+none_known limits (suc zero) h = record { held = tt; waiting = tt; settled = tt }
+none_known limits (suc (suc zero)) h = record { held = tt; waiting = tt; settled = tt }
 none_known limits (suc (suc (suc n))) h = absurd (omega (arith, h))
 
 pub none_made : (limits : LimitNumbers) (seed : ℕ) (peers : List ReplicaState) → peers ≡ newcomers limits → HaveMade limits seed 0 seed peers

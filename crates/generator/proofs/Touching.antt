@@ -1,12 +1,15 @@
 -- The touches of a making add up over its steps.
-use Rattle.std.proofs.Common.{◌≡◌, ◌≤◌, ◌<◌, ℕ, zero, suc, ◌+◌, ◌-◌, ◌%◌, ◌/◌, List, cond, arith, refl, sym, ap, ◌∙◌, subst, add-one, zero-add}
+use Rattle.std.proofs.Common.{◌≡◌, ◌≤◌, ℕ, zero, suc, ◌+◌, ◌-◌, ◌%◌, ◌/◌, List, cond, arith, ap, ◌∙◌, subst, add-one, zero-add}
 use Rattle.std.proofs.lemmas.Bool.{eq-eqb, ne_eqb}
 use Rattle.ew_model.specs.declared.event.Event.{Event}
+use Rattle.ew_model.specs.ArrivalLaw.{NoneReady}
 use Rattle.ew_model.specs.Kept.{ReplicaState}
 use Rattle.ew_model.specs.Limits.{LimitNumbers}
 use Rattle.ew_model.specs.Rounds.{most_touches}
-use Rattle.generator.specs.Making.{Made, edit_step, gives, made_steps, peer_at}
-use Rattle.generator.specs.Making.Made.{Going, Stopped}
+use Rattle.arrival_laws.specs.Repeats.{without_held}
+use Rattle.arrival_laws.proofs.Repeats.{held_events_change_nothing}
+use Rattle.generator.specs.Making.{Made, edit_step, gives, peer_at}
+use Rattle.generator.specs.Making.Made.{Going}
 use Rattle.generator.specs.Touches.{end_touches, gift_touches, made_touches, rounding_touches, step_touches, steps_touches, turn_touches}
 use Rattle.generator.specs.Owning.{ArePeers}
 use Rattle.generator.proofs.Steps.{HaveMade, made_between, made_turn}
@@ -19,13 +22,14 @@ pub record HasGone (limits : LimitNumbers) (seed t state : ℕ) (peers : List Re
 pub none_gone : (limits : LimitNumbers) (seed state n : ℕ) (peers : List ReplicaState) → HaveMade limits seed 0 state peers → HasGone limits seed 0 state peers n n
 none_gone limits seed state n peers made = record { made = made; most = omega arith }
 
--- what receiving takes, where the peers and the events are read
-pub gift_most : (peers : List ReplicaState) (giver taker before now : ℕ) (p q : ReplicaState) (events : List Event) → p ≡ peer_at peers taker → q ≡ peer_at peers giver → events ≡ q.held
-    → now ≤ before + most_touches p.limits p.held p.waiting events → now ≤ before + gift_touches giver taker peers
+-- what receiving takes, by the events that the taker didn't hold
+pub gift_most : (peers : List ReplicaState) (giver taker before now : ℕ) (p : ReplicaState) (events : List Event) → NoneReady (peer_at peers taker).held (peer_at peers taker).waiting → p ≡ peer_at peers taker
+    → events ≡ without_held (peer_at peers taker).held (peer_at peers giver).held → now ≤ before + most_touches p.limits p.held p.waiting events → now ≤ before + gift_touches giver taker peers
 unfolding gift_touches
-gift_most peers giver taker before now p q events first second all most =
-    let held : events ≡ (peer_at peers giver).held = all ∙ ap (λ (r : ReplicaState). r.held) second in
-    subst (λ n. now ≤ before + n) (λ i. most_touches (first i).limits (first i).held (first i).waiting (held i)) most
+gift_most peers giver taker before now p events none is few most =
+    let q = peer_at peers taker in
+    let same = held_events_change_nothing q.limits q.held q.waiting (peer_at peers giver).held none in
+    subst (λ n. now ≤ before + n) ((λ i. most_touches (is i).limits (is i).held (is i).waiting (few i)) ∙ same.touches) most
 
 -- the touches of the step behind these
 one_more : (limits : LimitNumbers) (seed t state after : ℕ) (peers next : List ReplicaState) → HaveMade limits seed t state peers → edit_step (record { state = state; peers = peers }) ≡ Going (record { state = after; peers = next })

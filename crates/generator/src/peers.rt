@@ -4,6 +4,7 @@ ghost use Rattle.std.specs.Prelude.{◌≡◌, ◌<◌, ◌≤◌, ◌+◌, ◌^
 ghost use Rattle.ew_model.specs.Edits.Edit.{Insert};
 ghost use Rattle.ew_model.specs.Kept.{is_awaited};
 ghost use Rattle.ew_model.specs.Texts.{text_of};
+ghost use Rattle.arrival_laws.specs.Repeats.{without_held};
 ghost use Rattle.replica.specs.Answers.{EditsBy};
 ghost use Rattle.generator.specs.Answers.{TellsStop};
 ghost use Rattle.generator.specs.Draws.{drawn_edit, letter};
@@ -15,6 +16,7 @@ ghost use Rattle.generator.specs.Touches.{gift_touches};
 
 use crate::draws::Draws;
 use ew_model::NoMem;
+use ew_model::event::Event;
 use ew_model::limits::Limits;
 use ew_model::name::Name;
 use ew_model::steps::Steps;
@@ -63,7 +65,8 @@ impl Peers {
         Ok(())
     }
 
-    /// One peer gives its events to another, which takes at most the touches of receiving them.
+    /// One peer gives its events to another: those that the other doesn't hold, which leaves what all of them would. It takes at
+    /// most the touches of receiving them.
     pub fn give<L: Ledger>(
         &mut self,
         giver: usize,
@@ -77,12 +80,24 @@ impl Peers {
         ensures kept { OnOk result (ArePeers self.new.replicas.items) }
         ensures most { steps.new ≤ steps.old + gift_touches giver taker self.old.replicas.items }
     {
-        let _most = self.replicas[giver].limits().events();
-        let events = self.replicas[giver].events()?;
+        let events = self.missing(giver, taker)?;
         match self.replicas[taker].receive(events, steps) {
             Ok(_) => Ok(()),
             Err(_) => Err(NoMem),
         }
+    }
+
+    /// The events of one peer that another doesn't hold, in order.
+    fn missing(&self, giver: usize, taker: usize) -> Result<Vec<Event>, NoMem>
+        requires peers { ArePeers self.now.replicas.items }
+        requires giver { giver < 3 }
+        requires taker { taker < 3 }
+        ensures missing { IfOk result (λ v. v.items ≡ without_held (peer_at self.now.replicas.items taker).held (peer_at self.now.replicas.items giver).held) }
+        ensures few { IfOk result (λ v. length v.items < 2 ^ 32) }
+    {
+        let _most = self.replicas[giver].limits().events();
+        let known = self.replicas[taker].graph().summary()?;
+        self.replicas[giver].graph().missing(&known)
     }
 
     /// The first peer.

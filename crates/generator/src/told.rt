@@ -7,8 +7,8 @@ ghost use Rattle.generator.specs.Owning.{ArePeers};
 
 use crate::peers::Peers;
 use ew_model::NoMem;
-use history_view::lines::push_number;
 use history_view::listings::{count_cuts, count_heads};
+use history_view::push_number;
 use replica::Replica;
 use sha2::{Digest, Sha256};
 use std::alloc::Global;

@@ -2,9 +2,10 @@
 #![tactic(auto)]
 
 pub mod laws;
-pub mod lines;
+mod lines;
 pub mod listings;
 pub mod replays;
 
+pub use lines::push_number;
 pub use listings::{check_text, heads_text, log_text};
 pub use replays::replay_text;

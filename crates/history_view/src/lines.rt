@@ -1,6 +1,6 @@
 //! The lines of the listings.
 
-ghost use Rattle.std.specs.Prelude.{◌≡◌, [], ◌++◌, ◌∷◌, OnOk, codes, decimal};
+ghost use Rattle.std.specs.Prelude.{◌≡◌, [], ◌++◌, ◌∷◌, OnOk, OnErr, codes, decimal};
 ghost use Rattle.ew_model.specs.Scripts.{escaped_char, id_text, spaced, version_text};
 ghost use Rattle.history_words.specs.Listings.{event_line, id_line, number_line, op_words};
 ghost use Rattle.history_words.specs.Replays.{change_line, change_words};
@@ -91,11 +91,13 @@ pub fn push_id(out: &mut Vec<u8>, id: &Id) -> Result<(), NoMem>
     Ok(())
 }
 
-/// Writes a word, a space, a number and a newline.
+/// Writes a word, a space, a number and a newline. Where memory is wanting nothing is written.
 pub fn push_number(out: &mut Vec<u8>, word: &[u8], n: u32) -> Result<(), NoMem>
-    ensures { OnOk result (out.new.items ≡ out.old.items ++ number_line word.now n) }
+    ensures ok { OnOk result (out.new.items ≡ out.old.items ++ number_line word.now n) }
+    ensures err { OnErr result (out.new.items ≡ out.old.items) }
 {
-    push_word_and_number(out, word, n)?;
-    out.push(b'\n')?;
-    Ok(())
+    let mut line = Vec::new(*out.allocator());
+    push_word_and_number(&mut line, word, n)?;
+    line.push(b'\n')?;
+    out.extend_from_slice(&line)
 }

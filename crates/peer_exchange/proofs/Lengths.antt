@@ -82,7 +82,8 @@ events_taken limits events are sound few fits =
       short = short;
     }
 
-all_drop : {A : Type 0} (P : A → Type 0) (n : ℕ) (xs : List A) → AllByRecursion P xs → AllByRecursion P (drop n xs)
+-- what holds of all holds of those behind the first
+pub all_drop : {A : Type 0} (P : A → Type 0) (n : ℕ) (xs : List A) → AllByRecursion P xs → AllByRecursion P (drop n xs)
 all_drop P zero xs h = h
 all_drop P (suc n) [] h = tt
 all_drop P (suc n) (x ∷ xs) h = all_drop P n xs h.1
@@ -153,7 +154,8 @@ have_taken limits counts are sound up some few =
 
 -- ---- what a replica has
 
-few_after : (before events : List Event) → IsGoodAfter before events → AllByRecursion HasFew events
+-- no event of a good history has too many parents
+pub few_after : (before events : List Event) → IsGoodAfter before events → AllByRecursion HasFew events
 few_after before [] good = tt
 few_after before (e ∷ events) good = ((next_from_good before e good.0).few, few_after (before ++ e ∷ []) events good.1)
 

@@ -1,5 +1,5 @@
 -- By the summary of a good history, what is missing is what it doesn't hold.
-use Rattle.std.proofs.Common.{◌≡◌, ℕ, ◌+◌, Bool, true, false, not, cond, ◌||◌, ⊎_elim, nat_le, nat_lt, List, [], ◌∷◌, ◌++◌, map, Option, Some, refl, sym, ap, ◌∙◌, subst, arith, le-leb}
+use Rattle.std.proofs.Common.{◌≡◌, ℕ, ◌+◌, Bool, true, false, not, cond, ◌||◌, ⊎_elim, nat_le, nat_lt, List, [], ◌∷◌, ◌++◌, map, filter, Option, Some, refl, sym, ap, ◌∙◌, subst, arith, le-leb}
 use Rattle.std.specs.List.{list_any}
 use Rattle.std.specs.Map.{lookup}
 use Rattle.std.specs.Option.{unwrap_or}
@@ -16,6 +16,7 @@ use Rattle.ew_model.specs.Events.{event_eq}
 use Rattle.ew_model.specs.Ids.{name_eq}
 use Rattle.ew_model.specs.Sets.{Among}
 use Rattle.ew_model.specs.Sorting.{sort_by}
+use Rattle.ew_model.specs.Verdicts.{IsGood}
 use Rattle.ew_model.proofs.CoverLaws.{event_of, held_by}
 use Rattle.ew_model.proofs.EditNumbers.{runs_on}
 use Rattle.ew_model.proofs.IdLaws.{name_exact, is_same_id}
@@ -28,7 +29,7 @@ use Rattle.agent_ids.specs.Agents.{agents_of, count_of}
 use Rattle.agent_ids.proofs.Agents.{count_cons, is_agent}
 use Rattle.event_graph.specs.Summary.{summary_of}
 use Rattle.event_graph.proofs.Summing.{same_count}
-use Rattle.event_graph.specs.Missing.{count_in}
+use Rattle.event_graph.specs.Missing.{count_in, missing}
 use Rattle.peer_exchange.specs.Laws.{MissingAreUnheld}
 
 -- an agent of none of the ids has none
@@ -90,11 +91,18 @@ not_below a b = same_truth (nat_le b a) (not (nat_lt a b))
     (λ h. let le = leb-true b a h in ⊎_elim (λ k. let lt = ltb-true a b k in absurd (omega (arith, le, lt))) (λ k. ap not k) (cases_Bool (nat_lt a b)))
     (λ h. ⊎_elim (λ k. absurd (false≢true (ap not (sym k) ∙ h))) (λ k. let ge = ltb-false a b k in le-leb b a (omega (arith, ge))) (cases_Bool (nat_lt a b)))
 
--- The law of what is missing.
-pub missing_are_unheld : MissingAreUnheld
-missing_are_unheld history other good one =
-    filter_alike (λ (e : Event). nat_le (count_in (summary_of other) e.id.agent) e.id.seq) (λ (e : Event). not (list_any (event_eq e) other)) history
+-- by the summary of a good history, the events are missing whose ids it doesn't hold
+pub missing_by_ids : (history other : List Event) → IsGood other → missing history (summary_of other) ≡ filter (λ (e : Event). not (is_held other e.id)) history
+missing_by_ids history other good =
+    filter_alike (λ (e : Event). nat_le (count_in (summary_of other) e.id.agent) e.id.seq) (λ (e : Event). not (is_held other e.id)) history
     (λ e m.
     ap (λ n. nat_le n e.id.seq) (summary_counts other e.id.agent)
     ∙ not_below e.id.seq (edits.count_of other e.id.agent)
-    ∙ ap not (sym (runs_on other good e.id.agent e.id.seq) ∙ sym (held_exactly history other e one m)))
+    ∙ ap not (sym (runs_on other good e.id.agent e.id.seq)))
+
+-- The law of what is missing.
+pub missing_are_unheld : MissingAreUnheld
+missing_are_unheld history other good one =
+    missing_by_ids history other good
+    ∙ filter_alike (λ (e : Event). not (is_held other e.id)) (λ (e : Event). not (list_any (event_eq e) other)) history
+    (λ e m. ap not (sym (held_exactly history other e one m)))

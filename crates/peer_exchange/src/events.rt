@@ -22,9 +22,16 @@ const MOST_EVENT_BYTES: u32 = 639;
 pub fn all_frames(alloc: Global, limits: &Limits, events: Vec<Event>) -> Result<Vec<Frame>, NoMem>
     ensures { IfOk result (λ frames. frames.items ≡ event_frames limits.now events.items ++ frame.Done ∷ []) }
 {
-    let mut frames = in_frames(alloc, frame_room(limits), events)?;
+    let mut frames = event_frames(alloc, limits, events)?;
     frames.push(Frame::Done)?;
     Ok(frames)
+}
+
+/// Frames of the events, in order, each full but the last; none where there is no event.
+pub fn event_frames(alloc: Global, limits: &Limits, events: Vec<Event>) -> Result<Vec<Frame>, NoMem>
+    ensures { IfOk result (λ frames. frames.items ≡ event_frames limits.now events.items) }
+{
+    in_frames(alloc, frame_room(limits), events)
 }
 
 /// How many events go into one frame.

@@ -9,4 +9,5 @@ mod reply;
 mod sound;
 
 pub use answering::{answer, ask};
+pub use events::event_frames;
 pub use reply::{End, Reply};
