@@ -2,7 +2,7 @@
 
 ghost use Rattle.std.specs.Prelude.{◌≡◌, ◌<◌};
 
-use crate::drawn_rows;
+use crate::{drawn_rows, net_rows};
 use ew_model::NoMem;
 use ew_model::steps::Steps;
 use std::alloc::Global;
@@ -72,6 +72,7 @@ fn run_rows<'a, L: Ledger>(
     let (kind, words) = first_word(about);
     match kind {
         "drawn" => drawn_rows::run(alloc, words, rows, report, steps),
+        "nets" => net_rows::run(alloc, words, rows, report, steps),
         _ => Err(Fault::Unreadable),
     }
 }

@@ -15,7 +15,7 @@ use std::alloc::Global;
 use trial_rows::fault::Fault;
 
 /// The names of all agents, of one letter each.
-const AGENTS: &[u8; 26] = b"abcdefghijklmnopqrstuvwxyz";
+pub const AGENTS: &[u8; 26] = b"abcdefghijklmnopqrstuvwxyz";
 
 /// Numbers of a linear congruential generator.
 #[derive(Drop)]
@@ -29,7 +29,7 @@ impl Draws {
     }
 
     /// The next number below a bound.
-    fn below(&mut self, bound: u32) -> u32
+    pub fn below(&mut self, bound: u32) -> u32
         requires { 0 < bound }
         ensures { result < bound }
     {
@@ -45,7 +45,7 @@ impl Draws {
         count > 0 && self.below(count) == 0
     }
 
-    fn letter(&mut self) -> u8 {
+    pub fn letter(&mut self) -> u8 {
         AGENTS[self.below(26) as usize]
     }
 }

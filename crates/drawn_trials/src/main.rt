@@ -1,9 +1,10 @@
-//! Walks over histories drawn at random, beside the plain program: carried out, and compared.
+//! Walks over histories drawn at random, beside the plain program, and nets whose steps are drawn: carried out, and compared.
 #![tactic(auto)]
 
 mod drawn_rows;
 mod groups;
 mod histories;
+mod net_rows;
 
 use crate::groups::carry_out;
 use std::process::ExitCode;

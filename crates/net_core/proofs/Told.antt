@@ -1,0 +1,85 @@
+-- What is told of received events that don't clash.
+use Rattle.std.proofs.Common.{◌≡◌, ℕ, zero, suc, ◌+◌, ◌≤◌, true, false, Bool, inl, inr, List, [], ◌∷◌, ◌++◌, find, length, Option, Some, None, refl, sym, ap, ◌∙◌, subst, option_map, arith}
+use Rattle.std.specs.List.{AllByRecursion}
+use Rattle.std.proofs.lemmas.Bool.{false≢true}
+use Rattle.std.proofs.lemmas.List.{length-append}
+use Rattle.ew_model.specs.declared.event.Event.{Event}
+use Rattle.ew_model.specs.declared.id.Id.{Id}
+use Rattle.ew_model.specs.declared.verdict.Refusal.{Refusal}
+use Rattle.ew_model.specs.Arrival.{Answer, Desk, Judgement, arrive, desk_of, judgements, most_judgements, next_judgement}
+use Rattle.ew_model.specs.Limits.{LimitNumbers}
+use Rattle.ew_model.specs.Verdicts as verdicts
+use Rattle.ew_model.specs.Verdicts.{Ruling}
+use Rattle.ew_model.specs.Verdicts.Ruling.{Repeat, SelfParent, TooManyParents, ParentsUnsorted, Unknown, PoolFull, NotReduced, Skipped, GraphFull, OutOfRange, Good}
+use Rattle.ew_model.proofs.RoundLaws.{then}
+use Rattle.history_words.specs.Tallies.{refused_by, refused_in}
+use Rattle.peer_exchange.specs.Answering as exchange
+use Rattle.peer_exchange.specs.Answering.{first_clash}
+use Rattle.net_core.specs.Laws.{is_clash}
+
+-- nothing told is a clash
+abbrev tells_clash : (Id × Refusal) → Bool
+tells_clash r = exchange.is_clash r.1
+
+by_ruling : (e : Event) (r : Ruling) (more : List (Id × Refusal)) → is_clash r ≡ false → find tells_clash more ≡ None → find tells_clash
+    (refused_by (record { event = e; ruling = r }) ++ more) ≡ None
+by_ruling e verdicts.Ruling.Clash more h none = absurd (false≢true (sym h))
+by_ruling e Repeat more h none = none
+by_ruling e SelfParent more h none = none
+by_ruling e TooManyParents more h none = none
+by_ruling e ParentsUnsorted more h none = none
+by_ruling e (Unknown p) more h none = none
+by_ruling e PoolFull more h none = none
+by_ruling e NotReduced more h none = none
+by_ruling e Skipped more h none = none
+by_ruling e GraphFull more h none = none
+by_ruling e (OutOfRange len) more h none = none
+by_ruling e Good more h none = none
+
+none_found : (answers : List Answer) → AllByRecursion (λ (a : Answer). is_clash a.ruling ≡ false) answers → find tells_clash (refused_in answers) ≡ None
+none_found [] h = refl
+none_found (a ∷ answers) h = by_ruling a.event a.ruling (refused_in answers) h.0 (none_found answers h.1)
+
+pub no_first_clash : (answers : List Answer) → AllByRecursion (λ (a : Answer). is_clash a.ruling ≡ false) answers → first_clash (refused_in answers) ≡ None
+no_first_clash answers h = ap (option_map (λ (r : Id × Refusal). r.0)) (none_found answers h)
+
+-- no more is refused than was answered
+one_refused : (e : Event) (r : Ruling) → length (refused_by (record { event = e; ruling = r })) ≤ 1
+one_refused e verdicts.Ruling.Clash = omega arith
+one_refused e Repeat = omega arith
+one_refused e SelfParent = omega arith
+one_refused e TooManyParents = omega arith
+one_refused e ParentsUnsorted = omega arith
+one_refused e (Unknown p) = omega arith
+one_refused e PoolFull = omega arith
+one_refused e NotReduced = omega arith
+one_refused e Skipped = omega arith
+one_refused e GraphFull = omega arith
+one_refused e (OutOfRange len) = omega arith
+one_refused e Good = omega arith
+
+pub few_refused : (answers : List Answer) → length (refused_in answers) ≤ length answers
+few_refused [] = omega arith
+few_refused (a ∷ answers) =
+    let one = one_refused a.event a.ruling in
+    let more = few_refused answers in
+    let both = length-append (refused_by a) (refused_in answers) in
+    omega (arith, one, more, both)
+
+-- and no more is answered than there are judgements
+few_by : (limits : LimitNumbers) (n : ℕ) (d : Desk) (o : Option Judgement) → ((j : Judgement) → length (judgements limits true n j.desk).answers ≤ n)
+    → length (then limits true n d o).answers ≤ suc n
+few_by limits n d None f = omega arith
+few_by limits n d (Some j) f = let one = f j in omega (arith, one)
+
+few_answers : (limits : LimitNumbers) (n : ℕ) (d : Desk) → length (judgements limits true n d).answers ≤ n
+few_answers limits zero d = omega arith
+few_answers limits (suc n) d = few_by limits n d (next_judgement limits true d) (λ j. few_answers limits n j.desk)
+
+pub few_told : (limits : LimitNumbers) (held waiting events : List Event)
+    → length (arrive limits held waiting events).answers ≤ length waiting + (length events + length events)
+unfolding arrive
+few_told limits held waiting events =
+    let d = desk_of held waiting events in
+    let few = few_answers limits (most_judgements d) d in
+    omega (arith, few)

@@ -1,0 +1,75 @@
+-- A peer of a network is read at its place, and written there.
+use Rattle.std.proofs.Common.{◌≡◌, ℕ, zero, suc, ◌<◌, List, [], ◌∷◌, get_or, length, set, Option, Some, None, refl, sym, ap, ◌∙◌, subst}
+use Rattle.std.specs.Global.{Vec}
+use Rattle.std.specs.List.{slice_get}
+use Rattle.std.specs.Prelude.{Err, Result}
+use Rattle.ew_model.specs.Edits.{Edit}
+use Rattle.ew_model.specs.Kept.{ReplicaState}
+use Rattle.net_words.specs.declared.step.NetStep.{NetStep}
+use Rattle.net_core.specs.declared.fault.NetFault.{NetFault}
+use Rattle.net_core.specs.declared.fault.NetFault.TheVariants as fault
+use Rattle.net_core.specs.Answers.{StepsTo, handed_over, refusal_told, told_bytes}
+use Rattle.net_core.specs.Keeping.{IsReached}
+use Rattle.net_core.specs.Machine.{Network, Peer, Refusal, net_step, peer_of, put_replica}
+use Rattle.net_core.specs.Machine.Refusal.{NoPeer}
+use Rattle.net_core.specs.Machine.StepOutcome.{Refused}
+use Rattle.net_core.proofs.Editing.{named_so, placed}
+use Rattle.net_core.proofs.Packets.{put_same}
+use Rattle.net_core.proofs.Reaching.{IsHomely, fit, homely, reached}
+use Rattle.net_core.proofs.Steps.{peer_at, refused}
+
+got_or : {X : Type 0} (xs : List X) (i : ℕ) (x d : X) → slice_get xs i ≡ Some x → get_or xs i d ≡ x
+got_or [] i x d at = let no : ⊥ = cc in absurd no
+got_or (y ∷ xs) zero x d at = cc
+got_or (y ∷ xs) (suc i) x d at = got_or xs i x d at
+
+-- what a call answers that was refused
+pub refused_so : (network : Network) (s : NetStep) (f : NetFault) (why : Refusal) (result : Result (Vec ℕ) NetFault) → result ≡ Err f → refusal_told f ≡ Some why
+    → net_step network s ≡ Refused why
+    → StepsTo network s network (told_bytes result)
+refused_so network s f why result is told step = subst (λ r. StepsTo network s network (told_bytes r)) (sym is) (refused network network s f why told step refl)
+
+pub no_peer_told : (network : Network) (s : NetStep) (name : List ℕ) (f : NetFault) (result : Result (Vec ℕ) NetFault) → result ≡ Err f → f ≡ fault.NoPeer name
+    → net_step network s ≡ Refused (NoPeer name)
+    → StepsTo network s network (told_bytes result)
+no_peer_told network s name f result is named step = refused_so network s f (NoPeer name) result is (ap refusal_told named) step
+
+-- the peer of a name at its place, where N is S in its fields
+module _ (N S : Network) (view : N ≡ S) (h : IsReached N) (name : List ℕ) (place : ℕ)
+    (found : (place < length S.peers) × (peer_of S name ≡ slice_get S.peers place)) where
+  pub seen : IsReached S
+  seen = subst IsReached view h
+
+  pub here : Peer
+  here = (peer_at S name place found.0 found.1).0
+
+  pub at : slice_get S.peers place ≡ Some here
+  unfolding here
+  at = (peer_at S name place found.0 found.1).1
+
+  pub there : peer_of S name ≡ Some here
+  unfolding here
+  there = (peer_at S name place found.0 found.1).2
+
+  -- a read
+  pub read : (x : Peer) → x ≡ get_or N.peers place x → x ≡ here
+  read x is = is ∙ ap (λ (n : Network). get_or n.peers place x) view ∙ got_or S.peers place here x at
+
+  -- a write
+  abbrev pub with_written : Peer → Network
+  with_written x = record { limits = N.limits; peers = set N.peers place x; packets = N.packets }
+
+  pub written : (x : Peer) (r : ReplicaState) → x ≡ record { name = here.name; replica = r } → with_written x ≡ put_replica S here.name r
+  written x r is =
+      (λ i. record { limits = (view i).limits; peers = set (view i).peers place (is i); packets = (view i).packets })
+      ∙ placed S name here place r (homely S seen) there at
+
+  pub written_reached : (x : Peer) (r : ReplicaState) → x ≡ record { name = here.name; replica = r } → IsHomely (put_replica S here.name r) → IsReached (with_written x)
+  written_reached x r is all = subst IsReached (sym (written x r is)) (reached (put_replica S here.name r) all (fit S seen))
+
+  -- a write of what was there
+  pub written_back : (x : Peer) → x ≡ here → with_written x ≡ S
+  written_back x is =
+      written x here.replica is
+      ∙ ap (λ n. put_replica S n here.replica) (named_so S name here there)
+      ∙ put_same S name here place (homely S seen) at there

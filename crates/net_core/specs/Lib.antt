@@ -1,0 +1,6 @@
+pub mod Machine
+pub mod Answers
+pub mod Bytes
+pub mod Keeping
+pub mod Laws
+pub mod Handing
