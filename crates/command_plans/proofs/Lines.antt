@@ -1,5 +1,6 @@
 -- From the plan of a command to the plan of its line.
 use Rattle.std.proofs.Common.{◌≡◌, ℕ, List, [], ◌∷◌, Option, Some, None, Result, Ok, Err, IfErr, IfOk, IfSome, refl, sym, subst}
+use Rattle.std.specs.Prelude.{⊤}
 use Rattle.ew_model.specs.Limits.{LimitNumbers}
 use Rattle.ew_outside.specs.Counts.{next}
 use Rattle.ew_outside.specs.Files.{Files}
@@ -16,18 +17,18 @@ use Rattle.merge_plans.specs.Merging.{LoadsAll}
 use Rattle.command_plans.specs.Lines.{MayPlan, PlansAlone}
 
 -- a plan in which the input has no part
-pub plans_alone : (reply : Files → Reply) (files : Option Files) (result : Result Plan Stop) → IfSome files (λ m. IfOk result (λ p. plan_view p ≡ reply m)) → PlansAlone (λ m _ _. reply m) files result
+pub plans_alone : (reply : Files → Reply) (files : Option Files) (result : Result Plan Stop) → IfSome files (λ m. IfOk result (λ p. plan_view p ≡ reply m)) → PlansAlone {Reading = Reading} (λ m _ _. reply m) files result
 plans_alone reply (Some m) (Ok p) is = λ input reading. is
 plans_alone reply (Some m) (Err e) is = tt
 plans_alone reply None (Ok p) is = tt
 plans_alone reply None (Err e) is = tt
 
 -- a plan that is right over any input is right over this one
-pub plans_by : (reply : Files → List ℕ → Reading → Reply) (files : Option Files) (left : Option (List ℕ)) (result : Result Plan Stop) → PlansAlone reply files result → PlansBy reply files left result
-plans_by reply (Some m) (Some input) (Ok p) is = λ reading means. is input reading
-plans_by reply (Some m) (Some input) (Err e) is = tt
-plans_by reply (Some m) None result is = tt
-plans_by reply None left result is = tt
+pub plans_by : {Reading : Type 0} (Means : List ℕ → Reading → Type 0) (reply : Files → List ℕ → Reading → Reply) (files : Option Files) (left : Option (List ℕ)) (result : Result Plan Stop) → PlansAlone reply files result → PlansBy Means reply files left result
+plans_by Means reply (Some m) (Some input) (Ok p) is = λ reading means. is input reading
+plans_by Means reply (Some m) (Some input) (Err e) is = tt
+plans_by Means reply (Some m) None result is = tt
+plans_by Means reply None left result is = tt
 
 -- what moved a count of the shelf alone
 pub causes_of_shelf : (before now source source' : ℕ) (result : Result Plan Stop) → source' ≡ source → ShelfCauses before now result → Causes before now source source' result
@@ -53,7 +54,7 @@ loads_one name None before now (Ok p) one = tt
 
 -- ---- a line that loads no file
 
-pub plans_any : (reply : Reply) (files : Option Files) (result : Result Plan Stop) → IfOk result (λ p. plan_view p ≡ reply) → PlansAlone (λ m _ _. reply) files result
+pub plans_any : (reply : Reply) (files : Option Files) (result : Result Plan Stop) → IfOk result (λ p. plan_view p ≡ reply) → PlansAlone {Reading = Reading} (λ m _ _. reply) files result
 plans_any reply (Some m) (Ok p) is = λ input reading. is
 plans_any reply (Some m) (Err e) is = tt
 plans_any reply None (Ok p) is = tt
@@ -75,3 +76,16 @@ pub loads_none : (files : Option Files) (n : ℕ) (result : Result Plan Stop) �
 loads_none (Some m) n (Ok p) = refl
 loads_none files n (Err e) = tt
 loads_none None n (Ok p) = tt
+
+-- ---- a line that reads the input alone
+
+pub plans_read : {Reading : Type 0} (Means : List ℕ → Reading → Type 0) (reply : List ℕ → Reading → Reply) (files : Option Files) (left : Option (List ℕ)) (result : Result Plan Stop)
+    → IfSome left (λ xs. IfOk result (λ p. (reading : Reading) → Means xs reading → plan_view p ≡ reply xs reading)) → PlansBy Means (λ m xs reading. reply xs reading) files left result
+plans_read Means reply (Some m) (Some input) (Ok p) plans = plans
+plans_read Means reply (Some m) (Some input) (Err e) plans = tt
+plans_read Means reply (Some m) None result plans = tt
+plans_read Means reply None left result plans = tt
+
+pub for_any : (files : Option Files) → IfSome files (λ m. ⊤)
+for_any (Some m) = tt
+for_any None = tt

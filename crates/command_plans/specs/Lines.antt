@@ -2,7 +2,6 @@
 use Rattle.std.specs.Prelude.{◌≡◌, ◌≤◌, ⊤, ℕ, List, Option, None, Some, Result, Ok, Err, Bool, true, false}
 use Rattle.ew_outside.specs.Files.{Files}
 use Rattle.ew_model.specs.Limits.{LimitNumbers}
-use Rattle.command_table.specs.Scripts.{Reading}
 use Rattle.command_table.specs.Text.{usage}
 use Rattle.command_table.specs.Possible.{MayReply}
 use Rattle.command_table.specs.Table.{Command, Reply}
@@ -14,8 +13,8 @@ use Rattle.opened_files.specs.Views.{IsCommandPlan, MissesBy, plan_view}
 use Rattle.edit_plans.specs.Sources.{ReadsAll}
 
 -- the same of a line that has no use for the input
-abbrev pub PlansAlone : (Files → List ℕ → Reading → Reply) → Option Files → Result Plan Stop → Type 0
-PlansAlone reply (Some m) (Ok p) = (input : List ℕ) (reading : Reading) → plan_view p ≡ reply m input reading
+abbrev pub PlansAlone : {Reading : Type 0} → (Files → List ℕ → Reading → Reply) → Option Files → Result Plan Stop → Type 0
+PlansAlone {Reading} reply (Some m) (Ok p) = (input : List ℕ) (reading : Reading) → plan_view p ≡ reply m input reading
 PlansAlone reply _ _ = ⊤
 
 -- which plans a line may have

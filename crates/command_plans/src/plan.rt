@@ -3,8 +3,8 @@ ghost use Rattle.std.specs.Prelude.{◌≡◌, ◌+◌, false, true, IfOk, IfSom
 ghost use Rattle.std.specs.Option.{option_map};
 ghost use Rattle.ew_model.specs.Names.{is_name};
 ghost use Rattle.command_table.specs.Reads.{IfEditRefused, LeavesInput, LoadsFront, TakesAtMost, files_of, loads_of};
-ghost use Rattle.command_table.specs.Table.{needs_file, reads_input, reply_of, reply_to};
-ghost use Rattle.opened_files.specs.Touches.{TouchesAtMost, command_touches};
+ghost use Rattle.command_table.specs.Table.{MeansTo, needs_file, reads_input, reply_of, reply_to};
+ghost use Rattle.opened_files.specs.Touches.{CommandTakes};
 ghost use Rattle.opened_files.specs.Views.{IsCommandPlan, LostBy, ShelfCauses};
 ghost use Rattle.edit_plans.specs.Sources.{Causes, KeepsInput, PlansBy};
 ghost use Rattle.merge_plans.specs.Merging.{LoadsAll};
@@ -21,6 +21,7 @@ use ew_model::name::Name;
 use ew_model::steps::Steps;
 use ew_outside::{Shelf, Source};
 use merge_plans::merge::merge;
+use net_plans::net::net;
 use opened_files::reply::{Plan, Stop};
 use std::alloc::Global;
 use std::sync::ledger::Ledger;
@@ -35,7 +36,7 @@ pub fn make_plan<'a, H: Shelf, S: Source, L: Ledger>(
     steps: &mut Steps<L>,
 ) -> Result<Plan<'a>, Stop>
     requires { IsNamed (option_map command_view line) }
-    ensures told { PlansBy (reply_of (option_map command_view line.entry) limits.now) (H.files shelf.old) (S.left input.old) result }
+    ensures told { PlansBy (MeansTo (option_map command_view line.entry)) (reply_of (option_map command_view line.entry) limits.now) (H.files shelf.old) (S.left input.old) result }
     ensures some { MayPlan (option_map command_view line.entry) limits.now result }
     ensures line { PlansLine (option_map command_view line.entry) result }
     ensures same { H.files shelf.new ≡ H.files shelf.old }
@@ -50,7 +51,7 @@ pub fn make_plan<'a, H: Shelf, S: Source, L: Ledger>(
     ensures front { LoadsFront (files_of (option_map command_view line.entry)) (H.loads shelf.old) (H.loads shelf.new) }
     ensures loads { LoadsAll (loads_of (option_map command_view line.entry) limits.now) (H.files shelf.old) (H.loads shelf.old) (H.loads shelf.new) result }
     ensures lost { LostBy (H.lost shelf.old) (H.lost shelf.new) result }
-    ensures most { TouchesAtMost (command_touches (option_map command_view line.entry) limits.now) (H.files shelf.old) steps.old steps.new }
+    ensures most { CommandTakes (option_map command_view line.entry) limits.now (H.files shelf.old) steps.old steps.new }
 {
     match line {
         None => Ok(Plan::Refuses {
@@ -71,7 +72,7 @@ fn plan_taken<'a, H: Shelf, S: Source, L: Ledger>(
     steps: &mut Steps<L>,
 ) -> Result<Plan<'a>, Stop>
     requires { IsNamed (Some (command_view line)) }
-    ensures told { PlansBy (reply_to (command_view line.entry) limits.now) (H.files shelf.old) (S.left input.old) result }
+    ensures told { PlansBy (MeansTo (Some (command_view line.entry))) (reply_to (command_view line.entry) limits.now) (H.files shelf.old) (S.left input.old) result }
     ensures some { MayPlan (Some (command_view line.entry)) limits.now result }
     ensures plan { IfOk result IsCommandPlan }
     ensures same { H.files shelf.new ≡ H.files shelf.old }
@@ -86,7 +87,7 @@ fn plan_taken<'a, H: Shelf, S: Source, L: Ledger>(
     ensures front { LoadsFront (files_of (Some (command_view line.entry))) (H.loads shelf.old) (H.loads shelf.new) }
     ensures loads { LoadsAll (loads_of (Some (command_view line.entry)) limits.now) (H.files shelf.old) (H.loads shelf.old) (H.loads shelf.new) result }
     ensures lost { LostBy (H.lost shelf.old) (H.lost shelf.new) result }
-    ensures most { TouchesAtMost (command_touches (Some (command_view line.entry)) limits.now) (H.files shelf.old) steps.old steps.new }
+    ensures most { CommandTakes (Some (command_view line.entry)) limits.now (H.files shelf.old) steps.old steps.new }
 {
     match line {
         Taken::Edit { file, agent } => edit(
@@ -98,6 +99,7 @@ fn plan_taken<'a, H: Shelf, S: Source, L: Ledger>(
             input,
             steps,
         ),
+        Taken::Net => net(alloc, limits, input, steps),
         _ => plan_unread(alloc, line, limits, shelf, steps),
     }
 }
@@ -120,14 +122,14 @@ fn plan_unread<'a, H: Shelf, L: Ledger>(
     ensures front { LoadsFront (files_of (Some (command_view line.entry))) (H.loads shelf.old) (H.loads shelf.new) }
     ensures loads { LoadsAll (loads_of (Some (command_view line.entry)) limits.now) (H.files shelf.old) (H.loads shelf.old) (H.loads shelf.new) result }
     ensures lost { LostBy (H.lost shelf.old) (H.lost shelf.new) result }
-    ensures most { TouchesAtMost (command_touches (Some (command_view line.entry)) limits.now) (H.files shelf.old) steps.old steps.new }
+    ensures most { CommandTakes (Some (command_view line.entry)) limits.now (H.files shelf.old) steps.old steps.new }
 {
     match line {
         Taken::New(name) => create(alloc, name, shelf),
         Taken::Show { listing, file } => show(alloc, listing, file, limits, shelf, steps),
         Taken::Merge { file, other } => merge(alloc, file, other, limits, shelf, steps),
         Taken::Make { seed, count } => make_history(alloc, limits, seed, count, steps),
-        Taken::Edit { .. } => unreachable!(),
+        Taken::Edit { .. } | Taken::Net => unreachable!(),
     }
 }
 

@@ -36,6 +36,7 @@ use Rattle.ew_model.proofs.MergeByAnswers.{merge_unless_clash}
 use Rattle.command_table.proofs.Merges.{none_ends, appended_none}
 use Rattle.command_table.proofs.FileSizes.{file_length}
 use Rattle.replica.proofs.Beginnings.{good_from_none_bad}
+use Rattle.ew_model.proofs.FileLists.{some_is}
 
 -- ---- a file that is opened
 
@@ -121,7 +122,7 @@ stored_files false text name bytes files = inr (refl, refl)
 not_above : (n : ℕ) → nat_lt 0 n ≡ false → n ≡ 0
 not_above n h = grind (arith, nat_tests)
 
-not_longer : (most n : ℕ) → n ≤ most → nat_lt most n ≡ false
+pub not_longer : (most n : ℕ) → n ≤ most → nat_lt most n ≡ false
 not_longer most n h = grind (arith, nat_tests)
 
 -- a merge that is done, of two files over a map
@@ -184,13 +185,10 @@ storable limits files name events all o =
     let f = file_take limits.events o.bytes events bytes o.read in
     record { sound = f.sound; few = f.few }
 
-same_some : (xs ys : List ℕ) → Some xs ≡ Some ys → xs ≡ ys
-same_some xs ys e = cc
-
 -- one map and name are opened as one list
 pub opens_once : (limits : LimitNumbers) (files more : Files) (name : Text) (xs ys : List Event) → get more name ≡ get files name → Opens limits files name xs → Opens limits more name ys → ys ≡ xs
 opens_once limits files more name xs ys same o p =
-    let bytes : p.bytes ≡ o.bytes = same_some p.bytes o.bytes (sym p.here ∙ same ∙ o.here) in
+    let bytes : p.bytes ≡ o.bytes = some_is p.bytes o.bytes (sym p.here ∙ same ∙ o.here) in
     file_is ys xs (sym p.read ∙ ap (file_finding limits.events) bytes ∙ o.read)
 
 -- the history after a merge can be held by a file
@@ -227,7 +225,7 @@ opened_new limits files name other t d xs numbers one two o =
     ⊎_elim
     (λ stored.
     let s = merged_storable limits d.events d.others d.first.good one two d.merged in
-    let bytes : o.bytes ≡ file_of held = same_some o.bytes (file_of held) (sym o.here ∙ ap (λ (m : Files). get m name) stored ∙ stored_here files name (file_of held)) in
+    let bytes : o.bytes ≡ file_of held = some_is o.bytes (file_of held) (sym o.here ∙ ap (λ (m : Files). get m name) stored ∙ stored_here files name (file_of held)) in
     file_is xs held (sym o.read ∙ ap (file_finding limits.events) bytes ∙ read_again limits held numbers s.0 s.1))
     (λ same. opens_once limits files t.files name d.events xs (ap (λ (m : Files). get m name) same.1) d.first o ∙ sym same.0)
     d.stored

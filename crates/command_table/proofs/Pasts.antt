@@ -31,7 +31,8 @@ use Rattle.command_table.specs.Table.{Text, Opened, opened, open_file, over_even
 use Rattle.command_table.proofs.MergedFiles.{Opens, opens, opened_is, status_in, storable}
 use Rattle.command_table.proofs.VersionReading.{takes}
 
-same_events : (xs ys : List Event) → opened xs ≡ opened ys → xs ≡ ys
+-- what a name is opened as is one list
+pub same_events : (xs ys : List Event) → opened xs ≡ opened ys → xs ≡ ys
 same_events xs ys e = cc
 
 -- a file that is open was read, and its events are good

@@ -49,6 +49,10 @@ number_rule name most = record (new_rule name) { long = Some name; parser = Some
 unfoldable pub make_app : App
 make_app = with_rule (with_rule (new_app (codes "make")) (number_rule (codes "seed") most_seed)) (number_rule (codes "count") most_made)
 
+-- the command of a net, which has no arguments
+abbrev pub net_app : App
+net_app = new_app (codes "net")
+
 -- the command without its subcommands
 abbrev pub bare_app : App
 bare_app = on_top (λ s. record s { no_binary_name = true; subcommand_required = true }) (new_app (codes "egw"))
@@ -59,5 +63,5 @@ then_app app more = with_subcommand app more.top
 
 unfoldable pub egw_app : App
 egw_app =
-    then_app (then_app (then_app (then_app (then_app (then_app (then_app (then_app (then_app (then_app (then_app bare_app
-    (file_app (codes "new"))) edit_app) cat_app) (file_app (codes "heads"))) (file_app (codes "log"))) (file_app (codes "replay"))) (file_app (codes "check"))) merge_app) (file_app (codes "ask"))) (file_app (codes "serve"))) make_app
+    then_app (then_app (then_app (then_app (then_app (then_app (then_app (then_app (then_app (then_app (then_app (then_app bare_app
+    (file_app (codes "new"))) edit_app) cat_app) (file_app (codes "heads"))) (file_app (codes "log"))) (file_app (codes "replay"))) (file_app (codes "check"))) merge_app) (file_app (codes "ask"))) (file_app (codes "serve"))) net_app) make_app

@@ -9,12 +9,11 @@ use Rattle.ew_outside.specs.Counts.{Rose, IsQuiet, next}
 use Rattle.ew_outside.specs.Bytes.{IsFlushed}
 use Rattle.command_table.specs.Outputs.{GrowsByFront, Sends, Tells}
 use Rattle.command_table.specs.Text.{usage as usage_text, shelf_failed, source_failed, sink_failed, out_of_memory}
-use Rattle.command_table.specs.Scripts.{Reading, Means}
 use Rattle.command_table.specs.Reads.{files_of, loads_of, after_loads, LoadsFront, TakesAtMost, LeavesInput, IfRefused, IfEditRefused}
 use Rattle.command_table.specs.Possible.{MayReply, MayServe}
 use Rattle.command_table.specs.Framings.{Framing, IsFramingOf}
 use Rattle.command_table.specs.Sessions.{Session, served, printed_by, session_answer, is_bye, RepliesTo, IsPrompt}
-use Rattle.command_table.specs.Table.{Text, Command, Line, does, serves, Reply, prints, stores, refuses, opened, open_file, Answer, answer_of, reply_of, line_of, reads_input, needs_file}
+use Rattle.command_table.specs.Table.{Text, Command, Line, does, serves, Reply, prints, stores, refuses, opened, open_file, Answer, answer_of, reply_of, line_of, reads_input, needs_file, ReadingOf, MeansTo}
 
 -- what the objects tell at one moment, and their counts
 pub record Seen : Type 0 where
@@ -127,10 +126,10 @@ IsStatus n = (n ≡ 0) ⊎ ((2 ≤ n) × (n ≤ 8))
 -- A run of a line; none where the words aren't taken.
 pub record IsLineRun (line : Option Command) (limits : LimitNumbers) (old new : Seen) (status : ℕ) : Type 0 where
   -- where shelf and source tell what they hold
-  pub told : (files : Files) (input : List ℕ) (reading : Reading) → old.files ≡ Some files → old.left ≡ Some input → Means input reading
+  pub told : (files : Files) (input : List ℕ) (reading : ReadingOf line) → old.files ≡ Some files → old.left ≡ Some input → MeansTo line input reading
       → IsTableRun (answer_of (reply_of line limits files input reading) files) old new status
   -- a command that reads no input owes its answer whatever the source tells
-  pub alone : reads_input line ≡ false → (files : Files) (input : List ℕ) (reading : Reading) → old.files ≡ Some files
+  pub alone : reads_input line ≡ false → (files : Files) (input : List ℕ) (reading : ReadingOf line) → old.files ≡ Some files
       → IsTableRun (answer_of (reply_of line limits files input reading) files) old new status
   -- whatever they tell: what is said is a reply of the line to some files and some input
   pub said : (status ≡ 6 → ⊥) → (status ≡ 8 → ⊥) → (reply : Reply) × MayReply line limits reply × IsSaid reply old new status

@@ -5,18 +5,18 @@ use Rattle.ew_outside.specs.Files.{Files}
 use Rattle.command_table.specs.Framings.{Framing, IsFramingOf}
 use Rattle.command_table.specs.Scripts.{Reading, Means}
 use Rattle.command_table.specs.Sessions.{served, session_answer}
-use Rattle.command_table.specs.Table.{Text, Line, does, serves, Answer, answer_of, reply_of, line_of}
+use Rattle.command_table.specs.Table.{Text, Line, does, serves, Answer, answer_of, reply_of, line_of, ReadingOf, MeansTo}
 
--- frames to a session, and a script, perhaps a bad one, to every other line
+-- frames to a session, and a script, perhaps a bad one, to every other line: to a net a net script
 abbrev pub Meaning : Option Line → Type 0
 Meaning None = Reading
-Meaning (Some (does command)) = Reading
+Meaning (Some (does command)) = ReadingOf (Some command)
 Meaning (Some (serves file)) = Framing
 
 -- the input means this to the line
 abbrev pub IsMeant : LimitNumbers → (l : Option Line) → List ℕ → Meaning l → Type 0
 IsMeant limits None input reading = Means input reading
-IsMeant limits (Some (does command)) input reading = Means input reading
+IsMeant limits (Some (does command)) input reading = MeansTo (Some command) input reading
 IsMeant limits (Some (serves file)) input f = IsFramingOf limits input f
 
 -- what a line answers, which may not be taken

@@ -1,5 +1,5 @@
 -- What merging one file into another promises.
-use Rattle.std.specs.Prelude.{◌≡◌, ⊤, ℕ, ◌+◌, ◌⊎◌, List, [], ◌∷◌, ◌++◌, length, IfSome}
+use Rattle.std.specs.Prelude.{◌≡◌, ⊤, ℕ, ◌+◌, ◌⊎◌, List, [], ◌∷◌, ◌++◌, length, Some, IfSome}
 use Rattle.std.specs.FinMap.{get}
 use Rattle.ew_model.specs.declared.event.Event.{Event}
 use Rattle.ew_model.specs.FileLaws.{AreBytes}
@@ -7,11 +7,11 @@ use Rattle.ew_model.specs.Sets.{SameElements}
 use Rattle.ew_model.specs.Limits.{LimitNumbers, AreLimits}
 use Rattle.ew_outside.specs.Files.{Files}
 use Rattle.command_table.specs.Scripts.{Reading}
-use Rattle.command_table.specs.Table.{Text, content, Command, merge, show, prints, Answer, answer_of, reply_to, open_file, opened}
+use Rattle.command_table.specs.Table.{Text, content, Command, ReadingOf, merge, show, prints, Answer, answer_of, reply_to, open_file, opened}
 use Rattle.command_table.specs.Text.{received_text}
 
 -- what a command answers over files and an input
-abbrev pub command_answer : Command → LimitNumbers → Files → List ℕ → Reading → Answer
+abbrev pub command_answer : (command : Command) → LimitNumbers → Files → List ℕ → ReadingOf (Some command) → Answer
 command_answer command limits files input reading = answer_of (reply_to command limits files input reading) files
 
 -- Where a merge is done, each event of the other file was appended or was there before; none waits, and none is refused.

@@ -4,11 +4,11 @@ use Rattle.ew_model.specs.FileLaws.{AreBytes}
 use Rattle.ew_model.specs.Limits.{LimitNumbers}
 use Rattle.generator.specs.Making.{made}
 use Rattle.command_table.specs.Loads.{File}
-use Rattle.command_table.specs.Scripts.{Reading, Means}
+use Rattle.command_table.specs.Scripts.{Reading, Means, NetReading, MeansNet}
 use Rattle.command_table.specs.Text.{usage, input_too_long}
 use Rattle.command_table.specs.Framings.{Framing, IsFramingOf}
 use Rattle.command_table.specs.Sessions.{Session, served_as}
-use Rattle.command_table.specs.Table.{Text, Command, create, edit, show, merge, make, Reply, refuses, Opened, opened, refused, opened_as, create_reply, show_reply, merge_reply, make_reply, over_events, over_both, script_reply}
+use Rattle.command_table.specs.Table.{Text, Command, create, edit, show, merge, make, net, Reply, refuses, Opened, opened, refused, opened_as, create_reply, show_reply, merge_reply, make_reply, over_events, over_both, script_reply, net_script_reply}
 
 -- a file that some bytes are
 abbrev pub MayOpen : Text → LimitNumbers → Opened → Type 0
@@ -21,12 +21,19 @@ MayEdit name agent limits (opened events) reply =
     (reply ≡ refuses 7 (input_too_long limits.input))
     ⊎ ((input : List ℕ) × (reading : Reading) × (length input ≤ limits.input) × Means input reading × (reply ≡ script_reply name agent limits events reading))
 
+-- a net is refused for an input that is too long, or answers by the meaning of an input
+abbrev pub MayNet : LimitNumbers → Reply → Type 0
+MayNet limits reply =
+    (reply ≡ refuses 7 (input_too_long limits.input))
+    ⊎ ((input : List ℕ) × (reading : NetReading) × (length input ≤ limits.input) × MeansNet input reading × (reply ≡ net_script_reply limits reading))
+
 abbrev pub MayReplyTo : Command → LimitNumbers → Reply → Type 0
 MayReplyTo (create name) limits reply = (file : File) × (reply ≡ create_reply name file)
 MayReplyTo (edit name agent) limits reply = (file : File) × MayEdit name agent limits (opened_as name limits file) reply
 MayReplyTo (show listing name) limits reply = (file : File) × (reply ≡ over_events (show_reply listing) (opened_as name limits file))
 MayReplyTo (merge name other) limits reply = (file : File) × (second : File) × (reply ≡ over_both (merge_reply name limits) (opened_as name limits file) (opened_as other limits second))
 MayReplyTo (make seed count) limits reply = reply ≡ make_reply limits (made limits seed count)
+MayReplyTo net limits reply = MayNet limits reply
 
 -- the replies of a line
 abbrev pub MayReply : Option Command → LimitNumbers → Reply → Type 0

@@ -3,7 +3,7 @@ use Rattle.std.specs.Prelude.{◌≡◌, ◌≤◌, ⊤, ℕ, List, [], ◌∷�
 use Rattle.ew_model.specs.Limits.{LimitNumbers}
 use Rattle.ew_outside.specs.Files.{Files}
 use Rattle.ew_outside.specs.Counts.{next}
-use Rattle.command_table.specs.Table.{Text, Command, create, edit, show, merge, make, Opened, opened, refused, open_file}
+use Rattle.command_table.specs.Table.{Text, Command, create, edit, show, merge, make, net, Opened, opened, refused, open_file}
 
 -- the files that a line names, in the order of their loads
 abbrev pub files_of : Option Command → List Text
@@ -12,6 +12,7 @@ files_of (Some (edit name agent)) = name ∷ []
 files_of (Some (show listing name)) = name ∷ []
 files_of (Some (merge name other)) = name ∷ other ∷ []
 files_of (Some (make seed count)) = []
+files_of (Some net) = []
 files_of None = []
 
 -- the other file of a merge comes behind one that is open
@@ -26,6 +27,7 @@ loads_of (Some (edit name agent)) limits files = name ∷ []
 loads_of (Some (show listing name)) limits files = name ∷ []
 loads_of (Some (merge name other)) limits files = loads_behind name other (open_file name limits files)
 loads_of (Some (make seed count)) limits files = []
+loads_of (Some net) limits files = []
 loads_of None limits files = []
 
 -- the count of loads after one of each of these files
@@ -58,4 +60,5 @@ IfEditRefused (Some (edit name agent)) limits files holds = IfRefused (open_file
 IfEditRefused (Some (show listing name)) limits files holds = ⊤
 IfEditRefused (Some (merge name other)) limits files holds = ⊤
 IfEditRefused (Some (make seed count)) limits files holds = ⊤
+IfEditRefused (Some net) limits files holds = ⊤
 IfEditRefused None limits files holds = ⊤

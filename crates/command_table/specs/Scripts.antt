@@ -1,9 +1,11 @@
--- What running an edit script does to a history.
+-- What inputs are read as, and what running an edit script does to a history.
 use Rattle.std.specs.Prelude.{ℕ, List, [], ◌∷◌, ◌++◌, Option, None, Some}
 use Rattle.ew_model.specs.declared.event.Event.{Event}
 use Rattle.ew_model.specs.Limits.{LimitNumbers}
 use Rattle.ew_model.specs.Edits.{Edit, EditRefusal, events_of_edit, edit_refusal}
 use Rattle.ew_model.specs.Scripts.{Numbered, IsScript, IsFirstBadLine}
+use Rattle.net_words.specs.declared.step.NetStep.{NetStep}
+use Rattle.net_words.specs.NetScripts.{IsNetScript, IsFirstBadNetLine, numbered_steps}
 
 -- what an input was read as: the edits of a script, or the number of its first bad line
 pub data Reading : Type 0 where
@@ -14,6 +16,16 @@ pub data Reading : Type 0 where
 abbrev pub Means : List ℕ → Reading → Type 0
 Means input (script edits) = IsScript input edits
 Means input (bad_line line) = IsFirstBadLine input line
+
+-- what an input was read as for a net: the steps of a net script, each with the number of its line, or the number of its first bad line
+pub data NetReading : Type 0 where
+  net_script : (steps : List (ℕ × NetStep)) → NetReading
+  bad_net_line : (line : ℕ) → NetReading
+
+-- the input means this to a net
+abbrev pub MeansNet : List ℕ → NetReading → Type 0
+MeansNet input (net_script steps) = IsNetScript input (numbered_steps steps)
+MeansNet input (bad_net_line line) = IsFirstBadNetLine input line
 
 -- a history after edits, or the line that was refused, and why
 pub data Edited : Type 0 where

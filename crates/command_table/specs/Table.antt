@@ -30,13 +30,18 @@ use Rattle.peer_exchange.specs.Answering.{is_clash}
 use Rattle.history_words.specs.Listings.{check_text, heads_text, log_text}
 use Rattle.history_words.specs.Replays.{replay_text}
 use Rattle.history_words.specs.Tallies.{accepted_in, repeats_in, refused_in}
+use Rattle.net_core.specs.Answers.{RunOutcome, net_run}
+use Rattle.net_core.specs.Answers.RunOutcome.{Ran, Broke}
+use Rattle.net_core.specs.Machine as machine
+use Rattle.net_core.specs.Machine.{empty_network}
+use Rattle.net_core.specs.Machine.Refusal.{NoPeer, PeerTwice, NoPacket, NoEdit}
 use Rattle.generator.specs.Making.{Made, made, printed}
 use Rattle.generator.specs.Making.Made.{Going, Stopped}
 use Rattle.command_table.specs.Cli.{egw_app, most_made, most_seed}
 use Rattle.command_table.specs.Loads.{File, missing, too_long, whole, whole_of}
 use Rattle.command_table.specs.VersionWords.{version_in}
-use Rattle.command_table.specs.Scripts.{Reading, script, bad_line, Edited, ran, stopped_at, edited_by}
-use Rattle.command_table.specs.Text.{bad_line as bad_line_text, line_out_of_range, out_of_range, too_many_heads, too_many_events, made_text, input_too_long, unknown, clash, received_text, usage, no_file, file_there, short_file, no_event_file, unknown_version, bad_digest, bad_field, bad_event, file_too_long, file_too_many}
+use Rattle.command_table.specs.Scripts.{Reading, Means, script, bad_line, NetReading, MeansNet, net_script, bad_net_line, Edited, ran, stopped_at, edited_by}
+use Rattle.command_table.specs.Text.{bad_line as bad_line_text, line_out_of_range, out_of_range, too_many_heads, too_many_events, made_text, input_too_long, no_packet, no_peer, peer_there, unknown, clash, received_text, usage, no_file, file_there, short_file, no_event_file, unknown_version, bad_digest, bad_field, bad_event, file_too_long, file_too_many}
 
 abbrev pub Text : Type 0
 Text = List ℕ
@@ -58,6 +63,7 @@ pub data Command : Type 0 where
   show : (listing : Listing) (file : Text) → Command
   merge : (file other : Text) → Command
   make : (seed count : ℕ) → Command
+  net : Command
 
 -- a line that is taken: a command, or a session with a peer who is served with a file
 pub data Line : Type 0 where
@@ -109,7 +115,8 @@ command_in name rows =
     else (if bytes_eq name (codes "check") then file_line (show numbers) rows
     else (if bytes_eq name (codes "merge") then merge_line rows
     else (if bytes_eq name (codes "ask") then file_line (show question) rows
-    else (if bytes_eq name (codes "make") then make_line rows else None)))))))))
+    else (if bytes_eq name (codes "make") then make_line rows
+    else (if bytes_eq name (codes "net") then Some net else None))))))))))
 
 -- the line of what `clap` finds in the words
 abbrev pub line_in : Option (Text × List Row) → Option Line
@@ -264,13 +271,50 @@ abbrev pub make_reply : LimitNumbers → Made → Reply
 make_reply limits (Going m) = prints (printed m.peers)
 make_reply limits (Stopped why) = stop_reply limits why
 
+-- why a line of a net script is refused
+abbrev pub net_refusal : LimitNumbers → ℕ → machine.Refusal → Reply
+net_refusal limits line (NoPeer name) = refuses 5 (no_peer line name)
+net_refusal limits line (PeerTwice name) = refuses 5 (peer_there line name)
+net_refusal limits line (NoPacket packet) = refuses 5 (no_packet line packet)
+net_refusal limits line (NoEdit why) = line_refusal limits line why
+
+-- what the steps of a net script came to: all that they print, or the first refusal and nothing else
+abbrev pub net_run_reply : LimitNumbers → RunOutcome → Reply
+net_run_reply limits (Ran printed) = prints printed
+net_run_reply limits (Broke line why) = net_refusal limits line why
+
+-- a net script, whose run begins without peers; every line is read before the first is run
+abbrev pub net_script_reply : LimitNumbers → NetReading → Reply
+net_script_reply limits (bad_net_line line) = refuses 5 (bad_line_text line)
+net_script_reply limits (net_script steps) = net_run_reply limits (net_run (empty_network limits) steps)
+
+-- an input, which may be too long
+abbrev pub net_reply : LimitNumbers → List ℕ → NetReading → Reply
+net_reply limits input reading = if nat_lt limits.input (length input) then refuses 7 (input_too_long limits.input) else net_script_reply limits reading
+
+-- what an input is read as: a net script by a net, and an edit script by every other command and a line that isn't taken
+abbrev pub ReadingOf : Option Command → Type 0
+ReadingOf (Some net) = NetReading
+ReadingOf line = Reading
+
+-- the input means this to the line
+abbrev pub MeansTo : (line : Option Command) → List ℕ → ReadingOf line → Type 0
+MeansTo (Some net) input reading = MeansNet input reading
+MeansTo (Some (create name)) input reading = Means input reading
+MeansTo (Some (edit name agent)) input reading = Means input reading
+MeansTo (Some (show listing name)) input reading = Means input reading
+MeansTo (Some (merge name other)) input reading = Means input reading
+MeansTo (Some (make seed count)) input reading = Means input reading
+MeansTo None input reading = Means input reading
+
 -- what a command does over files and an input, and what the input means
-abbrev pub reply_to : Command → LimitNumbers → Files → List ℕ → Reading → Reply
+abbrev pub reply_to : (command : Command) → LimitNumbers → Files → List ℕ → ReadingOf (Some command) → Reply
 reply_to (create name) limits files input reading = create_reply name (whole_of 0 (get files name))
 reply_to (edit name agent) limits files input reading = over_events (input_reply name agent limits input reading) (open_file name limits files)
 reply_to (show listing name) limits files input reading = over_events (show_reply listing) (open_file name limits files)
 reply_to (merge name other) limits files input reading = over_both (merge_reply name limits) (open_file name limits files) (open_file other limits files)
 reply_to (make seed count) limits files input reading = make_reply limits (made limits seed count)
+reply_to net limits files input reading = net_reply limits input reading
 
 -- the commands that read the input
 abbrev pub reads_input : Option Command → Bool
@@ -279,6 +323,7 @@ reads_input (Some (edit name agent)) = true
 reads_input (Some (show listing name)) = false
 reads_input (Some (merge name other)) = false
 reads_input (Some (make seed count)) = false
+reads_input (Some net) = true
 reads_input None = false
 
 -- the commands whose status 3 says that a file is missing
@@ -288,6 +333,7 @@ needs_file (Some (edit name agent)) = true
 needs_file (Some (show listing name)) = true
 needs_file (Some (merge name other)) = true
 needs_file (Some (make seed count)) = false
+needs_file (Some net) = false
 needs_file None = false
 
 -- what a run answers: its status, what it prints, what it says on the error output, and the files after it
@@ -303,6 +349,6 @@ answer_of (stores out name bytes) files = record { status = 0; out = out; err = 
 answer_of (refuses status text) files = record { status = status; out = []; err = text; files = files }
 
 -- what a command does, or a line that isn't taken
-abbrev pub reply_of : Option Command → LimitNumbers → Files → List ℕ → Reading → Reply
+abbrev pub reply_of : (line : Option Command) → LimitNumbers → Files → List ℕ → ReadingOf line → Reply
 reply_of None limits files input reading = refuses 2 usage
 reply_of (Some command) limits files input reading = reply_to command limits files input reading

@@ -83,6 +83,16 @@ bad_line line = codes "egw: line " ++ (decimal line ++ codes ": unreadable\n")
 abbrev pub line_out_of_range : ℕ → ℕ → List ℕ
 line_out_of_range line len = codes "egw: line " ++ (decimal line ++ (codes ": out of range, length " ++ (decimal len ++ codes "\n")))
 
+-- why a line of a net script is refused: a peer that isn't there or is there already, or a packet that was never made
+abbrev pub no_peer : ℕ → List ℕ → List ℕ
+no_peer line name = codes "egw: line " ++ (decimal line ++ (codes ": no peer " ++ (name ++ codes "\n")))
+
+abbrev pub peer_there : ℕ → List ℕ → List ℕ
+peer_there line name = codes "egw: line " ++ (decimal line ++ (codes ": peer " ++ (name ++ codes " is there\n")))
+
+abbrev pub no_packet : ℕ → ℕ → List ℕ
+no_packet line packet = codes "egw: line " ++ (decimal line ++ (codes ": no packet " ++ (decimal packet ++ codes "\n")))
+
 -- the same of an edit that stands in no line
 abbrev pub out_of_range : ℕ → List ℕ
 out_of_range len = codes "egw: out of range, length " ++ (decimal len ++ codes "\n")

@@ -5,11 +5,12 @@ ghost use Rattle.ew_model.specs.Answers.{ruling_of};
 ghost use Rattle.ew_model.specs.Scripts.{id_text};
 ghost use Rattle.event_file.specs.Faults.{kind_of};
 ghost use Rattle.command_texts.specs.Told.{took_text};
-ghost use Rattle.command_table.specs.Text.{bad_body, bad_digest, bad_event, bad_field, bad_kind, bad_line, clash, line_out_of_range, out_of_range, too_many_events, too_many_heads, field_words, file_there, frame_cut, frame_too_long, file_too_long, file_too_many, input_too_long, no_event_file, no_file, short_file, unknown, unknown_version, usage, verdict_words};
+ghost use Rattle.command_table.specs.Text.{bad_body, bad_digest, bad_event, bad_field, bad_kind, bad_line, clash, line_out_of_range, no_packet, no_peer, out_of_range, peer_there, too_many_events, too_many_heads, field_words, file_there, frame_cut, frame_too_long, file_too_long, file_too_many, input_too_long, no_event_file, no_file, short_file, unknown, unknown_version, usage, verdict_words};
 
 use event_file::RecordFault;
 use event_words::print::print_id;
 use ew_model::id::Id;
+use ew_model::name::Name;
 use ew_model::verdict::Verdict;
 use replica::Took;
 use std::alloc::{AllocError, Global};
@@ -182,6 +183,30 @@ pub fn line_out_of_range_text(alloc: Global, line: u32, len: u32) -> Result<Vec<
     ensures { IfOk result (λ t. t.items ≡ line_out_of_range line len) }
 {
     let text = format!(in alloc; "egw: line {line}: out of range, length {len}\n")?;
+    Ok(text.into_bytes())
+}
+
+/// That the net of a script has no peer of the name that a line says.
+pub fn no_peer_text(alloc: Global, line: u32, name: &Name) -> Result<Vec<u8>, AllocError>
+    ensures { IfOk result (λ t. t.items ≡ no_peer line name.now) }
+{
+    let text = format!(in alloc; "egw: line {line}: no peer {name}\n")?;
+    Ok(text.into_bytes())
+}
+
+/// That the net has a peer of the name already.
+pub fn peer_there_text(alloc: Global, line: u32, name: &Name) -> Result<Vec<u8>, AllocError>
+    ensures { IfOk result (λ t. t.items ≡ peer_there line name.now) }
+{
+    let text = format!(in alloc; "egw: line {line}: peer {name} is there\n")?;
+    Ok(text.into_bytes())
+}
+
+/// That no packet of this number was made.
+pub fn no_packet_text(alloc: Global, line: u32, packet: u32) -> Result<Vec<u8>, AllocError>
+    ensures { IfOk result (λ t. t.items ≡ no_packet line packet) }
+{
+    let text = format!(in alloc; "egw: line {line}: no packet {packet}\n")?;
     Ok(text.into_bytes())
 }
 

@@ -5,7 +5,7 @@ use Rattle.clap.specs.Words.{Row, Kinds, IsAmong, fault_of, subcommand_of, is_si
 use Rattle.clap.specs.declared.error.kind.ErrorKind.{ErrorKind}
 use Rattle.clap.specs.declared.error.kind.ErrorKind.TheVariants.{OutOfMemory}
 use Rattle.clap.proofs.OnLiterals.{clap_on_literals}
-use Rattle.command_table.specs.Table.{Text, content, past, log, replay, numbers, question, Line, does, serves, edit, show, merge, make, line_in, where_none, line_of}
+use Rattle.command_table.specs.Table.{Text, content, past, log, replay, numbers, question, Line, does, serves, edit, show, merge, make, net, line_in, where_none, line_of}
 use Rattle.command_table.specs.Cli.{cat_app, edit_app, egw_app, make_app, merge_app}
 use Rattle.command_table.specs.VersionWords.{version_in}
 
@@ -135,3 +135,11 @@ too_many_to_make = refl
 a_making_of_a_file : line_of (codes "make" ∷ codes "F" ∷ codes "--seed=7" ∷ codes "--count=1" ∷ []) ≡ None
 unfolding line_of egw_app edit_app cat_app merge_app make_app clap_on_literals
 a_making_of_a_file = refl
+
+a_net : line_of (codes "net" ∷ []) ≡ Some (does net)
+unfolding line_of egw_app edit_app cat_app merge_app make_app clap_on_literals
+a_net = refl
+
+a_net_of_a_file : line_of (codes "net" ∷ codes "F" ∷ []) ≡ None
+unfolding line_of egw_app edit_app cat_app merge_app make_app clap_on_literals
+a_net_of_a_file = refl

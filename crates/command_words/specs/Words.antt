@@ -1,7 +1,7 @@
 -- What the words of a command line were read as.
 use Rattle.std.specs.Prelude.{◌≡◌, ⊤, true, Option, Some}
 use Rattle.ew_model.specs.Names.{is_name}
-use Rattle.command_table.specs.Table.{Listing, content, past, head_ids, log, replay, numbers, question, Command, create, edit, show, merge, make, Line, does, serves}
+use Rattle.command_table.specs.Table.{Listing, content, past, head_ids, log, replay, numbers, question, Command, create, edit, show, merge, make, net, Line, does, serves}
 use Rattle.command_words.specs.declared.words as words
 use Rattle.command_words.specs.declared.words.Listing.TheVariants as shown
 use Rattle.command_words.specs.declared.words.Line.TheVariants as line
@@ -25,6 +25,7 @@ command_view (taken.Edit name agent) = edit name.now agent.now
 command_view (taken.Show listing name) = show (listing_view listing) name.now
 command_view (taken.Merge name other) = merge name.now other.now
 command_view (taken.Make seed count) = make seed count
+command_view taken.Net = net
 
 abbrev pub line_view : words.Line.Line → Line
 line_view (line.Does command) = does (command_view command)

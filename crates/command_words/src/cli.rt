@@ -2,7 +2,7 @@
 ghost use Rattle.std.specs.Prelude.{◌≡◌, false, IfOk};
 ghost use Rattle.clap.specs.Words.{app_of, rule_of};
 ghost use Rattle.clap.specs.declared.builder.command.Command.TheViews.{out-Command};
-ghost use Rattle.command_table.specs.Cli.{bare_app, cat_app, edit_app, egw_app, file_app, make_app, merge_app, number_rule, then_app};
+ghost use Rattle.command_table.specs.Cli.{bare_app, cat_app, edit_app, egw_app, file_app, make_app, merge_app, net_app, number_rule, then_app};
 ghost use Rattle.command_words.specs.Apps.{with_shows_app};
 
 use clap::builder::ValueParser;
@@ -137,6 +137,13 @@ fn with_make<'a>(alloc: Global, command: Command<'a>) -> Result<Command<'a>, All
     command.subcommand(make)
 }
 
+/// Adds the command of a net.
+fn with_net<'a>(alloc: Global, command: Command<'a>) -> Result<Command<'a>, AllocError>
+    ensures { IfOk result (λ c. app_of c ≡ then_app (app_of command.entry) net_app) }
+{
+    command.subcommand(Command::new(alloc, "net"))
+}
+
 /// The whole command.
 pub fn egw_command<'a>(alloc: Global) -> Result<Command<'a>, AllocError>
     ensures { IfOk result (λ c. app_of c ≡ egw_app) }
@@ -148,5 +155,6 @@ pub fn egw_command<'a>(alloc: Global) -> Result<Command<'a>, AllocError>
     let command = with_merge(alloc, command)?;
     let command = with_file_command(alloc, command, "ask")?;
     let command = with_file_command(alloc, command, "serve")?;
+    let command = with_net(alloc, command)?;
     with_make(alloc, command)
 }

@@ -42,6 +42,7 @@ pub enum Taken<'a> {
     Show { listing: Listing, file: &'a str },
     Merge { file: &'a str, other: &'a str },
     Make { seed: u64, count: u32 },
+    Net,
 }
 
 /// A command line that is taken.
@@ -182,6 +183,9 @@ fn read_command<'a>(
     }
     if name == "make" {
         return Ok(read_make(values));
+    }
+    if name == "net" {
+        return Ok(Some(Taken::Net));
     }
     Ok(None)
 }

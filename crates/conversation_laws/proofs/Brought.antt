@@ -39,27 +39,22 @@ use Rattle.command_table.specs.Sessions.{Exchange, Session, bytes_of, closed_rep
 use Rattle.command_table.specs.Table.{Text, Answer, Reply, Opened, opened, open_file, over_events, prints, question, refuses, show, show_reply, stores, answer_of}
 use Rattle.command_table.specs.Text.{input_too_long}
 use Rattle.command_table.proofs.FileSizes.{file_length}
-use Rattle.command_table.proofs.MergedFiles.{IsStorable, Opens, opened_is, opens, read_again, status_in, storable}
+use Rattle.command_table.proofs.MergedFiles.{IsStorable, Opens, opened_is, opens, read_again, status_in, storable, not_longer}
 use Rattle.replica.proofs.Beginnings.{good_from_none_bad}
 use Rattle.conversation_laws.specs.Conversations.{CanBeOne, ConversationsBring, IsBrought, IsConversation}
 use Rattle.conversation_laws.proofs.GoodBehind.{good_behind, good_joined}
 use Rattle.conversation_laws.proofs.Received.{IsTalked, talked}
 use Rattle.conversation_laws.proofs.Spoken.{framed, just, summary_sound}
-
-not_above : (most n : ℕ) → n ≤ most → nat_lt most n ≡ false
-not_above most n h = grind (arith, nat_tests)
+use Rattle.command_table.proofs.Pasts.{same_events}
 
 -- ---- files
-
-same_opened : (xs ys : List Event) → opened xs ≡ opened ys → xs ≡ ys
-same_opened xs ys e = cc
 
 -- how a file was read that opens as these events
 pub opens_of : (name : Text) (limits : LimitNumbers) (files : Files) (events : List Event) → open_file name limits files ≡ opened events → Opens limits files name events
 opens_of name limits files events e =
     let nothing : List Event → Reply = λ xs. prints [] in
     let o = opens nothing name limits files (ap (λ (x : Opened). status_in (over_events nothing x)) e) in
-    subst (Opens limits files name) (same_opened o.0 events (sym (opened_is name limits files o.0 o.1) ∙ e)) o.1
+    subst (Opens limits files name) (same_events o.0 events (sym (opened_is name limits files o.0 o.1) ∙ e)) o.1
 
 pub opened_good : (name : Text) (limits : LimitNumbers) (files : Files) (events : List Event) → open_file name limits files ≡ opened events → IsGood events
 opened_good name limits files events e = good_from_none_bad events (opens_of name limits files events e).good
@@ -73,7 +68,7 @@ stored_opens limits files name events numbers good one =
     opened_is name limits (insert files name (file_of events)) events (record {
       bytes = file_of events;
       here = get-insert nat_list_cmp_total files name (file_of events) name ∙ ap (λ (b : Bool). if b then Some (file_of events) else get files name) (names_equal.refl name);
-      short = not_above (most_file_bytes limits.events) (length (file_of events)) (omega (arith, size, one.few));
+      short = not_longer (most_file_bytes limits.events) (length (file_of events)) (omega (arith, size, one.few));
       read = read_again limits events numbers good one;
       good = (good_has_no_bad events).0 good;
     })
@@ -99,8 +94,8 @@ answered_so limits files name events input counts f e same short =
     }) files in
     ap (λ (o : Opened). session_answer (served_as name limits input f o) files) e
     ∙ ap (λ (g : Framing). session_answer (served_from name limits input g events) files) same
-    ∙ ap (λ (b : Bool). close b (nat_lt (length events) (length events))) (not_above limits.input (length input) short)
-    ∙ ap (λ (c : Bool). close false c) (not_above (length events) (length events) (omega arith))
+    ∙ ap (λ (b : Bool). close b (nat_lt (length events) (length events))) (not_longer limits.input (length input) short)
+    ∙ ap (λ (c : Bool). close false c) (not_longer (length events) (length events) (omega arith))
     ∙ ap (λ (out : List ℕ). answer_of (prints out) files) (append-nil (said ++ []) ∙ append-nil said)
 
 -- a session that ends with a Bye, after which the replica holds these events

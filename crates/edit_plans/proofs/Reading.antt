@@ -6,7 +6,7 @@ use Rattle.ew_model.specs.declared.event.Event.{Event}
 use Rattle.ew_model.specs.Limits.{LimitNumbers}
 use Rattle.ew_outside.specs.Files.{Files}
 use Rattle.command_table.specs.Reads.{TakesAtMost, IfRefused, IfEditRefused}
-use Rattle.command_table.specs.Table.{Text, Command, create, edit, show, merge, make, Opened, opened, refused, open_file}
+use Rattle.command_table.specs.Table.{Text, Command, create, edit, show, merge, make, net, Opened, opened, refused, open_file}
 
 if_refused : (o : Opened) (holds : Type 0) → holds → IfRefused o holds
 if_refused (opened events) holds h = tt
@@ -29,6 +29,7 @@ holds_edit_refused (Some (edit name agent)) limits (Some m) holds h = if_refused
 holds_edit_refused (Some (show listing name)) limits (Some m) holds h = tt
 holds_edit_refused (Some (merge name other)) limits (Some m) holds h = tt
 holds_edit_refused (Some (make seed count)) limits (Some m) holds h = tt
+holds_edit_refused (Some net) limits (Some m) holds h = tt
 holds_edit_refused None limits (Some m) holds h = tt
 holds_edit_refused l limits None holds h = tt
 

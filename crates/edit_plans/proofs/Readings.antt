@@ -54,7 +54,7 @@ module _ (name agent input : List ℕ) (r new : ReplicaState) where
 pub plans_opened :
     (name agent : List ℕ) (limits : LimitNumbers) (r : ReplicaState) (files : Option Files) (left : Option (List ℕ)) (result : Result Plan Stop) →
     r.limits ≡ limits → IfSome files (λ m. opened r.held ≡ open_file name limits m) → IfSome left (λ xs. PlansInput name agent r xs result) →
-    PlansBy (λ m xs reading. over_events (input_reply name agent limits xs reading) (open_file name limits m)) files left result
+    PlansBy Means (λ m xs reading. over_events (input_reply name agent limits xs reading) (open_file name limits m)) files left result
 plans_opened name agent limits r (Some m) (Some xs) (Ok p) same view plans =
     λ reading means.
     plans reading means ∙ ap (λ (l : LimitNumbers). input_reply name agent l xs reading r.held) same ∙ ap (over_events (input_reply name agent limits xs reading)) view

@@ -2,7 +2,6 @@
 use Rattle.std.specs.Prelude.{◌≡◌, ◌≤◌, ⊤, ℕ, List, [], Option, Some, Result, Ok, Err}
 use Rattle.ew_outside.specs.Files.{Files}
 use Rattle.ew_outside.specs.Counts.{Rose}
-use Rattle.command_table.specs.Scripts.{Reading, Means}
 use Rattle.command_table.specs.Table.{Reply}
 use Rattle.opened_files.specs.declared.reply.Plan.{Plan}
 use Rattle.opened_files.specs.declared.reply.Stop.{Stop}
@@ -23,10 +22,10 @@ Causes shelf shelf' source source' (Err OutOfMemory) = (shelf' ≡ shelf) × (so
 Causes shelf shelf' source source' (Err ShelfFailed) = ((shelf ≤ shelf') × Rose shelf shelf') × (source' ≡ source)
 Causes shelf shelf' source source' (Err SourceFailed) = (shelf' ≡ shelf) × ((source ≤ source') × Rose source source')
 
--- the plan is this reply, where shelf and source told what they hold
-abbrev pub PlansBy : (Files → List ℕ → Reading → Reply) → Option Files → Option (List ℕ) → Result Plan Stop → Type 0
-PlansBy reply (Some m) (Some input) (Ok p) = (reading : Reading) → Means input reading → plan_view p ≡ reply m input reading
-PlansBy reply _ _ _ = ⊤
+-- the plan is this reply, whatever the input means, where shelf and source told what they hold
+abbrev pub PlansBy : {Reading : Type 0} → (List ℕ → Reading → Type 0) → (Files → List ℕ → Reading → Reply) → Option Files → Option (List ℕ) → Result Plan Stop → Type 0
+PlansBy {Reading} Means reply (Some m) (Some input) (Ok p) = (reading : Reading) → Means input reading → plan_view p ≡ reply m input reading
+PlansBy Means reply _ _ _ = ⊤
 
 -- at status 0 nothing is left of an input that was told
 abbrev pub ReadsAll : Option (List ℕ) → Option (List ℕ) → Result Plan Stop → Type 0

@@ -5,6 +5,7 @@ ghost use Rattle.replica.specs.Answers.{EditsBy};
 ghost use Rattle.edit_plans.specs.Edits.{EditsTo, LineRefuses, MayScript, PlansInput, PlansScript, edits_reply};
 ghost use Rattle.command_table.specs.Reads.{IfRefused, LeavesInput, TakesAtMost};
 ghost use Rattle.command_table.specs.Possible.{MayEdit, MayReplyTo};
+ghost use Rattle.command_table.specs.Scripts.{Means};
 ghost use Rattle.command_table.specs.Table as table;
 ghost use Rattle.command_table.specs.Table.{input_reply, made_reply, open_file, opened, over_events};
 ghost use Rattle.opened_files.specs.Touches.{TouchesAtMost, file_touches};
@@ -48,7 +49,7 @@ fn do_edit<L: Ledger>(
 }
 
 /// Why a line is refused, as a plan.
-fn refuse_line<'a>(
+pub fn refuse_line<'a>(
     alloc: Global,
     limits: &Limits,
     line: u32,
@@ -208,7 +209,7 @@ pub fn edit<'a, H: Shelf, S: Source, L: Ledger>(
     input: &mut S,
     steps: &mut Steps<L>,
 ) -> Result<Plan<'a>, Stop>
-    ensures told { PlansBy (λ files xs reading. over_events (input_reply name.now agent limits.now xs reading) (open_file name.now limits.now files)) (H.files shelf.old) (S.left input.old) result }
+    ensures told { PlansBy Means (λ files xs reading. over_events (input_reply name.now agent limits.now xs reading) (open_file name.now limits.now files)) (H.files shelf.old) (S.left input.old) result }
     ensures some { IfOk result (λ p. MayReplyTo (table.edit name.now agent) limits.now (plan_view p)) }
     ensures plan { IfOk result IsCommandPlan }
     ensures same { H.files shelf.new ≡ H.files shelf.old }

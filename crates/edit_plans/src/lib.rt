@@ -2,4 +2,4 @@
 #![tactic(auto)]
 
 pub mod edit;
-mod input;
+pub mod input;

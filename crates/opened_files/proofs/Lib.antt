@@ -1,4 +1,5 @@
 pub mod FileBytes
 pub mod Giving
+pub mod GraphRecords
 pub mod Shown
 pub mod Touches

@@ -2,5 +2,6 @@
 pub mod Faults
 pub mod Giving
 pub mod Loading
+pub mod Places
 pub mod Touches
 pub mod Views

@@ -11,7 +11,7 @@ use Rattle.ew_model.specs.Touches.{touches}
 use Rattle.ew_outside.specs.Files.{Files}
 use Rattle.generator.specs.Touches.{made_touches}
 use Rattle.command_table.specs.Loads.{File, missing, too_long, whole, whole_of}
-use Rattle.command_table.specs.Table.{Text, Command, create, edit, show, merge, make, Listing, past, replay, Opened, opened, refused, open_file}
+use Rattle.command_table.specs.Table.{Text, Command, create, edit, show, merge, make, net, Listing, past, replay, Opened, opened, refused, open_file}
 
 -- a file that is found is walked over from its start, also where one of its events isn't good
 abbrev pub found_touches : FileFinding → ℕ
@@ -42,16 +42,19 @@ listing_touches listing events = 0
 abbrev pub merge_touches : Text → LimitNumbers → Files → List Event → ℕ
 merge_touches other limits files events = file_touches other limits files + touches_over (most_touches limits events []) (open_file other limits files)
 
--- those of a command; an edit walks nothing but the load
-abbrev pub command_touches : Option Command → LimitNumbers → Files → ℕ
-command_touches (Some (create name)) limits files = 0
-command_touches (Some (edit name agent)) limits files = file_touches name limits files
-command_touches (Some (show listing name)) limits files = file_touches name limits files + touches_over (listing_touches listing) (open_file name limits files)
-command_touches (Some (merge name other)) limits files = file_touches name limits files + touches_over (merge_touches other limits files) (open_file name limits files)
-command_touches (Some (make seed count)) limits files = made_touches limits seed count
-command_touches None limits files = 0
-
 -- where the files are told, the steps rose by no more
 abbrev pub TouchesAtMost : (Files → ℕ) → Option Files → ℕ → ℕ → Type 0
 TouchesAtMost most (Some files) before now = now ≤ before + most files
 TouchesAtMost most None before now = ⊤
+
+-- a run of a command takes no more: an edit walks nothing but the load, and of a net no number is claimed
+abbrev pub CommandTakes : Option Command → LimitNumbers → Option Files → ℕ → ℕ → Type 0
+CommandTakes (Some (create name)) limits files before now = TouchesAtMost (λ m. 0) files before now
+CommandTakes (Some (edit name agent)) limits files before now = TouchesAtMost (file_touches name limits) files before now
+CommandTakes (Some (show listing name)) limits files before now =
+    TouchesAtMost (λ m. file_touches name limits m + touches_over (listing_touches listing) (open_file name limits m)) files before now
+CommandTakes (Some (merge name other)) limits files before now =
+    TouchesAtMost (λ m. file_touches name limits m + touches_over (merge_touches other limits m) (open_file name limits m)) files before now
+CommandTakes (Some (make seed count)) limits files before now = TouchesAtMost (λ m. made_touches limits seed count) files before now
+CommandTakes (Some net) limits files before now = ⊤
+CommandTakes None limits files before now = TouchesAtMost (λ m. 0) files before now

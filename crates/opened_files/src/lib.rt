@@ -6,3 +6,4 @@ pub mod load;
 pub mod open;
 pub mod reply;
 pub mod store;
+mod written;

@@ -5,7 +5,7 @@ ghost use Rattle.command_table.specs.Table.{stores};
 ghost use Rattle.opened_files.specs.Views.{IsCommandPlan, plan_view, status_of};
 
 use crate::reply::Plan;
-use event_file::encode;
+use crate::written::written;
 use replica::Replica;
 use std::alloc::{AllocError, Global};
 
@@ -13,8 +13,8 @@ use std::alloc::{AllocError, Global};
 fn file_bytes(alloc: Global, replica: &Replica) -> Result<Vec<u8>, AllocError>
     ensures { IfOk result (λ bytes. bytes.items ≡ file_of replica.now.held) }
 {
-    let events = replica.events()?;
-    encode(alloc, &events)
+    let _count = replica.count();
+    written(alloc, replica.graph())
 }
 
 /// Stores a replica's events and prints a text.

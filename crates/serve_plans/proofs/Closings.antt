@@ -26,6 +26,7 @@ use Rattle.serve_plans.specs.declared.closing.Closing.{Closing}
 use Rattle.serve_plans.specs.declared.closing.Closing.TheVariants as closing
 use Rattle.serve_plans.proofs.Cutting.{GoesOn, begins_more, begins_goes_on, begins_are_one}
 use Rattle.serve_plans.proofs.Talks.{talked_ended}
+use Rattle.ew_model.proofs.FileLists.{some_is}
 
 -- what is known of the bytes behind those that were read
 abbrev pub IsBehind : LimitNumbers → List ℕ → List ℕ → Closing → Type 0
@@ -51,9 +52,6 @@ pub record IsServedAs (s : Session) (out out' : Option (List ℕ)) (flushed : Op
 served_as_is : (s t : Session) (out out' : Option (List ℕ)) (flushed : Option ℕ) (r : Reply) → s ≡ t → r ≡ t.closing → Sends out out' flushed t.sent
     → IsServedAs s out out' flushed r
 served_as_is s t out out' flushed r same reply sends = subst (λ x. IsServedAs x out out' flushed r) (sym same) (record { closing = reply; sends = sends })
-
-some_is : {A : Type 0} (x y : A) → Some x ≡ Some y → x ≡ y
-some_is x y e = cc
 
 module _ (name : Text) (limits : LimitNumbers) (events : List Event) (input : List ℕ) (x : Framing) (frames : List Frame) where
   abbrev before : ℕ

@@ -9,7 +9,7 @@ use Rattle.peer_frames.specs.Cutting.{Head, head_of, told_length, Front, Tells, 
 use Rattle.peer_frames.specs.Cutting.Head.{Incomplete, NoKind, OverLimit, Complete}
 use Rattle.peer_frames.specs.Cutting.Front.{Whole, Partial}
 use Rattle.peer_frames.proofs.Heads.{HeadSays, head_says, Grows, grows}
-use Rattle.peer_frames.proofs.Cuts.{fronts_are_one, cuts_are_found}
+use Rattle.peer_frames.proofs.Cuts.{fronts_are_one, cuts_are_found, end_is_not, whole_parts}
 use Rattle.command_table.specs.Framings.{BeginWith}
 
 -- ---- bytes
@@ -46,17 +46,6 @@ whole_more Incomplete g f r more same t = absurd t
 whole_more (NoKind kind) g f r more same t = absurd t
 whole_more (OverLimit m) g f r more same t = absurd t
 whole_more (Complete kind body rest) g f r more same t = subst (λ h. Tells h (Whole f (r ++ more))) (sym same) (t.0, ap (λ bs. bs ++ more) t.1)
-
--- no bytes begin a frame
-pub nothing_found : (limits : LimitNumbers) → Finds limits [] Partial
-unfolding head_of
-nothing_found limits = tt
-
-pub end_is_not : (f : Frame) (rest : List ℕ) (end : Front) → Whole f rest ≡ end → is_whole end ≡ false → ⊥
-end_is_not f rest end e h = absurd (let t : true ≡ false = ap is_whole e ∙ h in cc)
-
-pub whole_parts : (f g : Frame) (r s : List ℕ) → Whole f r ≡ Whole g s → (f ≡ g) × (r ≡ s)
-whole_parts f g r s e = (cc, cc)
 
 -- ---- frames
 

@@ -18,15 +18,15 @@ use Rattle.serve_plans.specs.declared.halt.Halt.{Halt}
 use Rattle.serve_plans.specs.Plans.{MayPlan}
 use Rattle.serve_plans.proofs.Answers.{grows_none}
 use Rattle.serve_plans.proofs.Closings.{take_none}
-use Rattle.serve_plans.proofs.Cutting.{nothing_found}
 use Rattle.serve_plans.proofs.Served.{fresh_state}
+use Rattle.peer_frames.proofs.Cuts.{finds_nothing}
 
 -- the framing of an input without a byte
 abbrev no_framing : Framing
 no_framing = record { frames = []; rest = []; stop = Partial }
 
 nothing_framed : (limits : LimitNumbers) → IsFramingOf limits [] no_framing
-nothing_framed limits = record { begins = sym (take_none limits.input [] refl); found = nothing_found limits; none = refl }
+nothing_framed limits = record { begins = sym (take_none limits.input [] refl); found = finds_nothing limits; none = refl }
 
 -- the load failed
 pub stopped_plans : (name : Text) (limits : LimitNumbers) (out : Option (List ℕ)) (flushed : Option ℕ) (halt : Halt) → MayPlan name limits out out flushed (Err halt)

@@ -17,8 +17,9 @@ use Rattle.serve_plans.specs.declared.halt.Halt.{Halt}
 use Rattle.serve_plans.specs.declared.halt.Halt.TheVariants.{Stopped, SinkFailed}
 use Rattle.serve_plans.specs.declared.closing.Closing.{Closing}
 use Rattle.serve_plans.specs.declared.closing.Closing.TheVariants as closing
-use Rattle.serve_plans.proofs.Cutting.{begins_short, bytes_join, nothing_found}
+use Rattle.serve_plans.proofs.Cutting.{begins_short, bytes_join}
 use Rattle.serve_plans.proofs.Speaking.{spoken_none, spoken_fed, spoken_on, closed_on, broken_on}
+use Rattle.peer_frames.proofs.Cuts.{finds_nothing}
 
 -- nothing was read yet
 pub reads_none : (limits : LimitNumbers) (r : ReplicaState) (left out : Option (List ℕ)) (flushed : Option ℕ) (bytes : List ℕ) (room : ℕ) → bytes ≡ []
@@ -32,7 +33,7 @@ reads_none limits r left out flushed bytes room none most =
       taken = Consumes-nil left;
       within = omega (arith, most);
       spoken = spoken_none limits r [] out flushed 0;
-      found = nothing_found limits;
+      found = finds_nothing limits;
     })
 
 -- so many frames and bytes are no more than the limit

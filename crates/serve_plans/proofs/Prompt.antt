@@ -10,7 +10,7 @@ use Rattle.ew_outside.specs.Files.{Files}
 use Rattle.peer_frames.specs.declared.frame.Frame.{Frame}
 use Rattle.peer_frames.specs.Cutting.{Front, AreFrames}
 use Rattle.peer_frames.specs.Cutting.Front.{Partial}
-use Rattle.peer_frames.proofs.Cuts.{cuts_are_one}
+use Rattle.peer_frames.proofs.Cuts.{cuts_are_one, finds_nothing}
 use Rattle.command_table.specs.Sessions.{Exchange, exchanged, opened_state, IsReplied, IsPrompt}
 use Rattle.command_table.specs.Table.{Text, opened, open_file}
 use Rattle.command_table.proofs.Framings.{are_cut}
@@ -20,14 +20,9 @@ use Rattle.serve_plans.specs.declared.halt.Halt.{Halt}
 use Rattle.serve_plans.specs.declared.halt.Halt.TheVariants.{Stopped, SinkFailed}
 use Rattle.serve_plans.specs.Plans.{SendsReplies, ReadsOn}
 use Rattle.serve_plans.specs.Serving.{Spoken, IsPieceBehind, PlansTalk}
-use Rattle.serve_plans.proofs.Cutting.{nothing_found}
 use Rattle.serve_plans.proofs.Speaking.{any_flushed}
-
-same_bytes : (xs ys : List ℕ) → Some xs ≡ Some ys → xs ≡ ys
-same_bytes xs ys e = cc
-
-same_held : (held events : List Event) → opened held ≡ opened events → held ≡ events
-same_held held events e = cc
+use Rattle.ew_model.proofs.FileLists.{some_is}
+use Rattle.command_table.proofs.Pasts.{same_events}
 
 -- ---- the front of an input
 
@@ -35,7 +30,7 @@ same_held held events e = cc
 read_is : (read input : List ℕ) (left : Option (List ℕ)) (n : ℕ) → Consumes (Some input) left read → left ≡ Some (drop n input) → n ≤ length input → take n input ≡ read
 read_is read input None n taken gone short = absurd taken
 read_is read input (Some rest) n taken gone short =
-    let sizes = ap (λ (l : List ℕ). length l) (same_bytes rest (drop n input) gone) in
+    let sizes = ap (λ (l : List ℕ). length l) (some_is rest (drop n input) gone) in
     let size : n ≡ length read = omega (arith, short, sizes, ap (λ (l : List ℕ). length l) taken, length-drop n input, length-append read rest) in
     ap (λ k. take k input) size ∙ ap (take (length read)) taken ∙ take-append_seam read rest
 
@@ -77,7 +72,7 @@ piece_none limits r left out = record {
   frames = [];
   rest = [];
   begins = refl;
-  found = nothing_found limits;
+  found = finds_nothing limits;
   unended = refl;
   more = [];
   sent = Appends-nil out;
@@ -94,7 +89,7 @@ prompt_none name limits None left out = tt
 module _ (name : Text) (limits : LimitNumbers) (start : ReplicaState) (fresh : start ≡ opened_state limits start.held) (left' out out' : Option (List ℕ)) where
   pub reads_on : (files : Option Files) (left : Option (List ℕ)) → IfSome files (λ m. opened start.held ≡ open_file name limits m)
       → IsPieceBehind limits start left left' out out' → ReadsOn name limits files left left' out out'
-  reads_on (Some m) (Some input) is h = λ events same. subst (λ es. IsPrompt limits es input left' out out') (same_held start.held events (is ∙ same))
+  reads_on (Some m) (Some input) is h = λ events same. subst (λ es. IsPrompt limits es input left' out out') (same_events start.held events (is ∙ same))
       (piece_prompt limits start input left' out out' fresh h)
   reads_on (Some m) None is h = tt
   reads_on None left is h = tt
@@ -122,7 +117,7 @@ module _ (name : Text) (limits : LimitNumbers) (start : ReplicaState) (fresh : s
       let here = subst (λ bs. AreFrames limits bs frames end) (read_is h.0 input left' n h.2 gone short) cut in
       let s = h.3.2 in
       replies_of input h.0 h.3.0 flushed flushed' t.0 h.3.1 s (are_cut limits h.0 s.frames h.3.0 Partial s.begins h.3.3 refl) events
-      (same_held start.held events (is ∙ same)) frames end here
+      (same_events start.held events (is ∙ same)) frames end here
   sends_replies (Some m) (Some input) flushed flushed' (Err (Stopped stop.ShelfFailed)) is t = tt
   sends_replies (Some m) (Some input) flushed flushed' (Err (Stopped stop.OutOfMemory)) is t = tt
   sends_replies (Some m) (Some input) flushed flushed' (Err SinkFailed) is t = tt

@@ -10,7 +10,7 @@ use Rattle.peer_frames.specs.declared.frame.Frame.{Frame}
 use Rattle.peer_frames.specs.Cutting.{head_of, Front, Finds, AreFrames}
 use Rattle.peer_frames.specs.Cutting.Front.{Whole}
 use Rattle.peer_frames.proofs.Heads.{grows}
-use Rattle.peer_frames.proofs.Cuts.{fronts_are_one}
+use Rattle.peer_frames.proofs.Cuts.{fronts_are_one, end_is_not, whole_parts}
 use Rattle.peer_exchange.specs.Answering.{answer_to}
 use Rattle.peer_exchange.specs.AnswerTouches.{answer_touches}
 use Rattle.command_table.specs.Sessions.{opened_state}
@@ -21,7 +21,7 @@ use Rattle.serve_plans.specs.Serving.{Replies}
 use Rattle.serve_plans.specs.SessionTouches.{frames_touches, unless_ended, SessionTakes, TalkTakes, TakesWithin, LeavesTouches, AnswersTake, TouchesAhead}
 use Rattle.serve_plans.specs.declared.halt.Halt.{Halt}
 use Rattle.serve_plans.specs.declared.closing.Closing.{Closing}
-use Rattle.serve_plans.proofs.Cutting.{end_is_not, whole_more, whole_parts}
+use Rattle.serve_plans.proofs.Cutting.{whole_more}
 
 -- ---- frames
 

@@ -1,22 +1,23 @@
-use Rattle.command_table.specs.Table.{edit, reply_to}
+use Rattle.command_table.specs.Scripts.{MeansNet}
+use Rattle.command_table.specs.Table.{edit, net, MeansTo, net_reply, reply_to}
 use Rattle.command_words.specs.Words.{command_view}
-use Rattle.command_plans.proofs.Lines.{causes_of_shelf, plans_by, loads_one, one_front, may_plan}
+use Rattle.command_plans.proofs.Lines.{causes_of_shelf, for_any, loads_none, loads_one, may_plan, no_front, one_front, plans_by, plans_read}
 use Rattle.std.proofs.Common.{ℕ, List, subst, refl, Some}
 use Rattle.edit_plans.proofs.Reading.{holds_edit_refused, takes_none}
-use Rattle.edit_plans.proofs.Replies.{keeps_same}
+use Rattle.edit_plans.proofs.Replies.{causes_of_source, keeps_same, lost_of_source, source_keeps}
 use Rattle.edit_plans.specs.Sources.{PlansBy}
 use Rattle.command_plans.specs.Lines.{MayPlan}
 use Rattle.command_plans.proofs.plan.plan_taken.Goals as goal
 
 pub returns-in_default-clause-told : goal.returns-in_default-clause-told
-returns-in_default-clause-told g c = plans_by (reply_to (command_view c.args.line) c.args.limits.now) (g.H.Shelf.files c.args.shelf.now) (g.S.Source.left c.args.input.now) c.plan_unread.result c.plan_unread.ensures.told
+returns-in_default-clause-told g c = plans_by (MeansTo (Some (command_view c.args.line))) (reply_to (command_view c.args.line) c.args.limits.now) (g.H.Shelf.files c.args.shelf.now) (g.S.Source.left c.args.input.now) c.plan_unread.result c.plan_unread.ensures.told
 
 pub returns-in_default-clause-cause : goal.returns-in_default-clause-cause
 returns-in_default-clause-cause g c = causes_of_shelf _ _ _ _ c.plan_unread.result refl c.plan_unread.ensures.cause
 
 pub returns-in-Edit-clause-told : goal.returns-in-Edit-clause-told
 returns-in-Edit-clause-told g c =
-    rw c.in-Edit.is (subst (λ (agent : List ℕ). PlansBy (reply_to (edit c.in-Edit.file.now agent) c.args.limits.now) (g.H.Shelf.files c.args.shelf.now) (g.S.Source.left c.args.input.now) c.edit.result) c.name_of.ensures c.edit.ensures.told)
+    rw c.in-Edit.is (subst (λ (agent : List ℕ). PlansBy (MeansTo (Some (edit c.in-Edit.file.now agent))) (reply_to (edit c.in-Edit.file.now agent) c.args.limits.now) (g.H.Shelf.files c.args.shelf.now) (g.S.Source.left c.args.input.now) c.edit.result) c.name_of.ensures c.edit.ensures.told)
 
 pub returns-in_default-clause-alone : goal.returns-in_default-clause-alone
 returns-in_default-clause-alone g c = λ _. c.plan_unread.ensures.told
@@ -45,3 +46,28 @@ returns-in-Edit-clause-some g c =
 
 pub returns-in-Edit-clause-most : goal.returns-in-Edit-clause-most
 returns-in-Edit-clause-most g c = rw c.in-Edit.is c.edit.ensures.most
+
+pub returns-in-Net-clause-told : goal.returns-in-Net-clause-told
+returns-in-Net-clause-told g c =
+    rw c.in-Net.is (plans_read MeansNet (net_reply c.args.limits.now) (g.H.Shelf.files c.args.shelf.now) (g.S.Source.left c.args.input.now) c.net.result c.net.ensures.told)
+
+pub returns-in-Net-clause-some : goal.returns-in-Net-clause-some
+returns-in-Net-clause-some g c = rw c.in-Net.is (may_plan net c.args.limits.now c.net.result c.net.ensures.some)
+
+pub returns-in-Net-clause-cause : goal.returns-in-Net-clause-cause
+returns-in-Net-clause-cause g c = causes_of_source _ _ _ _ c.net.result refl c.net.ensures.cause
+
+pub returns-in-Net-clause-kept : goal.returns-in-Net-clause-kept
+returns-in-Net-clause-kept g c = source_keeps _ _ _ _ c.net.result c.net.ensures.cause
+
+pub returns-in-Net-clause-untouched : goal.returns-in-Net-clause-untouched
+returns-in-Net-clause-untouched g c = rw c.in-Net.is (for_any (g.H.Shelf.files c.args.shelf.now))
+
+pub returns-in-Net-clause-front : goal.returns-in-Net-clause-front
+returns-in-Net-clause-front g c = rw c.in-Net.is (no_front _)
+
+pub returns-in-Net-clause-loads : goal.returns-in-Net-clause-loads
+returns-in-Net-clause-loads g c = rw c.in-Net.is (loads_none (g.H.Shelf.files c.args.shelf.now) _ c.net.result)
+
+pub returns-in-Net-clause-lost : goal.returns-in-Net-clause-lost
+returns-in-Net-clause-lost g c = lost_of_source _ _ _ _ c.net.result refl c.net.ensures.cause

@@ -1,0 +1,2 @@
+-- What the parts of the command `net` answer.
+pub mod Nets

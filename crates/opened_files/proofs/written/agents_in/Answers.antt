@@ -1,0 +1,15 @@
+use Rattle.std.proofs.Common.{◌∙◌, List, ℕ, ap, length, arith}
+use Rattle.event_file.specs.Writing.{with_name}
+use Rattle.event_file.proofs.Tables.{few_agents}
+use Rattle.opened_files.proofs.GraphRecords.{agents_next}
+use Rattle.opened_files.proofs.written.agents_in.Goals as goal
+
+pub add-requires : goal.add-requires
+add-requires c =
+    let few = few_agents c.args.graph.now c.loop-lv.lv (omega arith) in
+    let is = ap (λ (xs : List (List ℕ)). length xs) c.loop-lv.invariant in
+    omega arith
+
+pub loop-lv-preserved : goal.loop-lv-preserved
+loop-lv-preserved c =
+    c.in_ok-add.ensures.ok ∙ ap (λ agents. with_name agents c.id_at.result.agent) c.loop-lv.invariant ∙ agents_next c.args.graph.now c.loop-lv.lv c.id_at.result c.id_at.ensures

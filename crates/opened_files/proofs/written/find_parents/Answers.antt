@@ -1,0 +1,19 @@
+use Rattle.std.proofs.Common.{◌≡◌, ◌∙◌, ◌++◌, ◌≤◌, true, All, ap, sym, subst, length, arith}
+use Rattle.ew_model.specs.declared.id.Id.{Id}
+use Rattle.ew_model.specs.Ancestors.{is_held}
+use Rattle.opened_files.specs.Places.{places_of}
+use Rattle.opened_files.proofs.GraphRecords.{asked, one_place}
+use Rattle.opened_files.proofs.written.find_parents.Goals as goal
+
+pub find_all-requires : goal.find_all-requires
+find_all-requires c =
+    subst (All (λ (x : Id). is_held c.args.graph.now x ≡ true)) (sym c.as_slice.ensures) (asked c.args.graph.now c.args.lv c.in_ok-event.event c.requires.writable c.in_ok-event.ensures).held
+
+pub returns : goal.returns
+returns c e at =
+    let history = c.args.graph.now in
+    let positions = c.parents_of-positions.result.items in
+    let few : length positions ≤ 1 = omega (arith, c.if-len-gt1.false, c.len.ensures.value) in
+    let same : positions ≡ places_of history e.parents =
+    one_place history c.args.lv e positions c.requires.writable c.count-count.ensures.admitted at c.parents_of-positions.ensures.value c.parents_of-positions.ensures.lower.lower few in
+    c.in_ok-extend_from_slice.ensures.items ∙ (ap (λ xs. xs ++ c.as_slice-2.result.now) c.clear.ensures.items ∙ c.as_slice-2.ensures ∙ same)

@@ -1,0 +1,11 @@
+use Rattle.std.proofs.Common.{◌∙◌, sym}
+use Rattle.ew_model.specs.Ancestors.{ids_of}
+use Rattle.ew_model.proofs.FileLists.{none_is_some}
+use Rattle.opened_files.specs.Places.{place_of}
+use Rattle.opened_files.proofs.GraphRecords.{position_there}
+use Rattle.opened_files.proofs.written.position_of.Goals as goal
+
+pub unreachable-requires : goal.unreachable-requires
+unreachable-requires c =
+    let history = c.args.graph.now in
+    none_is_some (place_of history c.args.id.now) (sym c.in-None.is ∙ c.find.ensures.value ∙ position_there (ids_of history) c.args.id.now c.requires)

@@ -1,0 +1,116 @@
+//! The file of a graph's events. Nothing holds them as a list.
+ghost use Rattle.std.specs.Prelude.{◌≡◌, ◌<◌, ◌^◌, ◌++◌, true, length, flat_map, slice_get, Some, IfOk, OnOk};
+ghost use Rattle.std.specs.List.{All};
+ghost use Rattle.ew_model.specs.declared.event.Event.{Event};
+ghost use Rattle.ew_model.specs.Ancestors.{is_held};
+ghost use Rattle.ew_model.specs.File.{agents_of, file_of, record_bytes, IsWritable};
+ghost use Rattle.opened_files.specs.Places.{place_of, places_of};
+
+use event_file::{Agents, FileWriter};
+use event_graph::Graph;
+use ew_model::NoMem;
+use ew_model::id::Id;
+use frontier::Parentage;
+use std::alloc::Global;
+
+/// The one event file of a graph's events.
+#[tactic(auto, unfolding(ew_model::specs::File::file_of, ew_model::specs::File::file_content))]
+pub fn written(alloc: Global, graph: &Graph) -> Result<Vec<u8>, NoMem>
+    requires { IsWritable graph.now }
+    ensures { IfOk result (λ bytes. bytes.items ≡ file_of graph.now) }
+{
+    let agents = agents_in(alloc, graph)?;
+    let mut writer = FileWriter::new(alloc, agents.as_slice(), graph.count())?;
+    put_events(alloc, graph, &agents, &mut writer)?;
+    writer.finish()
+}
+
+/// The agents of the events, in the order of their first ones.
+fn agents_in(alloc: Global, graph: &Graph) -> Result<Agents, NoMem>
+    requires { length graph.now < 2 ^ 32 }
+    ensures { IfOk result (λ agents. agents ≡ agents_of graph.now) }
+{
+    let mut agents = Agents::new(alloc);
+    for lv in 0..graph.count() {
+        agents.add(&graph.id_at(lv).agent)?;
+    }
+    Ok(agents)
+}
+
+/// Puts the records of all events behind the start of the file.
+fn put_events(
+    alloc: Global,
+    graph: &Graph,
+    agents: &Agents,
+    writer: &mut FileWriter,
+) -> Result<(), NoMem>
+    requires writable { IsWritable graph.now }
+    requires agents { agents.now ≡ agents_of graph.now }
+    ensures { OnOk result (writer.new ≡ writer.old ++ flat_map (record_bytes graph.now) graph.now) }
+{
+    let mut parents = Vec::new(alloc);
+    for lv in 0..graph.count() {
+        put_event(graph, agents, lv, &mut parents, writer)?;
+    }
+    Ok(())
+}
+
+/// Puts the record of the event at a position behind the others. `parents` is room for the positions of its parents.
+fn put_event(
+    graph: &Graph,
+    agents: &Agents,
+    lv: u32,
+    parents: &mut Vec<u32>,
+    writer: &mut FileWriter,
+) -> Result<(), NoMem>
+    requires writable { IsWritable graph.now }
+    requires agents { agents.now ≡ agents_of graph.now }
+    requires within { lv < length graph.now }
+    ensures { (e : Event) → slice_get graph.now lv ≡ Some e → OnOk result (writer.new ≡ writer.old ++ record_bytes graph.now e) }
+{
+    find_parents(graph, lv, parents)?;
+    let id = graph.id_at(lv);
+    let agent = agents.number_of(&id.agent);
+    let op = graph.op_at(lv);
+    writer.put(agent, id.seq, parents, &op)
+}
+
+/// Leaves the positions of the parents of the event at a position, in the order of their ids.
+fn find_parents(graph: &Graph, lv: u32, found: &mut Vec<u32>) -> Result<(), NoMem>
+    requires writable { IsWritable graph.now }
+    requires within { lv < length graph.now }
+    ensures { (e : Event) → slice_get graph.now lv ≡ Some e → OnOk result (found.new.items ≡ places_of graph.now e.parents) }
+{
+    let _count = graph.count();
+    let positions = graph.parents_of(lv);
+    if positions.len() > 1 {
+        let event = graph.event_at(lv)?;
+        return find_all(graph, event.parents.as_slice(), found);
+    }
+    found.clear();
+    found.extend_from_slice(positions.as_slice())?;
+    Ok(())
+}
+
+/// Leaves the positions of these events.
+fn find_all(graph: &Graph, ids: &[Id], found: &mut Vec<u32>) -> Result<(), NoMem>
+    requires { All (λ x. is_held graph.now x ≡ true) ids.now }
+    ensures { OnOk result (found.new.items ≡ places_of graph.now ids.now) }
+{
+    found.clear();
+    for id in ids {
+        found.push(position_of(graph, id))?;
+    }
+    Ok(())
+}
+
+/// The position of an event that is held.
+fn position_of(graph: &Graph, id: &Id) -> u32
+    requires { is_held graph.now id.now ≡ true }
+    ensures { result ≡ place_of graph.now id.now }
+{
+    match graph.find(id) {
+        Some(lv) => lv,
+        None => unreachable!(),
+    }
+}
