@@ -7,7 +7,7 @@ use Rattle.ew_outside.specs.Counts.{Rose}
 use Rattle.ew_outside.specs.Bytes.{IsFlushed}
 use Rattle.command_table.specs.Outputs.{GrowsByFront}
 use Rattle.command_table.specs.Text.{out_of_memory}
-use Rattle.command_table.specs.Table.{Command, reply_of, reads_input, needs_file}
+use Rattle.command_table.specs.Table.{Command, MeansTo, reply_of, reads_input, needs_file}
 use Rattle.opened_files.specs.Views.{status_of, LostBy, IsRefusal}
 use Rattle.edit_plans.specs.Sources.{Causes, KeepsInput, PlansBy}
 use Rattle.merge_plans.specs.Merging.{LoadsAll}
@@ -26,7 +26,7 @@ use Rattle.command_runs.proofs.Replies.{after_plan, told_end}
 
 -- what the parts ensure
 pub record Facts (l : Option Command) (limits : LimitNumbers) (planned : Result Plan Stop) (ending : Ending) (old mid new : Seen) (code : ℕ) : Type 0 where
-  pub told : PlansBy (reply_of l limits) old.files old.left planned
+  pub told : PlansBy (MeansTo l) (reply_of l limits) old.files old.left planned
   pub line : PlansLine l planned
   pub same : mid.files ≡ old.files
   pub read : ReadsFor (reads_input l) old.left new.left planned

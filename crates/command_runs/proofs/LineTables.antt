@@ -7,8 +7,7 @@ use Rattle.ew_model.specs.Limits.{LimitNumbers}
 use Rattle.ew_outside.specs.Files.{Files}
 use Rattle.ew_outside.specs.Counts.{Rose, IsQuiet}
 use Rattle.command_table.specs.Outputs.{GrowsByFront}
-use Rattle.command_table.specs.Scripts.{Reading, Means}
-use Rattle.command_table.specs.Table.{Command, Reply, Answer, reply_of, answer_of}
+use Rattle.command_table.specs.Table.{Command, Reply, Answer, ReadingOf, MeansTo, reply_of, answer_of}
 use Rattle.opened_files.specs.Views.{plan_view, status_of}
 use Rattle.edit_plans.specs.Sources.{PlansBy}
 use Rattle.command_plans.specs.Lines.{PlansAlone}
@@ -131,23 +130,24 @@ fault_leaves planned old new code files t (Broken p is six' f out struck text fa
 }
 fault_leaves planned old new code files t (Starved code8 f out calm text) at same below six = absurd (omega (arith, code8, six))
 
-pub tabled : (l : Option Command) (limits : LimitNumbers) (planned : Result Plan Stop) (old : Seen) (files : Files) (input : List ℕ) (reading : Reading)
-    → PlansBy (reply_of l limits) old.files old.left planned → old.files ≡ Some files → old.left ≡ Some input → Means input reading
+pub tabled : (l : Option Command) (limits : LimitNumbers) (planned : Result Plan Stop) (old : Seen) (files : Files) (input : List ℕ) (reading : ReadingOf l)
+    → PlansBy (MeansTo l) (reply_of l limits) old.files old.left planned → old.files ≡ Some files → old.left ≡ Some input → MeansTo l input reading
     → (p : Plan) → planned ≡ Ok p → answer_of (reply_of l limits files input reading) files ≡ answer_of (plan_view p) files
 tabled l limits planned old files input reading told at left means p is =
-    let reply : Files → List ℕ → Reading → Reply = reply_of l limits in
-    let first : PlansBy reply (Some files) old.left planned = subst (λ x. PlansBy reply x old.left planned) at told in
-    let second : PlansBy reply (Some files) (Some input) planned = subst (λ x. PlansBy reply (Some files) x planned) left first in
-    let third : (reading : Reading) → Means input reading → plan_view p ≡ reply files input reading =
-    subst (λ x. PlansBy reply (Some files) (Some input) x) is second in
+    let means_it : List ℕ → ReadingOf l → Type 0 = MeansTo l in
+    let reply : Files → List ℕ → ReadingOf l → Reply = reply_of l limits in
+    let first : PlansBy means_it reply (Some files) old.left planned = subst (λ x. PlansBy means_it reply x old.left planned) at told in
+    let second : PlansBy means_it reply (Some files) (Some input) planned = subst (λ x. PlansBy means_it reply (Some files) x planned) left first in
+    let third : (reading : ReadingOf l) → means_it input reading → plan_view p ≡ reply files input reading =
+    subst (λ x. PlansBy means_it reply (Some files) (Some input) x) is second in
     ap (λ r. answer_of r files) (sym (third reading means))
 
 -- the same of a line that has no use for the input
-pub tabled_alone : (l : Option Command) (limits : LimitNumbers) (planned : Result Plan Stop) (old : Seen) (files : Files) (input : List ℕ) (reading : Reading)
+pub tabled_alone : (l : Option Command) (limits : LimitNumbers) (planned : Result Plan Stop) (old : Seen) (files : Files) (input : List ℕ) (reading : ReadingOf l)
     → PlansAlone (reply_of l limits) old.files planned → old.files ≡ Some files
     → (p : Plan) → planned ≡ Ok p → answer_of (reply_of l limits files input reading) files ≡ answer_of (plan_view p) files
 tabled_alone l limits planned old files input reading told at p is =
-    let reply : Files → List ℕ → Reading → Reply = reply_of l limits in
+    let reply : Files → List ℕ → ReadingOf l → Reply = reply_of l limits in
     let first : PlansAlone reply (Some files) planned = subst (λ x. PlansAlone reply x planned) at told in
     let second : PlansAlone reply (Some files) (Ok p) = subst (λ x. PlansAlone reply (Some files) x) is first in
     ap (λ r. answer_of r files) (sym (second input reading))

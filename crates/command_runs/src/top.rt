@@ -5,7 +5,7 @@ ghost use Rattle.command_table.specs.Headline.{IsLineRun, IsRun, IsRunOf, IsSess
 ghost use Rattle.command_table.specs.Table.{line_of};
 ghost use Rattle.command_words.specs.Words.{IsNamed, IsNamedLine, command_view, line_view};
 ghost use Rattle.command_runs.specs.LineTouches.{LineTakes};
-ghost use Rattle.opened_files.specs.Touches.{TouchesAtMost, command_touches};
+ghost use Rattle.opened_files.specs.Touches.{CommandTakes};
 ghost use Rattle.serve_plans.specs.SessionTouches.{SessionTakes};
 
 use crate::ending::{Ending, carry_out, finish, tell};
@@ -36,7 +36,7 @@ fn run_command<H: Shelf, S: Source, K: Sink, E: Sink, L: Ledger>(
         (seen (H.files shelf.new) (H.faults shelf.new) (H.misses shelf.new) (H.loads shelf.new) (H.lost shelf.new) (S.left input.new) (S.faults input.new)
         (K.taken out.new) (K.flushed out.new) (K.faults out.new) (E.taken err.new) (E.faults err.new))
         result }
-    ensures most { TouchesAtMost (command_touches (option_map command_view line.entry) limits.now) (H.files shelf.old) steps.old steps.new }
+    ensures most { CommandTakes (option_map command_view line.entry) limits.now (H.files shelf.old) steps.old steps.new }
 {
     let planned = make_plan(alloc, line, limits, shelf, input, steps);
     let ending = carry_out(planned, shelf, out);
