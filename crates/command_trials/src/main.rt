@@ -13,7 +13,8 @@
 //! - `in TEXT` and `in_bytes NAME` are the input of the next run, and `slow N` lets it give at most so many bytes at a time;
 //! - `fail OBJECT N..` lets the calls with these numbers of the next run fail, of `shelf`, `source`, `out` or `err`, each counted from 0;
 //!   `land N..` lets the bytes of a store that fails land all the same;
-//! - `piece N` lets the output take at most so many bytes at a time in the next run.
+//! - `piece N` lets the output take at most so many bytes at a time in the next run, and `err_piece N` the error output;
+//! - `room N` leaves the output of the next run room for so many bytes, and each write fails that finds none.
 //!
 //! These have an answer, behind ` =`:
 //! - `run WORDS` runs a command line, with `|` between two words where one has a space. The answer is the status, ` out ` and what was

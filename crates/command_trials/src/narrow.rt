@@ -5,8 +5,8 @@ use ew_model::NoMem;
 use ew_outside::{Failed, MemSink, Sink};
 use std::alloc::Global;
 
-/// For how many bytes there is room in an output.
-const ROOM: usize = 100_000;
+/// For how many bytes there is room in an output at most.
+pub const ROOM: usize = 100_000;
 
 /// Takes at most `piece` bytes at a time, and at least one.
 #[derive(Drop)]
@@ -16,9 +16,15 @@ pub struct Narrow {
 }
 
 impl Narrow {
-    pub fn new(alloc: Global, piece: usize, failing: Vec<u64>) -> Result<Narrow, NoMem> {
+    /// Room for at most `ROOM` bytes.
+    pub fn new(
+        alloc: Global,
+        room: usize,
+        piece: usize,
+        failing: Vec<u64>,
+    ) -> Result<Narrow, NoMem> {
         Ok(Narrow {
-            sink: MemSink::new(alloc, ROOM, failing)?,
+            sink: MemSink::new(alloc, room.min(ROOM), failing)?,
             piece,
         })
     }

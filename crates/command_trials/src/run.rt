@@ -1,7 +1,7 @@
 //! A run of a command line, and what came of it.
 
 use crate::fault::Fault;
-use crate::narrow::Narrow;
+use crate::narrow::{Narrow, ROOM};
 use crate::setting::Setting;
 use crate::slow::Slow;
 use crate::words::{line_words, push_escaped};
@@ -30,12 +30,14 @@ fn run_over(world: &mut World, words: &[String], setting: Setting) -> Result<Ran
         source,
         out,
         err,
+        room,
         piece,
+        err_piece,
         ..
     } = setting;
     let mut source = Slow::new(input, given, source);
-    let mut out = Narrow::new(world.alloc, piece, out)?;
-    let mut err = Narrow::new(world.alloc, usize::MAX, err)?;
+    let mut out = Narrow::new(world.alloc, room, piece, out)?;
+    let mut err = Narrow::new(world.alloc, ROOM, err_piece, err)?;
     let status = run_uncounted::<Brand, _, _, _, _>(
         world.alloc,
         Blank::new(1),

@@ -1,11 +1,12 @@
 //! What the rows before a run make ready for it.
 
 use crate::fault::Fault;
+use crate::narrow::ROOM;
 use crate::words::{first_word, numbers};
 use std::alloc::Global;
 
 /// The input of a run and how many bytes it gives at a time, the numbers of the calls that fail, of the stores that land though they
-/// fail, and how many bytes the output takes at a time.
+/// fail, for how many bytes the output has room, and how many bytes each output takes at a time.
 #[derive(Drop)]
 pub struct Setting {
     pub input: Vec<u8>,
@@ -15,7 +16,9 @@ pub struct Setting {
     pub source: Vec<u64>,
     pub out: Vec<u64>,
     pub err: Vec<u64>,
+    pub room: usize,
     pub piece: usize,
+    pub err_piece: usize,
 }
 
 impl Setting {
@@ -29,7 +32,9 @@ impl Setting {
             source: Vec::new(alloc),
             out: Vec::new(alloc),
             err: Vec::new(alloc),
+            room: ROOM,
             piece: usize::MAX,
+            err_piece: usize::MAX,
         }
     }
 

@@ -101,7 +101,9 @@ impl World {
             "fail" => self.next.fail(self.alloc, rest)?,
             "land" => self.next.landing = numbers(self.alloc, rest)?,
             "slow" => self.next.given = number(rest)? as usize,
+            "room" => self.next.room = number(rest)? as usize,
             "piece" => self.next.piece = number(rest)? as usize,
+            "err_piece" => self.next.err_piece = number(rest)? as usize,
             _ => return Ok(false),
         }
         Ok(true)
