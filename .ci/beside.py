@@ -130,6 +130,23 @@ class Beside:
         print(f"{self.part}: {text}", flush=True)
 
 
+class Alone:
+    """The program by itself, in a folder of its own, where the reader would take too long."""
+
+    def __init__(self):
+        self.folder = FOLDER / "alone"
+        self.folder.mkdir()
+
+    def clear(self):
+        for path in self.folder.iterdir():
+            path.unlink()
+
+    def run(self, *words, input=b""):
+        """Gives the status and the output of the program."""
+        done = subprocess.run([str(PROGRAM), *words], cwd=self.folder, input=input, capture_output=True)
+        return done.returncode, done.stdout
+
+
 def run_command(command, folder, streams):
     source, out, err = streams
     return subprocess.run(command, cwd=folder, stdin=source, stdout=out, stderr=err).returncode
@@ -162,7 +179,7 @@ def command_of(words):
 def shape_of(text):
     """An error text without its names and numbers."""
     text = re.sub(rb"^egw: (?!line|frame|input|file |no file|clash|unknown|more than|\d+ heads|shelf|source|sink)[^:]*: ", b"egw: F: ", text)
-    text = re.sub(rb"(no file|file|clash|unknown) [^\n]*?( is there)?\n", rb"\1 NAME\2\n", text)
+    text = re.sub(rb"(no file|file|clash|unknown|no peer|peer) [^\n]*?( is there)?\n", rb"\1 NAME\2\n", text)
     return re.sub(rb"[0-9a-f]{64}|[0-9]+", b"N", text).decode(errors="replace").strip()
 
 

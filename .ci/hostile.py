@@ -99,8 +99,9 @@ def make_files():
     agents = [b"f%d" % n for n in range(2000)]
     put_file("fan_one", names(agents), records(record(n, 0, [], 0, 0, 97) for n in range(2000)))
     put_file("fan_other", names(agents), records(record(n, 0, [], 0, 0, 98) for n in range(2000)))
-    forks = [b"d%d" % n for n in range(40_000)]
-    put_file("forks", names(a + forks), records([first, *(record(1 + n, 0, [0], 1, 0) for n in range(40_000))]))
+    for name, count in (("forks", 40_000), ("forks_all", 999_999)):
+        forks = [b"d%d" % n for n in range(count)]
+        put_file(name, names(a + forks), records([first, *(record(1 + n, 0, [0], 1, 0) for n in range(count))]))
     put_file("letter", names(a), records([first]))
 
 
@@ -138,6 +139,16 @@ def make_inputs():
     waits = [event((b"b", GREATEST), [(b"b", GREATEST - 1)], 0, 0, 120), event((b"c", 0), [(b"b", GREATEST)], 1, GREATEST)]
     put("edges", events_frame(refused), events_frame(waits), frame(1, number(1) + id_of(b"a", GREATEST)), BYE)
     put("one_more", events_frame([event((b"b", 0), [(b"a", 999_999)], 0, 0, 120)]))
+    put("net_said", b"agree\n")
+    put("net_ends", b"peer a\ndel a 4294967295 4294967295\n")
+    put("net_late", b"peer a\npeer b\npush a b\n", b"agree\n" * 1000, b"deliver 4294967295\n")
+    put("net_deliveries", b"peer a\npush a a\n", b"deliver 0\n" * 100_000)
+    put("net_bad_at_last", b"deliver 0\n" * 1_000_000, b"agree ")
+    put("net_peers", *(b"peer n%d\n" % n for n in range(2_000)), b"peer n0\n")
+    put("net_typed", b"peer a\npeer b\nins a 0 ", b"x" * 20_000, b"\npush a b\ndeliver 0\ndel b 0 19999\npush b a\ndeliver 2\nagree\nshow a\n")
+    back = (b"send a b %d 1\ndeliver %d\n" % (1999 - n, 2 * n) for n in range(2_000))
+    put("net_backwards", b"peer a\npeer b\nins a 0 ", b"x" * 2_000, b"\n", *back, b"agree\n")
+    put("net_waiting", b"peer a\npeer b\nins a 0 ", b"x" * 70_000, b"\nsend a b 1 70000\ndeliver 0\nrestart b\npush a b\ndeliver 2\nagree\n")
     put("bye", BYE)
     put("script", b"ins 0 x\n")
     put("nothing")

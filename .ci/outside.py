@@ -43,7 +43,9 @@ class Outside:
         """Takes over what was made ready for this run."""
         self.failing = {what: self.next.pop(what, ()) for what in OBJECTS}
         self.landing = self.next.pop("land", ())
-        self.left, self.given, self.piece = self.next.pop("in", b""), self.next.pop("slow", ROOM), self.next.pop("piece", ROOM)
+        self.left, self.given = self.next.pop("in", b""), self.next.pop("slow", ROOM)
+        self.piece = {"out": self.next.pop("piece", ROOM), "err": self.next.pop("err_piece", ROOM)}
+        self.room = {"out": min(self.next.pop("room", ROOM), ROOM), "err": ROOM}
         self.made = dict.fromkeys(OBJECTS, 0)
         self.stores = []  # the numbers of the shelf's calls that were stores
         self.taken = {"out": b"", "err": b""}
@@ -87,8 +89,9 @@ class Outside:
         """Writes all to an output, in pieces, and flushes the standard output behind it."""
         what = "out" if handle == 1 else "err"
         while data:
-            piece = data[: self.piece if what == "out" else ROOM]
-            self.refuse(self.call(what))
+            room = self.room[what] - len(self.taken[what])
+            piece = data[: min(self.piece[what], room)]
+            self.refuse(self.call(what) or not room)
             self.taken[what] += piece
             data = data[len(piece) :]
         if what == "out":
@@ -182,7 +185,7 @@ class Rows:
             self.outside.next[first] = [int(number) for number in more.split()]
         elif verb == "land":
             self.outside.next["land"] = [int(number) for number in rest.split()]
-        elif verb in ("slow", "piece"):
+        elif verb in ("slow", "piece", "err_piece", "room"):
             self.outside.next[verb] = int(rest)
         else:
             return False

@@ -76,8 +76,10 @@ EVENTS = frame(2, number(1) + event(b"b", 0, [(b"a", 2)], 3, "Q"))
 WAITING = frame(2, number(1) + event(b"c", 0, [(b"z", 0)], 0, "w"))
 CLASH = frame(2, number(1) + event(b"a", 0, [], 0, "A"))
 BYE = frame(6)
+NET = b"peer a\npeer b\nins a 0 abc\npush a b\ndeliver 0\nshow b\nagree\n"
 F, FG = {"F": "abc"}, {"F": "abc", "G": "xyz"}
 
+# The cases of a command stand together. A command that has none is told.
 CASES = [
     Case("new", "new NEW"),
     Case("new, where the file is there", "new F", F),
@@ -128,12 +130,25 @@ CASES = [
     Case("serve: no frames", "serve F", F),
     Case("serve past the limit of the input", "serve F", F, EVENTS + BYE, (), "8 1 33 643"),
     Case("serve of no file", "serve F", {}, EVENTS),
+    Case("net", "net", {}, NET),
+    Case("net, in pieces", "net", {}, NET, ("slow 9", "piece 20")),
+    Case("net of no lines", "net"),
+    Case("net by a line that is unreadable", "net", {}, b"deliver 0\nagree "),
+    Case("net by a line that is refused", "net", {}, b"peer a\nins a 0 x\nshow b\n"),
+    Case("net past the limit of events", "net", {}, b"peer a\nins a 0 abc\nins a 0 x\n", (), "3 1 64 643"),
+    Case("net past the limit of the input", "net", {}, b"peer a\n" + b"agree\n" * 10, (), "3 1 64 643"),
     Case("make", "make --seed 7 --count 3"),
     Case("make, in pieces", "make --seed 7 --count 3", {}, b"", ("piece 9",)),
+    Case("make of no events", "make --seed 18446744073709551615 --count 0"),
     Case("make past the limit of events", "make --seed 1 --count 6", {}, b"", (), "3 1 64 643"),
+    Case("make of a number that is too great", "make --seed 7 --count 1000001"),
     Case("words that are not taken", "cat F G", F),
+    Case("an error text, in pieces", "cat G", F, b"", ("err_piece 7",)),
+    Case("a clash that is told, in pieces", "serve F", F, EVENTS + CLASH, ("err_piece 7", "piece 11")),
 ]
 
+# Lines that are tried with each room up to the one that is enough.
+ROOMED = [Case("cat", "cat F", F), Case("merge", "merge F G", FG), Case("serve", "serve F", F, EVENTS + BYE)]
 
 # A change of one byte of the file of one letter, and what has to be told of it: worked out by hand.
 CHANGES = [
@@ -208,6 +223,14 @@ class Table:
         self.ready(f"file F {name}_digested")
         self.ask(f"run {asked}")
 
+    def add_rooms(self):
+        """Outputs that have room for less than what is printed, up to one that has enough."""
+        for case in ROOMED:
+            self.begin("program", f"an output without room: {case.title}")
+            self.run(case)
+            for room in range(len(self.rows.outside.taken["out"]) + 1):
+                self.run(case, f"room {room}")
+
     def add_changes(self):
         """Files with one byte changed, each with its digest; first those whose faults were worked out by hand."""
         letter = content([b"a"], typed(0, "a"))
@@ -237,13 +260,14 @@ class Table:
             self.ask("run cat F")
 
     def add_inputs(self):
-        """Frames and a script with each byte made 255, and cut at each place. Where the status isn't 0 the file stays as it was."""
-        script = b"del 0 1\nins 2 Q\\n"
-        for title, words, data in (("an Events frame", "serve F", EVENTS), ("a Have", "serve F", HAVE), ("a script", "edit F --agent b", script)):
+        """Frames and scripts with each byte made 255, and cut at each place. Where the status isn't 0 the file stays as it was."""
+        script, net = b"del 0 1\nins 2 Q\\n", b"peer a\nins a 0 x\\n\nsend a a 0 1\ndeliver 0\nshow a"
+        inputs = ("an Events frame", "serve F", EVENTS), ("a Have", "serve F", HAVE), ("a script", "edit F --agent b", script), ("a net script", "net", net)
+        for title, words, data in inputs:
             changed = [data[:place] + b"\xff" + data[place + 1 :] for place in range(len(data))]
-            for how, inputs in (("with each byte made 255", changed), ("that is cut at each place", [data[:size] for size in range(1, len(data))])):
+            for how, givens in (("with each byte made 255", changed), ("that is cut at each place", [data[:size] for size in range(1, len(data))])):
                 self.begin("program", f"{title} {how}")
-                for given in inputs:
+                for given in givens:
                     self.ready("file F abc_file")
                     self.ready(f"in {spelled(given)}")
                     self.ask(f"run {words}")
@@ -258,6 +282,7 @@ def make_table(reader):
     table.name_files()
     for case in CASES:
         table.add(case)
+    table.add_rooms()
     table.add_changes()
     table.add_cuts()
     table.add_inputs()

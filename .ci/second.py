@@ -10,7 +10,7 @@ import sys
 sys.dont_write_bytecode = True
 sys.path.insert(0, str(pathlib.Path(__file__).parent))
 
-from beside import FOLDER, ROOT, Beside, Draws, list_all  # noqa: E402
+from beside import FOLDER, ROOT, Alone, Beside, Draws, list_all, reader  # noqa: E402
 from histories import MOST_EVENTS, MOST_FILE, MOST_INPUT, USAGE, Event, History, Id, Op, file_of  # noqa: E402
 
 SEED = 2718281828
@@ -562,7 +562,7 @@ def scripts(beside, draws):
 # Lines of words
 
 
-WORDS = ["new", "edit", "cat", "heads", "log", "check", "merge", "replay", "ask", "serve", "make", "F", "F", "F", "G", "--agent", "--agent", "--agent=a", "--agent=", "--agent==a", "a",
+WORDS = ["new", "edit", "cat", "heads", "log", "check", "merge", "replay", "ask", "serve", "make", "net", "F", "F", "F", "G", "--agent", "--agent", "--agent=a", "--agent=", "--agent==a", "a",
          "-", "--", "--", "", "-h", "--help", "help", "-V", "--version", "--at", "--at", "--at=", "--at=root", "--at=a:1", "root", "a:0", "a:2,a:0", "b:0", "--seed", "--seed=7", "--count", "--count=3", "7", "-F", "--agents", "--agen", "-agent", "---", "--=", "a" * 32, "a" * 33, "-1", "ä", "-ä", "=", "a b"]
 TAKEN = [["edit", "F", "--agent", "a"], ["edit", "--agent", "a", "F"], ["edit", "--agent=a", "--", "F"], ["edit", "F", "--agent=a"], ["edit", "--agent", "a", "--", "-F"],
          ["edit", "F", "--", "--agent", "a"], ["edit", "F", "--agent", "--", "a"], ["edit", "F", "--agent", "a", "--agent", "a"], ["edit", "F", "--agent", "a", "--agent=a"],
@@ -605,7 +605,7 @@ TAKEN = [["edit", "F", "--agent", "a"], ["edit", "--agent", "a", "F"], ["edit", 
          ["make", "--seed=1", b"--count=1\xff"], ["make", "--see=1", "--count=1"], ["make", "--seeds=1", "--count=1"], ["make", "-seed=1", "--count=1"], ["--seed=1", "make", "--count=1"], ["Make", "--seed=1", "--count=1"],
          ["make ", "--seed=1", "--count=1"], ["help", "make"], ["cat", "F", "--seed=1"], ["new", "H", "--count=1"], ["merge", "F", "G", "--seed=1", "--count=1"], ["edit", "F", "--agent=a", "--count=1"],
          ["serve", "F"], ["serve"], ["serve", "F", "G"], ["serve", "--", "F"], ["serve", "F", "--"], ["serve", "-F"], ["serve", "--", "-F"], ["serve", "nowhere"], ["serve", ""], ["serve", "F", "--agent", "a"],
-         ["serve", "F", "--at", "a:0"], ["serve", "F", "--help"], ["help", "serve"], ["Serve", "F"], ["serves", "F"], [b"serve", b"\xff"], ["net"], [b"cat", b"\xff"], [b"\xff", b"F"]]
+         ["serve", "F", "--at", "a:0"], ["serve", "F", "--help"], ["help", "serve"], ["Serve", "F"], ["serves", "F"], [b"serve", b"\xff"], ["net"], ["net", "F"], ["net", "--"], ["net", "--", "F"], ["net", ""], ["net", "-"], ["net", "--agent", "a"], ["net", "--at", "root"], ["net", "--help"], ["help", "net"], ["Net"], ["nets"], ["net", "net"], [b"cat", b"\xff"], [b"\xff", b"F"]]
 
 
 def words(beside, draws):
@@ -613,7 +613,7 @@ def words(beside, draws):
     beside.run("new", "F")
     beside.run("edit", "F", "--agent", "a", input=b"ins 0 abc")
     beside.copy("F", "kept")
-    lines = TAKEN + [[draws.one_of(WORDS[:11])] + [draws.one_of(WORDS) for _ in range(draws.below(6))] for _ in range(400)]
+    lines = TAKEN + [[draws.one_of(WORDS[:12])] + [draws.one_of(WORDS) for _ in range(draws.below(6))] for _ in range(400)]
     lines += [["edit"] + [draws.one_of(["F", "--agent", "--agent=a", "a", "--", "-", "-x", ""]) for _ in range(1 + draws.below(5))] for _ in range(200)]
     lines += [["cat"] + [draws.one_of(["F", "F", "--at", "--at=a:1", "a:0", "root", "b:0", "--", "-", "-x", ""]) for _ in range(1 + draws.below(5))] for _ in range(200)]
     lines += [["make"] + [draws.one_of(["--seed", "--seed=7", "--count", "--count=3", "5", "5", "+4", "-", "--", "F"]) for _ in range(1 + draws.below(5))] for _ in range(200)]
@@ -662,15 +662,80 @@ def make_with_files(beside, seed, count):
 
 
 def made(beside, draws):
-    """Histories that `make` makes, and the same edits done with files."""
+    """Histories that `make` makes, and the same edits done with files; the longer ones by the program alone."""
     beside.part = "made histories"
     tried = [(1, count) for count in (0, 1, 2, 63, 64, 65, 127, 128, 192, 193, 400)]
     tried += [(seed, 100) for seed in (0, 7, 2**63, 2**64 - 1)]
     tried += [(draws.below(2**31), draws.below(300)) for _ in range(10)]
-    for seed, count in tried:
-        wanted = make_with_files(beside, seed, count)
-        if beside.run("make", "--seed", str(seed), "--count", str(count)) != (0, wanted):
+    alone = Alone()
+    for runs, seed, count in [(beside, *one) for one in tried] + [(alone, seed, 2000) for seed in (0, 7, 2**64 - 1)]:
+        wanted = make_with_files(runs, seed, count)
+        if runs.run("make", "--seed", str(seed), "--count", str(count)) != (0, wanted):
             beside.wrong(f"three people who do what `make` does with the seed {seed} and {count} edits come to other numbers")
+
+
+# Nets
+
+
+NAMES = ["a", "b", "c", "B", "_-", "9", "aa", "a" * 32]
+BAD_LINES = ["show", "show ", "show z ", "peer -a", "peer " + "a" * 33, "peer ä", "push a", "push a b ", "push  a b", "ask a", "send a b 1", "send a b 01 1", "send a b 1 4294967296", "deliver", "deliver +1",
+             "deliver 1 ", "restart", "agree ", " agree", "agree\r", "agree\0", "ins a 0", "ins a  x", "ins 0 x", "ins a 0 \\x", "ins a 0 \\", "del a 0", "del a 0 1 ", "del a 0 -1", "deliver 0x1", "Agree", "net", "\t"]
+REFUSED_LINES = ["peer a", "show nobody", "push a nobody", "push nobody a", "push nobody none", "send nobody a 0 0", "ask a nobody", "restart nobody", "ins nobody 0 x", "del nobody 9 9", "deliver 4294967295",
+                 "deliver 9999", "ins a 4294967295 ", "ins a 999 x", "del a 0 4294967295", "del a 4294967295 4294967295"]
+
+
+class NetScript:
+    """A net script that is drawn, and the net of the second reader that it makes: so no line of it is refused."""
+
+    def __init__(self, draws, lines):
+        self.draws, self.net, self.lines = draws, reader.Net(), []
+        self.names = ["a"] + [name for name in NAMES[1:] if draws.below(2)]
+        for name in self.names:
+            self.put(f"peer {name}")
+        for _ in range(lines):
+            self.put(self.line())
+
+    def put(self, line):
+        self.net.step(0, *reader.parse_step(line.encode()))
+        self.lines.append(line)
+
+    def line(self):
+        draws, name, other = self.draws, self.draws.one_of(self.names), self.draws.one_of(self.names)
+        length, kind, packets = len(self.net.desks[name].history.visible()), self.draws.below(16), len(self.net.packets)
+        heads = len(self.net.desks[name].history.heads)
+        if kind < 5 and heads <= 16:
+            return f"ins {name} {draws.below(length + 1)} " + "".join(draws.one_of(["a", "b", " ", "\\n", "\\\\", "é", "🦀"]) for _ in range(draws.below(5)))
+        if kind == 5 and heads <= 16:
+            at = draws.below(length + 1)
+            return f"del {name} {at} {draws.below(min(length - at, 3) + 1)}"
+        if kind < 12 and packets:
+            return f"deliver {draws.below(packets)}"
+        words = ["push", "push", "send", "ask", "restart", "show", "agree"]
+        word = draws.one_of(words)
+        if word == "send":
+            return f"send {name} {other} {draws.below(8)} {draws.below(6)}"
+        return {"agree": "agree", "restart": f"restart {name}", "show": f"show {name}"}.get(word, f"{word} {name} {other}")
+
+
+def nets(beside, draws):
+    """Net scripts as they are drawn, with a line that is bad or refused somewhere, and with a byte changed."""
+    beside.part = "nets"
+    beside.run("net")
+    for line in BAD_LINES + REFUSED_LINES:
+        beside.run("net", input=f"peer a\n\n{line}\nagree".encode())
+        beside.run("net", input=f"{line}\nshow nobody\nagree ".encode())
+    for size in (5, 20, 60):
+        for _ in range(40):
+            script = NetScript(draws, size).lines
+            beside.run("net", input="\n".join(script).encode())
+            at = draws.below(len(script))
+            beside.run("net", input="\n".join(script + [draws.one_of(REFUSED_LINES)]).encode())
+            beside.run("net", input="\n".join(script[:at] + [draws.one_of(REFUSED_LINES)] + script[at:]).encode())
+            beside.run("net", input="\n".join(script[:at] + [draws.one_of(BAD_LINES)] + script[at:] + ["show nobody"]).encode())
+            changed = bytearray("\n".join(script).encode())
+            changed[draws.below(len(changed))] = draws.below(256)
+            beside.run("net", input=bytes(changed))
+    beside.clear()
 
 
 # Limits, and what the system refuses
@@ -687,6 +752,14 @@ def limits(beside):
         beside.run("replay", "heads")
         beside.run("ask", "heads")
         beside.run("cat", "heads", "--at", ",".join(f"p{n}:0" for n in reversed(range(agents))))
+    for heads in (16, 17):
+        script = [f"peer p{n}\nins p{n} 0 x\npush p{n} p0" for n in range(heads)] + [f"deliver {n}" for n in range(1, heads)]
+        for edit in ("ins p0 0 x", "ins p0 0 ", "del p0 0 1", "del p0 0 0", "ins p0 99 x"):
+            beside.run("net", input="\n".join([*script, edit, "show p0"]).encode())
+    for more in (0, 1):
+        beside.run("net", input=b"\n" * (MOST_INPUT + more))
+        beside.run("net", input=b"peer a\nins a 1 x\nins a 0 " + b"x" * (MOST_EVENTS + more))
+        beside.run("net", input=b"peer a\nins a 0 " + b"x" * (MOST_EVENTS + 1) + b"\nshow " + b"a" * (31 + more))
     beside.run("edit", "F", "--agent", "a", input=b"\n" * MOST_INPUT)
     beside.run("edit", "F", "--agent", "a", input=b"\n" * (MOST_INPUT + 1))
     beside.run("edit", "F", "--agent", "a", input=b"ins 0 " + b"x" * (MOST_EVENTS + 1))
@@ -745,6 +818,10 @@ def refusals(beside):
         beside.run("edit", "F", "--agent", "a", input=b"ins 0 z", out=full)
         beside.run("make", "--seed", "1", "--count", "5", out=full)
         beside.run("make", "--seed", "1", err=full)
+        beside.run("net", input=b"agree", out=full)
+        beside.run("net", out=full)
+        beside.run("net", input=b"show a", out=full)
+        beside.run("net", input=b"show a", err=full)
         beside.run("cat", "nowhere", err=full)
         beside.run("ask", "nowhere", err=full)
         beside.run("cat", err=full)
@@ -757,6 +834,7 @@ def refusals(beside):
     beside.run("serve", "F", input=FOLDER)
     beside.run("serve", "nowhere", input=FOLDER)
     beside.run("make", "--seed", "1", "--count", "5", input=FOLDER)
+    beside.run("net", input=FOLDER)
     beside.clear()
 
 
@@ -766,11 +844,12 @@ WANTED += [(3, "egw: no file NAME"), (3, "egw: file NAME is there"), (4, "egw: F
 WANTED += [(4, f"egw: F: byte N: {fault}") for fault in ("cut", "bad name", "name twice", "agent number", "id twice", "parent count", "parent position", "parent order", "kind", "scalar", "trailing bytes", "unused agent")]
 WANTED += [(4, f"egw: F: event N: {fault}") for fault in ("not reduced", "skipped", "out of range, length N")]
 WANTED += [(5, "egw: line N: unreadable"), (5, "egw: line N: out of range, length N"), (5, "egw: clash NAME"), (5, "egw: unknown NAME")]
+WANTED += [(5, f"egw: line N: {fault}") for fault in ("no peer NAME", "peer NAME is there", "no packet N")]
 WANTED += [(5, f"egw: frame N: {fault}") for fault in ("cut", "bad kind N", "too long, N", "bad body")]
 WANTED += [(6, f"egw: {what} failed") for what in ("shelf", "source", "sink")]
 WANTED += [(7, "egw: F: more than N bytes"), (7, "egw: F: more than N events"), (7, "egw: input: more than N bytes"), (7, "egw: more than N events"), (7, "egw: N heads, more than N")]
 # And each status that a command may come to, but for memory.
-STATUSES = {"cat --at": (0, 2, 3, 4, 5, 6, 7), "replay": (0, 2, 3, 4, 6, 7), "ask": (0, 2, 3, 4, 6, 7), "serve": (0, 2, 3, 4, 5, 6, 7), "make": (0, 2, 6)}
+STATUSES = {"cat --at": (0, 2, 3, 4, 5, 6, 7), "replay": (0, 2, 3, 4, 6, 7), "ask": (0, 2, 3, 4, 6, 7), "serve": (0, 2, 3, 4, 5, 6, 7), "make": (0, 2, 6), "net": (0, 2, 5, 6, 7)}
 
 
 def main():
@@ -787,6 +866,7 @@ def main():
     scripts_run = scripts(beside, draws)
     lines = words(beside, draws)
     made(beside, draws)
+    nets(beside, draws)
     limits(beside)
     refusals(beside)
     beside.part = "texts"

@@ -1,8 +1,8 @@
 #!/usr/bin/env python3
 """A second implementation of `egw`, written from docs/FORMATS.md alone.
 
-It has new, edit, cat, heads, log, replay, check, merge, ask, serve and make. Its authors
-had never seen the program, but for those of `serve` and `make`.
+It has new, edit, cat, heads, log, replay, check, merge, ask, serve, net and make. Its authors
+had never seen the program, but for those of `serve`, `net` and `make`.
 The sections follow those of the page. Python 3, nothing else.
 """
 
@@ -343,13 +343,13 @@ def parse_line(line):
     return INSERT, int(words[1]), len(text), text
 
 
-def parse_script(data):
-    """The edits of a script, each with the number of its line."""
-    edits = [(n, parse_line(line)) for n, line in enumerate(data.split(b'\n'), 1) if line]
-    for number, edit in edits:
-        if edit is None:
+def parse_script(data, parse):
+    """What the lines of a script mean, each with the number of its line."""
+    meant = [(n, parse(line)) for n, line in enumerate(data.split(b'\n'), 1) if line]
+    for number, meaning in meant:
+        if meaning is None:
             raise Refusal(5, 'line %d: unreadable' % number)
-    return edits
+    return meant
 
 
 def do_edit(history, agent, number, edit):
@@ -588,6 +588,123 @@ def talk(desk):
             raise Refusal(5, 'clash %s' % spell(clash))
 
 
+# Nets
+
+# What stands behind the first word of a line: names, numbers, a text.
+STEPS = {'peer': 'N', 'ins': 'N#T', 'del': 'N##', 'push': 'NN', 'send': 'NN##', 'ask': 'NN',
+         'deliver': '#', 'restart': 'N', 'show': 'N', 'agree': ''}
+
+
+def parse_part(kind, part):
+    """A name, a number or a text; None where it is none."""
+    if kind == 'N':
+        return parse_name(part)
+    if kind == '#':
+        return int(part) if re.fullmatch(NUMBER, part) and int(part) <= MAX_NUMBER else None
+    try:
+        return ESCAPE.sub(lambda found: PLAIN[found[1]], part)
+    except KeyError:
+        return None
+
+
+def parse_step(line):
+    """A line of a net script as its first word and the others, or None where it is bad."""
+    try:
+        text = line.decode('utf-8')
+    except UnicodeDecodeError:
+        return None
+    shape = STEPS.get(text.split(' ')[0], '')
+    word, *parts = text.split(' ', len(shape))
+    values = [parse_part(kind, part) for kind, part in zip(shape, parts)]
+    if word not in STEPS or len(parts) != len(shape) or None in values:
+        return None
+    return word, values
+
+
+class Net:
+    """Peers, by their names, and packets: a sender, a receiver and the bytes of the frames."""
+
+    def __init__(self):
+        self.desks, self.packets = {}, []
+
+    def step(self, number, word, values):
+        """Do what a line does; gives what it prints."""
+        names = [value for value, kind in zip(values, STEPS[word]) if kind == 'N']
+        for name in names:
+            if word != 'peer' and name not in self.desks:
+                raise Refusal(5, 'line %d: no peer %s' % (number, name))
+        if word == 'peer' and names[0] in self.desks:
+            raise Refusal(5, 'line %d: peer %s is there' % (number, names[0]))
+        if word == 'deliver' and values[0] >= len(self.packets):
+            raise Refusal(5, 'line %d: no packet %d' % (number, values[0]))
+        if word in ('ins', 'del'):
+            return self.edit(number, word, *values)
+        return getattr(self, word)(*values)
+
+    def peer(self, name):
+        """Add a peer that holds nothing."""
+        self.desks[name] = Desk(History(''))
+        return 'peer %s\n' % name
+
+    def edit(self, number, word, name, index, what):
+        """An edit of a peer's history."""
+        history = self.desks[name].history
+        before = len(history.events)
+        edit = (INSERT, index, len(what), what) if word == 'ins' else (DELETE, index, what, '')
+        do_edit(history, name, number, edit)
+        return '%s made %d\n' % (name, len(history.events) - before)
+
+    def packet(self, sender, receiver, frames):
+        """Make a packet."""
+        self.packets.append((sender, receiver, frames))
+        return 'packet %d %s %s\n' % (len(self.packets) - 1, sender, receiver)
+
+    def push(self, sender, receiver):
+        """Make a packet of all events."""
+        return self.packet(sender, receiver, events_frames(self.desks[sender].history.events))
+
+    def send(self, sender, receiver, skip, count):
+        """Make a packet of some events."""
+        events = self.desks[sender].history.events[skip:skip + count]
+        return self.packet(sender, receiver, events_frames(events))
+
+    def ask(self, sender, receiver):
+        """Make a packet of a Have."""
+        by_agent = self.desks[sender].history.by_agent
+        counts = {name: len(places) for name, places in by_agent.items()}
+        return self.packet(sender, receiver, have_frame(counts))
+
+    def deliver(self, number):
+        """Give the frames of a packet to its receiver."""
+        sender, receiver, frames = self.packets[number]
+        desk, printed, replies = self.desks[receiver], '', b''
+        while frames:
+            kind, content, end = first_frame(frames, 0)
+            frames, before = frames[end:], len(desk.history.events)
+            reply, _ = desk.answer(kind, content)
+            if kind == EVENTS:
+                told = (receiver, *first_frame(reply, 0)[1])
+                cut = next(cut for cut in desk.history.cuts() if cut <= before)
+                printed += '%s accepted %d waiting %d repeats %d refused %d' % told + ' cut %d\n' % cut
+            replies += reply
+        return printed + (self.packet(receiver, sender, replies) if replies else '')
+
+    def restart(self, name):
+        """Lose the events that wait."""
+        self.desks[name].waiting = {}
+        return '%s restarted\n' % name
+
+    def show(self, name):
+        """The text of a peer."""
+        text = ''.join(node.char for node in self.desks[name].history.visible())
+        return '%s %s\n' % (name, text.replace('\\', '\\\\').replace('\n', '\\n'))
+
+    def agree(self):
+        """Whether all hold equal events."""
+        held = [set(desk.history.events) for desk in self.desks.values()]
+        return 'agree %s\n' % ('yes' if all(events == held[0] for events in held) else 'no')
+
+
 # Files, input and output
 
 
@@ -670,7 +787,7 @@ def run_edit(files, values):
     before = len(history.events)
     with using('source'):
         script = read_all(0, MAX_INPUT, 'input')
-    for number, edit in parse_script(script):
+    for number, edit in parse_script(script, parse_line):
         do_edit(history, values[0], number, edit)
     if len(history.events) > before:
         store(files[0], history.events)
@@ -752,6 +869,14 @@ def run_merge(files, _values):
         len(accepted), len(other.events) - len(accepted), cut)
 
 
+def run_net(_files, _values):
+    """Run a net script; nothing is printed unless all lines were run."""
+    with using('source'):
+        script = read_all(0, MAX_INPUT, 'input')
+    net = Net()
+    return ''.join([net.step(number, *step) for number, step in parse_script(script, parse_step)])
+
+
 class Draws:
     """A row of drawn numbers that a seed begins."""
 
@@ -828,7 +953,7 @@ COMMANDS = {'new': (run_new, 1, {}), 'edit': (run_edit, 1, {'--agent': (1, parse
             'cat': (run_cat, 1, {'--at': (0, parse_version)}), 'heads': (run_heads, 1, {}),
             'log': (run_log, 1, {}), 'replay': (run_replay, 1, {}),
             'check': (run_check, 1, {}), 'ask': (run_ask, 1, {}), 'serve': (run_serve, 1, {}),
-            'merge': (run_merge, 2, {}),
+            'merge': (run_merge, 2, {}), 'net': (run_net, 0, {}),
             'make': (run_make, 0, {'--seed': (1, parse_up_to(2 ** 64 - 1)), '--count': (1, parse_up_to(MAX_EVENTS))})}
 
 
