@@ -20,11 +20,6 @@ module _ {R : Type 0} where
   halved_left above spares left (Some b) None e h = absurd (cc)
   halved_left above spares left (Some b) (Some t) e h = h.5
 
-  pub none_right : (tail : Option (Vec (ℕ × R) Global)) (right : Option (Tree R)) → is_some right ≡ is_some tail → tail ≡ None → right ≡ None
-  none_right tail None e h = refl
-  none_right None (Some t) e h = absurd (cc)
-  none_right (Some b) (Some t) e h = absurd (cc)
-
   pub same_tree : (s t : Tree R) → s.pairs ≡ t.pairs → s.depth ≡ t.depth → s ≡ t
   same_tree s t p d = ap (λ (ps : List (ℕ × R)). let u : Tree R = record { pairs = ps; depth = s.depth } in u) p ∙ ap (λ (n : ℕ). let u : Tree R = record { pairs = t.pairs; depth = n } in u) d
 

@@ -4,11 +4,11 @@ use Rattle.std.proofs.lemmas.List.Elements.{All-weaker, All-append}
 use Rattle.ew_model.specs.declared.run.Run.{Ghosts}
 use Rattle.order_tree.specs.declared.summary.Sums.{Sums}
 use Rattle.order_tree.specs.declared.edit.Edit.{Edit}
-use Rattle.order_tree.specs.declared.edit.Edit.TheVariants.{Change, Insert, Split}
-use Rattle.order_tree.specs.Pairs.{Tree, IsRising, total, first_label, next_label, SumsFit}
+use Rattle.order_tree.specs.declared.edit.Edit.TheVariants.{Insert, Split}
+use Rattle.order_tree.specs.Pairs.{Tree, IsRising, total, first_label, next_label, HasRoomBelow, SumsFit}
 use Rattle.order_tree.specs.Parts.{all_pairs, sums_of, IsMoved}
 use Rattle.order_tree.specs.Shape.{AllBelow}
-use Rattle.order_tree.specs.Edits.{Replaces, IsPlaced, HasLabel, IsBetween, IsEdited, StaysFit}
+use Rattle.order_tree.specs.Edits.{Replaces, IsPlaced, IsBetween, IsEdited, StaysFit}
 use Rattle.order_tree.specs.Rights.{pairs_of_right, IsLike, with_right}
 use Rattle.order_tree.proofs.PairLaws.{total-append}
 use Rattle.order_tree.proofs.KidPlaces.{part_holds, part_next}
@@ -79,7 +79,7 @@ module _ {R : Type 0} (front mid back : List (ℕ × R)) (label : ℕ) (below : 
           ∙ sym (append_assoc front h.front (part ++ (h.back ++ back)))
 
 module _ {R : Type 0} (G : Ghosts R) where
-  total-around : (count : R → ℕ) (front mid back : List (ℕ × R)) → total count (front ++ (mid ++ back)) ≡ total count front + (total count mid + total count back)
+  pub total-around : (count : R → ℕ) (front mid back : List (ℕ × R)) → total count (front ++ (mid ++ back)) ≡ total count front + (total count mid + total count back)
   total-around count front mid back = omega (arith, total-append count front (mid ++ back), total-append count mid back)
 
   -- what an edit loses and gains
@@ -139,19 +139,14 @@ module _ {R : Type 0} (G : Ghosts R) (kids : List (Tree R)) (k label bound most 
 
   -- what an edit asks of the whole it asks of the branch
   pub placed_down : (edit : Edit R) → IsPlaced G edit label (all_pairs (λ t. t.pairs) kids) → IsPlaced G edit label kid.pairs
-  placed_down (Change run) h = (h.0, part_holds (λ t. t.pairs) kids k kid lt is rising label h.0 below above h.1)
   placed_down (Insert run) h = tt
   placed_down (Split at) h = (h.0, part_holds (λ t. t.pairs) kids k kid lt is rising label h.0 below above h.1, h.2, h.3)
 
-  pub label_down : (edit : Edit R) → HasLabel edit bound label (all_pairs (λ t. t.pairs) kids) → HasLabel edit most label kid.pairs
-  label_down (Change run) h = tt
-  label_down (Insert run) h = subst (λ (n : ℕ). label + 1 < n) (sym next_same) h
-  label_down (Split at) h = subst (λ (n : ℕ). label + 1 < n) (sym next_same) h
+  pub label_down : HasRoomBelow bound (all_pairs (λ t. t.pairs) kids) label → HasRoomBelow most kid.pairs label
+  label_down h = subst (λ (n : ℕ). label + 1 < n) (sym next_same) h
 
-  between_up : (edit : Edit R) (own : ℕ) → IsBetween edit most label own kid.pairs → IsBetween edit bound label own (all_pairs (λ t. t.pairs) kids)
-  between_up (Change run) own h = tt
-  between_up (Insert run) own h = (h.0, subst (λ (n : ℕ). own < n) next_same h.1)
-  between_up (Split at) own h = (h.0, subst (λ (n : ℕ). own < n) next_same h.1)
+  between_up : (own : ℕ) → IsBetween most label own kid.pairs → IsBetween bound label own (all_pairs (λ t. t.pairs) kids)
+  between_up own h = (h.0, subst (λ (n : ℕ). own < n) next_same h.1)
 
   replaced_up : (new was put : List (ℕ × R)) → Replaces label kid.pairs new was put → Replaces label (all_pairs (λ t. t.pairs) kids) (all_pairs (λ t. t.pairs) (take k kids) ++ (new ++ all_pairs (λ t. t.pairs) (drop (k + 1) kids))) was put
   replaced_up new was put h =
@@ -173,7 +168,7 @@ module _ {R : Type 0} (G : Ghosts R) (kids : List (Tree R)) (k label bound most 
         is = h.is;
         replaces = subst (λ (ps : List (ℕ × R)). Replaces label (all_pairs (λ t. t.pairs) kids) ps h.was h.is) (sym pairs) (replaced_up (w.pairs ++ pairs_of_right right) h.was h.is h.replaces);
         puts = h.puts;
-        between = between_up edit own h.between;
+        between = between_up own h.between;
         lost_is = h.lost_is;
         gained_is = h.gained_is;
       }

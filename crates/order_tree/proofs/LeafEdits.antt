@@ -1,10 +1,10 @@
 -- What edits of a leaf leave.
 use Rattle.std.proofs.Common.{true, ◌≡◌, ℕ, zero, suc, ◌+◌, ◌<◌, ◌≤◌, List, [], ◌∷◌, ◌++◌, length, take, drop, insert, slice_set, slice_index_or, unwrap_or, All, Contains, arith, refl, sym, ap, ◌∙◌, subst, take-append-drop, append_assoc}
-use Rattle.std.proofs.lemmas.List.{drop_more, take_more, set_split, take_more_set, drop-set-lt}
+use Rattle.std.proofs.lemmas.List.{drop_more, take_more, take_more_set, drop-set-lt}
 use Rattle.std.proofs.lemmas.List.Elements.{All-weaker, All-append, All-cons, All-nil}
 use Rattle.ew_model.specs.declared.run.Run.{Ghosts}
 use Rattle.order_tree.specs.declared.summary.Sums.{Sums}
-use Rattle.order_tree.specs.declared.edit.Edit.TheVariants.{Change, Insert, Split}
+use Rattle.order_tree.specs.declared.edit.Edit.TheVariants.{Insert, Split}
 use Rattle.order_tree.specs.Pairs.{IsRising, total, next_label, first_label, ArePartsOf}
 use Rattle.order_tree.specs.Parts.{all_pairs, one_pair, sums_of}
 use Rattle.order_tree.specs.Edits.{IsEdited}
@@ -66,22 +66,6 @@ module _ {R : Type 0} (G : Ghosts R) (ps : List (ℕ × R)) (k label : ℕ) (p :
 
   old_is : ps ≡ take k ps ++ ((label, r) ∷ drop (k + 1) ps)
   old_is = sym (take-append-drop k ps) ∙ ap (λ (qs : List (ℕ × R)). take k ps ++ qs) (drop_more ps k p lt ∙ ap (λ (q : ℕ × R). q ∷ drop (k + 1) ps) (sym is ∙ entry_is))
-
-  -- another run stands in its place
-  pub changed_is : (new : List (ℕ × R)) (run : R) (bound : ℕ) (lost gained : Sums) → new ≡ slice_set ps k (label, run) → lost.known ≡ G.known p.1 → lost.prepared ≡ G.prepared p.1 → lost.effect ≡ G.effect p.1
-      → gained.known ≡ G.known run → gained.prepared ≡ G.prepared run → gained.effect ≡ G.effect run → IsEdited G (Change run) bound label ps new label lost gained
-  changed_is new run bound lost gained e x y z a b c =
-      let next : suc k ≡ k + 1 = omega arith in
-      let set : new ≡ take k ps ++ ((label, run) ∷ drop (k + 1) ps) = e ∙ set_split ps k (label, run) lt ∙ ap (λ (j : ℕ). take k ps ++ ((label, run) ∷ drop j ps)) next in
-      record {
-        was = (label, r) ∷ [];
-        is = (label, run) ∷ [];
-        replaces = record { front = take k ps; back = drop (k + 1) ps; old_is = old_is; new_is = set; below = front_le; above = back_gt };
-        puts = (r, refl, refl);
-        between = tt;
-        lost_is = sums_one G lost p x y z ∙ ap (λ (q : ℕ × R). sums_of G (q ∷ [])) entry_is;
-        gained_is = sums_one G gained (label, run) a b c;
-      }
 
   up_to_here : All (λ q. q.0 ≤ label) (take (k + 1) ps)
   up_to_here =

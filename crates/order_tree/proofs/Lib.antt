@@ -1,5 +1,6 @@
 pub mod Around
 pub mod BranchEdits
+pub mod ChangeLaws
 pub mod KidPlaces
 pub mod EntryLaws
 pub mod InsertLaws
@@ -11,4 +12,5 @@ pub mod PartLists
 pub mod RelabelLaws
 pub mod SpreadLaws
 pub mod TreeEdits
+pub mod VisibleLaws
 pub mod WholeEdits

@@ -4,7 +4,7 @@ use Rattle.std.proofs.lemmas.List.Elements.{All-nil, All-cons, All-head, All-tai
 use Rattle.ew_model.specs.declared.run.Run.{Ghosts}
 use Rattle.order_tree.specs.declared.summary.Sums.{Sums}
 use Rattle.order_tree.specs.declared.edit.Edit.{Edit}
-use Rattle.order_tree.specs.declared.edit.Edit.TheVariants.{Change, Insert, Split}
+use Rattle.order_tree.specs.declared.edit.Edit.TheVariants.{Insert, Split}
 use Rattle.order_tree.specs.Pairs.{RisesFrom, IsRising, up_to, greater, first_label, next_label, total, inserted}
 use Rattle.order_tree.specs.Parts.{first_or_zero}
 use Rattle.order_tree.specs.Edits.{Replaces, IsEdited, StaysFit}
@@ -39,12 +39,6 @@ module _ {R : Type 0} where
 
   -- labels rise after an edit
   pub rising_after : (G : Ghosts R) (edit : Edit R) (bound label : ℕ) (old new : List (ℕ × R)) (own : ℕ) (lost gained : Sums) → IsRising old → IsEdited G edit bound label old new own lost gained → IsRising new
-  rising_after G (Change run) bound label old new own lost gained rising h =
-      let front = h.replaces.front in
-      let back = h.replaces.back in
-      let old_is : old ≡ front ++ ((label, h.puts.0) ∷ back) = h.replaces.old_is ∙ ap (λ (xs : List (ℕ × R)). front ++ (xs ++ back)) h.puts.1 in
-      let new_is : new ≡ front ++ ((label, run) ∷ back) = h.replaces.new_is ∙ ap (λ (xs : List (ℕ × R)). front ++ (xs ++ back)) h.puts.2 in
-      subst (λ (ps : List (ℕ × R)). IsRising ps) (sym new_is) (rises_changed 0 label h.puts.0 run front back (subst (λ (ps : List (ℕ × R)). IsRising ps) old_is rising))
   rising_after G (Insert run) bound label old new own lost gained rising h =
       let front = h.replaces.front in
       let back = h.replaces.back in

@@ -8,11 +8,11 @@ use Rattle.std.specs.Prelude.{is_some}
 use Rattle.ew_model.specs.declared.run.Run.{Ghosts}
 use Rattle.order_tree.specs.declared.summary.Sums.{Sums}
 use Rattle.order_tree.specs.declared.edit.Edit.{Edit}
-use Rattle.order_tree.specs.declared.edit.Edit.TheVariants.{Change, Insert, Split}
-use Rattle.order_tree.specs.Pairs.{Tree, labels, IsRising, lower, greater, first_label, next_label, total, SumsFit, changed, IsCut}
+use Rattle.order_tree.specs.declared.edit.Edit.TheVariants.{Insert, Split}
+use Rattle.order_tree.specs.Pairs.{Tree, labels, IsRising, lower, greater, first_label, next_label, total, SumsFit, IsCut}
 use Rattle.order_tree.specs.Parts.{sums_of}
 use Rattle.order_tree.specs.Edits.{Replaces, IsEdited, StaysFit}
-use Rattle.order_tree.specs.Whole.{tree_of, IsWhole, IsTreeEdit, added}
+use Rattle.order_tree.specs.Whole.{tree_of, IsWhole, IsTreeEdit}
 use Rattle.order_tree.proofs.PairLaws.{All_right, front_below, lower_none, greater_none, total-cons, total-one}
 use Rattle.order_tree.proofs.Around.{greater_around, lower_around}
 use Rattle.order_tree.proofs.InnerEdits.{replaced_total, edited_fits}
@@ -21,40 +21,10 @@ use Rattle.order_tree.proofs.TreeEdits.{rising_after}
 pow_small : (d n : ℕ) → 2 ^ d ≤ 2 * n → n < 2 ^ 32 → (34 ≤ d → 2 ^ 34 ≤ 2 ^ d) → d + 1 < 2 ^ 32
 pow_small d n enough few big = grind arith
 
-module _ {R : Type 0} (label : ℕ) (run : R) where
-  changed_other : (ps : List (ℕ × R)) → All (λ p. p.0 ≢ label) ps → changed ps label run ≡ ps
-  changed_other [] h = refl
-  changed_other (p ∷ ps) h =
-      let here : nat_eq p.0 label ≡ false = ne_eqb p.0 label (All-head (λ q. q.0 ≢ label) p ps h) in
-      rw here (ap (λ (qs : List (ℕ × R)). p ∷ qs) (changed_other ps (All-tail (λ q. q.0 ≢ label) p ps h)))
-
-  changed_here : (r : R) (front back : List (ℕ × R)) → All (λ p. p.0 ≢ label) front → All (λ p. p.0 ≢ label) back → changed (front ++ ((label, r) ∷ back)) label run ≡ front ++ ((label, run) ∷ back)
-  changed_here r [] back f b =
-      let here : nat_eq label label ≡ true = eq-eqb label label refl in
-      rw here (ap (λ (qs : List (ℕ × R)). (label, run) ∷ qs) (changed_other back b))
-  changed_here r (p ∷ front) back f b =
-      let here : nat_eq p.0 label ≡ false = ne_eqb p.0 label (All-head (λ q. q.0 ≢ label) p front f) in
-      rw here (ap (λ (qs : List (ℕ × R)). p ∷ qs) (changed_here r front back (All-tail (λ q. q.0 ≢ label) p front f) b))
-
 module _ {R : Type 0} where
   -- what stands before the label of a run has lower labels
   before_run : (label : ℕ) (r : R) (front back : List (ℕ × R)) → IsRising (front ++ ((label, r) ∷ back)) → All (λ p. p.0 < label) front
   before_run label r front back rising = front_below 0 label front ((label, r) ∷ back) rising (omega arith) (omega arith)
-
-  changed_by : (label : ℕ) (r run : R) (old new was put : List (ℕ × R)) → IsRising old → (h : Replaces label old new was put) → was ≡ (label, r) ∷ [] → put ≡ (label, run) ∷ [] → new ≡ changed old label run
-  changed_by label r run old new was put rising h gone here =
-      let old_is : old ≡ h.front ++ ((label, r) ∷ h.back) = h.old_is ∙ ap (λ (xs : List (ℕ × R)). h.front ++ (xs ++ h.back)) gone in
-      let new_is : new ≡ h.front ++ ((label, run) ∷ h.back) = h.new_is ∙ ap (λ (xs : List (ℕ × R)). h.front ++ (xs ++ h.back)) here in
-      let below = before_run label r h.front h.back (subst (λ (ps : List (ℕ × R)). IsRising ps) old_is rising) in
-      new_is ∙ sym (ap (λ (ps : List (ℕ × R)). changed ps label run) old_is
-      ∙ changed_here label run r h.front h.back (All-weaker (λ p. p.0 < label) (λ p. p.0 ≢ label) (λ p lt e. omega (arith, lt, e)) h.front below) (All-weaker (λ p. label < p.0) (λ p. p.0 ≢ label) (λ p lt e. omega (arith, lt, e)) h.back h.above))
-
-  -- CHANGE
-  pub changed_after : (G : Ghosts R) (run : R) (bound label : ℕ) (old new : List (ℕ × R)) (own : ℕ) (lost gained : Sums) → IsRising old → IsEdited G (Change run) bound label old new own lost gained → new ≡ changed old label run
-  changed_after G run bound label old new own lost gained rising h = changed_by label h.puts.0 run old new h.was h.is rising h.replaces h.puts.1 h.puts.2
-
-  pub change_fits : (G : Ghosts R) (run : R) (label : ℕ) (old : List (ℕ × R)) → IsRising old → SumsFit G (changed old label run) → StaysFit G (Change run) label old
-  change_fits G run label old rising fit = λ own was put new rep puts. subst (λ (ps : List (ℕ × R)). SumsFit G ps) (sym (changed_by label puts.0 run old new was put rising rep puts.1 puts.2)) fit
 
   -- CUT
   cut_total : (G : Ghosts R) (count : R → ℕ) (label own : ℕ) (r first second : R) (old new was put : List (ℕ × R)) → Replaces label old new was put → was ≡ (label, r) ∷ [] → put ≡ (label, first) ∷ (own, second) ∷ [] → count r ≡ count first + count second → total count new ≡ total count old
@@ -102,8 +72,7 @@ module _ {R : Type 0} where
   replaced_length label old new was put h =
       omega (arith, ap length h.old_is, ap length h.new_is, length-append h.front (was ++ h.back), length-append was h.back, length-append h.front (put ++ h.back), length-append put h.back)
 
-  length_after : (G : Ghosts R) (edit : Edit R) (bound label : ℕ) (old new : List (ℕ × R)) (own : ℕ) (lost gained : Sums) → IsEdited G edit bound label old new own lost gained → length new ≡ length old + added edit
-  length_after G (Change run) bound label old new own lost gained h = omega (arith, replaced_length label old new h.was h.is h.replaces, ap length h.puts.1, ap length h.puts.2)
+  length_after : (G : Ghosts R) (edit : Edit R) (bound label : ℕ) (old new : List (ℕ × R)) (own : ℕ) (lost gained : Sums) → IsEdited G edit bound label old new own lost gained → length new ≡ length old + 1
   length_after G (Insert run) bound label old new own lost gained h = omega (arith, replaced_length label old new h.was h.is h.replaces, ap length h.puts.0, ap length h.puts.1)
   length_after G (Split at) bound label old new own lost gained h = omega (arith, replaced_length label old new h.was h.is h.replaces, ap length h.puts.3, ap length h.puts.4)
 
@@ -129,9 +98,6 @@ module _ {R : Type 0} where
   one_below bound label run lt = All-cons (λ p. p.0 < bound) (label, run) [] lt (All-nil (λ p. p.0 < bound))
 
   below_after : (G : Ghosts R) (edit : Edit R) (bound label : ℕ) (old new : List (ℕ × R)) (own : ℕ) (lost gained : Sums) → label < bound → All (λ p. p.0 < bound) old → IsEdited G edit bound label old new own lost gained → All (λ p. p.0 < bound) new
-  below_after G (Change run) bound label old new own lost gained less all h =
-      let put : All (λ (p : ℕ × R). p.0 < bound) h.is = subst (λ (ps : List (ℕ × R)). All (λ p. p.0 < bound) ps) (sym h.puts.2) (one_below bound label run less) in
-      replaced_all (λ p. p.0 < bound) label old new h.was h.is h.replaces all put
   below_after G (Insert run) bound label old new own lost gained less all h =
       let lt : own < bound = omega (arith, h.between.1, next_within bound label old all) in
       let put : All (λ (p : ℕ × R). p.0 < bound) h.is = subst (λ (ps : List (ℕ × R)). All (λ p. p.0 < bound) ps) (sym h.puts.1) (one_below bound own run lt) in
@@ -165,7 +131,7 @@ module _ {R : Type 0} where
   none_flat ps d enough none = absurd (omega (arith, enough, ap length none, pow_pos d))
 
   -- what holds of a tree holds of it after an edit
-  pub whole_after : (G : Ghosts R) (edit : Edit R) (label own runs after : ℕ) (old new : Tree R) → label < 2 ^ 64 → StaysFit G edit label old.pairs → IsWhole G runs old → IsTreeEdit G edit label old new own → after ≡ runs + added edit → IsWhole G after new
+  pub whole_after : (G : Ghosts R) (edit : Edit R) (label own runs after : ℕ) (old new : Tree R) → label < 2 ^ 64 → StaysFit G edit label old.pairs → IsWhole G runs old → IsTreeEdit G edit label old new own → after ≡ runs + 1 → IsWhole G after new
   whole_after G edit label own runs after old new less fits h e same =
       record {
         counted = omega (arith, same, h.counted, length_after G edit (2 ^ 64) label old.pairs new.pairs own e.lost e.gained e.edited);
@@ -195,5 +161,4 @@ module _ {R : Type 0} where
         gained = sums_of G ((own, run) ∷ []);
         edited = subst (λ (ps : List (ℕ × R)). IsEdited G (Insert run) (2 ^ 64) label old.pairs ps own (sums_of G []) (sums_of G ((own, run) ∷ []))) (sym one) edited_old;
         enough = enough;
-        same = λ no. absurd no;
       }

@@ -3,8 +3,8 @@ use Rattle.std.specs.Prelude.{◌≡◌, ℕ, ◌<◌, ◌≤◌, List, [], ◌�
 use Rattle.ew_model.specs.declared.run.Run.{Ghosts}
 use Rattle.order_tree.specs.declared.summary.Sums.{Sums}
 use Rattle.order_tree.specs.declared.edit.Edit.{Edit}
-use Rattle.order_tree.specs.declared.edit.Edit.TheVariants.{Change, Insert, Split}
-use Rattle.order_tree.specs.Pairs.{next_label, HasRoomBelow, ArePartsOf, SumsFit}
+use Rattle.order_tree.specs.declared.edit.Edit.TheVariants.{Insert, Split}
+use Rattle.order_tree.specs.Pairs.{next_label, ArePartsOf, SumsFit}
 use Rattle.order_tree.specs.Parts.{sums_of}
 
 module _ {R : Type 0} where
@@ -19,28 +19,18 @@ module _ {R : Type 0} where
 
   -- the edit at the label puts these pairs in the place of those, a new run under its own label
   abbrev pub Puts : Ghosts R → Edit R → ℕ → ℕ → List (ℕ × R) → List (ℕ × R) → Type 0
-  Puts G (Change run) label own was is = (r : R) × (was ≡ (label, r) ∷ []) × (is ≡ (label, run) ∷ [])
   Puts G (Insert run) label own was is = (was ≡ []) × (is ≡ (own, run) ∷ [])
   Puts G (Split at) label own was is =
       (r : R) × (first : R) × (second : R) × (was ≡ (label, r) ∷ []) × (is ≡ (label, first) ∷ (own, second) ∷ []) × ArePartsOf G r at first second
 
   -- there is a run at the label, where the edit is of one, and a place to cut it inside
   abbrev pub IsPlaced : Ghosts R → Edit R → ℕ → List (ℕ × R) → Type 0
-  IsPlaced G (Change run) label ps = (r : R) × Contains ps (label, r)
   IsPlaced G (Insert run) label ps = Unit {0}
   IsPlaced G (Split at) label ps = (r : R) × Contains ps (label, r) × (0 < at) × (at < length (G.chars r))
 
-  -- the edit puts no new run, or there is a label free for it
-  abbrev pub HasLabel : Edit R → ℕ → ℕ → List (ℕ × R) → Type 0
-  HasLabel (Change run) bound label ps = Unit {0}
-  HasLabel (Insert run) bound label ps = HasRoomBelow bound ps label
-  HasLabel (Split at) bound label ps = HasRoomBelow bound ps label
-
   -- the label of a new run is between this one and the next
-  abbrev pub IsBetween : Edit R → ℕ → ℕ → ℕ → List (ℕ × R) → Type 0
-  IsBetween (Change run) bound label own ps = Unit {0}
-  IsBetween (Insert run) bound label own ps = (label < own) × (own < next_label bound ps label)
-  IsBetween (Split at) bound label own ps = (label < own) × (own < next_label bound ps label)
+  abbrev pub IsBetween : ℕ → ℕ → ℕ → List (ℕ × R) → Type 0
+  IsBetween bound label own ps = (label < own) × (own < next_label bound ps label)
 
   -- the edit changed the pairs so, the new run standing under its own label, and lost and gained these sums
   pub record IsEdited (G : Ghosts R) (edit : Edit R) (bound label : ℕ) (old new : List (ℕ × R)) (own : ℕ) (lost gained : Sums) : Type 0 where
@@ -48,15 +38,10 @@ module _ {R : Type 0} where
     pub is : List (ℕ × R)
     pub replaces : Replaces label old new was is
     pub puts : Puts G edit label own was is
-    pub between : IsBetween edit bound label own old
+    pub between : IsBetween bound label own old
     pub lost_is : lost ≡ sums_of G was
     pub gained_is : gained ≡ sums_of G is
 
   -- whatever the edit leaves has sums that fit
   abbrev pub StaysFit : Ghosts R → Edit R → ℕ → List (ℕ × R) → Type 0
   StaysFit G edit label old = (own : ℕ) (was is new : List (ℕ × R)) → Replaces label old new was is → Puts G edit label own was is → SumsFit G new
-
-  abbrev pub IsChange : Edit R → Type 0
-  IsChange (Change run) = Unit {0}
-  IsChange (Insert run) = ⊥
-  IsChange (Split at) = ⊥

@@ -6,7 +6,7 @@ use Rattle.ew_model.specs.declared.run.Run.{Ghosts}
 use Rattle.order_tree.specs.declared.summary.Sums.{Sums}
 use Rattle.order_tree.specs.declared.edit.Edit.{Edit}
 use Rattle.order_tree.specs.Pairs.{Tree}
-use Rattle.order_tree.specs.Edits.{IsEdited, IsChange}
+use Rattle.order_tree.specs.Edits.{IsEdited}
 
 -- a block has so many parts or more, up to sixteen, and room for sixteen
 abbrev pub HasParts : {X : Type 0} → ℕ → Vec X Global → Type 0
@@ -45,7 +45,6 @@ module _ {R : Type 0} where
     pub enough : 2 ^ new.depth ≤ 2 * length new.pairs
     pub like : IsLike old.depth right
     pub left : IsLeft above right spares
-    pub whole : IsChange edit → right ≡ None
 
 -- how many full nodes stand right above the branches of a node that has so many
 abbrev pub above_kids : ℕ → ℕ → ℕ

@@ -3,9 +3,9 @@ use Rattle.std.specs.Prelude.{◌≡◌, ℕ, ◌*◌, ◌^◌, ◌<◌, ◌≤�
 use Rattle.ew_model.specs.declared.run.Run.{Ghosts}
 use Rattle.order_tree.specs.declared.summary.Sums.{Sums}
 use Rattle.order_tree.specs.declared.edit.Edit.{Edit}
-use Rattle.order_tree.specs.declared.edit.Edit.TheVariants.{Change, Insert, Split}
+use Rattle.order_tree.specs.declared.edit.Edit.TheVariants.{Insert, Split}
 use Rattle.order_tree.specs.Pairs.{Tree, IsRising, SumsFit}
-use Rattle.order_tree.specs.Edits.{IsEdited, IsChange}
+use Rattle.order_tree.specs.Edits.{IsEdited}
 
 module _ {R : Type 0} where
   -- the tree of a root; without one there are no runs and no nodes
@@ -22,16 +22,9 @@ module _ {R : Type 0} where
     pub bound : 0 < length t.pairs → 2 ^ t.depth ≤ 2 * length t.pairs
     pub flat : t.pairs ≡ [] → t.depth ≡ 0
 
-  -- how many runs an edit adds
-  abbrev pub added : Edit R → ℕ
-  added (Change run) = 0
-  added (Insert run) = 1
-  added (Split at) = 1
-
   -- an edit made this tree of that
   pub record IsTreeEdit (G : Ghosts R) (edit : Edit R) (label : ℕ) (old new : Tree R) (own : ℕ) : Type 0 where
     pub lost : Sums
     pub gained : Sums
     pub edited : IsEdited G edit (2 ^ 64) label old.pairs new.pairs own lost gained
     pub enough : 2 ^ new.depth ≤ 2 * length new.pairs
-    pub same : IsChange edit → new.depth ≡ old.depth

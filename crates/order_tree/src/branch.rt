@@ -1,14 +1,15 @@
 //! A branch of the tree: a node, and what is kept of the runs below it.
 
 ghost use Rattle.std.specs.Prelude.{◌≡◌, ℕ, ◌+◌, ◌*◌, ◌^◌, ◌<◌, ◌≤◌, Some, ◌++◌, length, Contains, vec_capacity, IfOk, OnErr};
-ghost use Rattle.order_tree.specs.Pairs.{labels, IsRising, total, up_to, next_label, first_label, counted_after, IsPlace, SumsFit};
-ghost use Rattle.order_tree.specs.Parts.{first_or_zero, last_known, sums_of, summary_of, all_pairs};
+ghost use Rattle.order_tree.specs.Pairs.{labels, IsRising, total, lower, up_to, next_label, first_label, counted_after, IsPlace, SumsFit, HasRoomBelow, changed};
+ghost use Rattle.order_tree.specs.Parts.{first_or_zero, last_known, sums_of, summary_of, all_pairs, IsMoved};
 ghost use Rattle.order_tree.specs.Counts.{count_of};
-ghost use Rattle.order_tree.specs.Shape.{AllBelow};
-ghost use Rattle.order_tree.specs.Edits.{IsPlaced, HasLabel, StaysFit, IsChange};
+ghost use Rattle.order_tree.specs.Shape.{AllBelow, IsNode, pairs_in};
+ghost use Rattle.order_tree.specs.Edits.{IsPlaced, StaysFit};
 ghost use Rattle.order_tree.specs.Relabels.{relabelled, renamed, reached};
 ghost use Rattle.order_tree.specs.Rights.{IsBranchEdit};
 
+use crate::change::{Moved, change_entry};
 use crate::count::Count;
 use crate::edit::Edit;
 use crate::entries::{effect_up_to_in, known_after_in, last_free_in, place_in, run_in};
@@ -16,10 +17,11 @@ use crate::finish::{edit_entries, finish};
 use crate::halves::{inner_summary, leaf_summary, way_down};
 use crate::kids::{kid_at, kid_before, kid_known_after, kid_up_to, kid_with};
 use crate::leaf::Way;
-use crate::part::Part;
+use crate::part::{Part, place_of, summary_after};
 use crate::relabel::{Reached, relabel_entries};
 use crate::spares::Spares;
 use crate::summary::{Summary, Sums};
+use crate::visible::{Visible, kid_visible, visible_in};
 use ew_model::run::Run;
 use ew_model::steps::Steps;
 use std::alloc::AllocError;
@@ -119,6 +121,31 @@ impl<R: Run> Branch<R> {
             Node::Inner(kids) => {
                 let (kid, rest) = kid_at(kids.as_slice(), self.depth, count, i);
                 kid.find(count, rest, visits)
+            }
+        }
+    }
+
+    /// The i-th character that is visible in what is prepared.
+    pub fn visible<L: Ledger>(&self, i: u32, visits: &mut Steps<L>) -> Visible<'_, R>
+        requires rising { IsRising self.now.pairs }
+        requires within { i < total R.prepared self.now.pairs }
+        requires small { total R.effect self.now.pairs < 2 ^ 32 }
+        ensures place { IsPlace R.prepared self.now.pairs i result.label result.place }
+        ensures run { Contains self.now.pairs (result.label, result.run.now) }
+        ensures before { result.before ≡ total R.effect (lower self.now.pairs result.label) }
+        ensures onward { visits.old ≤ visits.new }
+        ensures cost { visits.new ≤ visits.old + self.now.depth }
+    {
+        visits.tick();
+        match &self.node {
+            Node::Leaf(entries) => visible_in(entries.as_slice(), i),
+            Node::Inner(kids) => {
+                let (kid, before, rest) = kid_visible(kids.as_slice(), self.depth, i);
+                let found = kid.visible(rest, visits);
+                Visible {
+                    before: before + found.before,
+                    ..found
+                }
             }
         }
     }
@@ -233,12 +260,12 @@ impl<R: Run + Drop> Branch<R> {
     ) -> Result<Edited<R>, AllocError>
         requires rising { IsRising self.old.pairs }
         requires placed { IsPlaced R.Run edit way.label self.old.pairs }
-        requires label { HasLabel edit (way.most + 1) way.label self.old.pairs }
+        requires label { HasRoomBelow (way.most + 1) self.old.pairs way.label }
         requires fits { StaysFit R.Run edit way.label self.old.pairs }
         requires spares { spares.old ≡ 0 }
         requires above { way.above + self.old.depth < 2 ^ 32 }
         ensures edited { IfOk result (λ d. IsBranchEdit R.Run edit (way.most + 1) way.label way.above self.old self.new d.right d.own d.lost d.gained spares.new) }
-        ensures err { OnErr result ((self.new ≡ self.old) × (IsChange edit → ⊥)) }
+        ensures err { OnErr result (self.new ≡ self.old) }
         ensures onward { visits.old ≤ visits.new }
         ensures cost { visits.new ≤ visits.old + self.old.depth }
     {
@@ -263,6 +290,52 @@ impl<R: Run + Drop> Branch<R> {
                 );
                 self.summary = summary;
                 Ok(done)
+            }
+        }
+    }
+}
+
+impl<R: Run> Node<R> {
+    /// What is kept of the node after a change below it, from the sums that were kept before.
+    fn kept_after(&self, depth: u32, old: Sums, moved: Moved) -> Summary
+        requires shape { IsNode depth self.now }
+        requires fit { SumsFit R.Run (pairs_in self.now) }
+        requires moved { IsMoved old moved.lost moved.gained (sums_of R.Run (pairs_in self.now)) }
+        ensures { result ≡ summary_of R.Run (pairs_in self.now) }
+    {
+        match self {
+            Node::Leaf(entries) => {
+                summary_after(entries.as_slice(), old, moved.lost, moved.gained)
+            }
+            Node::Inner(kids) => summary_after(kids.as_slice(), old, moved.lost, moved.gained),
+        }
+    }
+}
+
+impl<R: Run + Drop> Branch<R> {
+    /// Puts another run in the place of a label's.
+    pub fn change<L: Ledger>(&mut self, label: u64, run: R, visits: &mut Steps<L>) -> Moved
+        requires rising { IsRising self.old.pairs }
+        requires held { (r : R) × Contains self.old.pairs (label, r) }
+        requires fit { SumsFit R.Run (changed self.old.pairs label run) }
+        ensures pairs { self.new.pairs ≡ changed self.old.pairs label run }
+        ensures depth { self.new.depth ≡ self.old.depth }
+        ensures moved { IsMoved (sums_of R.Run self.old.pairs) result.lost result.gained (sums_of R.Run self.new.pairs) }
+        ensures onward { visits.old ≤ visits.new }
+        ensures cost { visits.new ≤ visits.old + self.old.depth }
+    {
+        visits.tick();
+        match &mut self.node {
+            Node::Leaf(entries) => {
+                let moved = change_entry(entries, label, run);
+                self.summary = self.node.kept_after(self.depth, self.summary.sums, moved);
+                moved
+            }
+            Node::Inner(kids) => {
+                let k = place_of(kids.as_slice(), label);
+                let moved = kids[k].change(label, run, visits);
+                self.summary = self.node.kept_after(self.depth, self.summary.sums, moved);
+                moved
             }
         }
     }

@@ -8,8 +8,6 @@ use crate::spares::MOST_PARTS;
 /// An edit at a label.
 #[derive(Drop)]
 pub enum Edit<R> {
-    /// Another run in the place of the label's.
-    Change(R),
     /// A run behind the label.
     Insert(R),
     /// The label's run is cut at a place, and its second part gets a label of its own.

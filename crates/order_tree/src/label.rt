@@ -12,11 +12,13 @@ enum Side {
     Ahead,
 }
 
-/// Runs that were put in one beside the other: the label of the last, and how many came on this side of the one before.
+/// Runs that were put in one beside the other: the label of the last, on which side of the one before it came, and how many came
+/// so. They come on one side, or they turn: each on the other side than the one before, from outside inward.
 #[derive(Clone, Copy, Debug)]
 struct Streak {
     last: u64,
     side: Side,
+    turning: bool,
     times: u32,
 }
 
@@ -25,6 +27,7 @@ impl Streak {
     const NONE: Streak = Streak {
         last: u64::MAX,
         side: Side::Behind,
+        turning: false,
         times: 0,
     };
 
@@ -33,7 +36,8 @@ impl Streak {
         self.last == label || self.last.checked_sub(1) == Some(most)
     }
 
-    /// The streak with one more run, under a label above `label` and up to `most`.
+    /// The streak with one more run, under a label above `label` and up to `most`. The small part of the gap is on the side where
+    /// no more is expected.
     fn with_next(self, label: u64, most: u64) -> Streak
         requires { label < most }
         ensures above { label < result.last }
@@ -44,21 +48,33 @@ impl Streak {
         } else {
             Side::Ahead
         };
-        let times = if self.side == side {
-            self.times.saturating_add(1)
-        } else {
-            1
-        };
+        let turning = side != self.side;
+        let times = self.times_with(turning);
         let part = part_of(most - label - 1, times);
-        let last = match side {
+        let expected = if turning { self.side } else { side };
+        let last = match expected {
             Side::Behind => label + 1 + part,
             Side::Ahead => most - part,
         };
-        Streak { last, side, times }
+        Streak {
+            last,
+            side,
+            turning,
+            times,
+        }
+    }
+
+    /// How many runs came so, with one more that turns or doesn't. A run that turned alone is the first on its side.
+    fn times_with(self, turning: bool) -> u32 {
+        if self.turning == turning || self.turning && self.times == 1 {
+            self.times.saturating_add(1)
+        } else {
+            1
+        }
     }
 }
 
-/// The part of a gap between two runs, where so many came in on one side.
+/// The part of a gap between two runs, where so many came in as expected.
 fn part_of(gap: u64, times: u32) -> u64
     ensures { result ≤ gap }
 {
@@ -84,7 +100,8 @@ impl Recent {
     ///
     /// The first run of a streak halves the gap, the second leaves two thirds of it to those that follow, the third three quarters,
     /// and so on: after so many runs in one place a part as great as one of so many is left. A gap of 2^40 serves a million of
-    /// them. Runs that come on one side and the other in turn halve what is left each time.
+    /// them, on one side as in turn on one side and the other. A run that comes on the side where none is expected finds the
+    /// small part of the gap, and halves it.
     pub fn choose(&mut self, label: u64, most: u64) -> u64
         requires { label < most }
         ensures above { label < result }

@@ -3,7 +3,7 @@
 ghost use Rattle.std.specs.Prelude.{◌≡◌, ℕ, ◌+◌, ◌-◌, ◌<◌, ◌≤◌, Some, None, [], ◌∷◌, ◌++◌, length, Contains, vec_capacity, IfOk, IsOkAnd, OnErr};
 ghost use Rattle.order_tree.specs.Pairs.{IsRising, HasRoomBelow};
 ghost use Rattle.order_tree.specs.Blocks.{items_of, IsHalved, IsSupplied};
-ghost use Rattle.order_tree.specs.Edits.{IsPlaced, HasLabel, IsEdited, IsChange};
+ghost use Rattle.order_tree.specs.Edits.{IsPlaced, IsEdited};
 
 use crate::edit::{Edit, put};
 use crate::label::share;
@@ -42,44 +42,16 @@ pub fn edit_leaf<R: Run + Drop>(
     requires room { 16 ≤ vec_capacity entries.old }
     requires rising { IsRising entries.old.items }
     requires placed { IsPlaced R.Run edit way.label entries.old.items }
-    requires label { HasLabel edit (way.most + 1) way.label entries.old.items }
+    requires label { HasRoomBelow (way.most + 1) entries.old.items way.label }
     requires spares { spares.old ≡ 0 }
     ensures edited { IfOk result (λ d. IsEdited R.Run edit (way.most + 1) way.label entries.old.items (entries.new.items ++ items_of d.tail) d.own d.lost d.gained) }
     ensures halved { IfOk result (λ d. IsHalved way.above entries.new.items d.tail spares.new) }
     ensures room { 16 ≤ vec_capacity entries.new }
-    ensures change { IsChange edit → IsOkAnd result (λ d. d.tail ≡ None) }
     ensures err { OnErr result (entries.new.items ≡ entries.old.items) }
 {
     match edit {
-        Edit::Change(run) => Ok(change_entry(entries, way.label, run)),
         Edit::Insert(run) => insert_entry(entries, run, way, spares),
         Edit::Split(at) => split_entry(entries, at, way, spares),
-    }
-}
-
-/// Puts another run in the place of a label's.
-fn change_entry<R: Run + Drop>(entries: &mut Vec<(u64, R)>, label: u64, run: R) -> LeafEdited<R>
-    requires some { 1 ≤ length entries.old.items }
-    requires few { length entries.old.items ≤ 16 }
-    requires room { 16 ≤ vec_capacity entries.old }
-    requires rising { IsRising entries.old.items }
-    requires placed { (r : R) × Contains entries.old.items (label, r) }
-    ensures edited { (bound : ℕ) → IsEdited R.Run (Edit.Change run) bound label entries.old.items entries.new.items result.own result.lost result.gained }
-    ensures tail { result.tail ≡ None }
-    ensures some { 1 ≤ length entries.new.items }
-    ensures few { length entries.new.items ≤ 16 }
-    ensures room { 16 ≤ vec_capacity entries.new }
-{
-    let list = entries.as_slice();
-    let k = place_of(list, label);
-    let lost = Sums::of(&list[k].1);
-    let gained = Sums::of(&run);
-    entries[k] = (label, run);
-    LeafEdited {
-        own: label,
-        lost,
-        gained,
-        tail: None,
     }
 }
 

@@ -4,6 +4,7 @@
 #![tactic(auto)]
 
 mod branch;
+mod change;
 mod count;
 mod edit;
 mod entries;
@@ -18,6 +19,8 @@ mod root;
 mod spares;
 mod summary;
 mod tree;
+mod visible;
 
 pub use ew_model::NoMem;
 pub use tree::OrderTree;
+pub use visible::Visible;

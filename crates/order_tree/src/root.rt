@@ -2,7 +2,7 @@
 
 ghost use Rattle.std.specs.Prelude.{◌≡◌, ℕ, ◌+◌, ◌*◌, ◌^◌, ◌<◌, ◌≤◌, true, None, is_some, ◌++◌, length, vec_capacity, IfOk, OnErr};
 ghost use Rattle.order_tree.specs.Pairs.{IsRising, SumsFit, HasRoom};
-ghost use Rattle.order_tree.specs.Edits.{IsPlaced, HasLabel, StaysFit, IsChange};
+ghost use Rattle.order_tree.specs.Edits.{IsPlaced, StaysFit};
 ghost use Rattle.order_tree.specs.Relabels.{relabelled, renamed, reached};
 ghost use Rattle.order_tree.specs.Rights.{pairs_of_right, IsLike, IsLeft};
 ghost use Rattle.order_tree.specs.Whole.{tree_of, IsTreeEdit};
@@ -27,12 +27,12 @@ pub fn edit_root<R: Run + Drop, L: Ledger>(
     requires some { is_some root.old ≡ true }
     requires rising { IsRising (tree_of root.old).pairs }
     requires placed { IsPlaced R.Run edit label (tree_of root.old).pairs }
-    requires label { HasLabel edit (2 ^ 64) label (tree_of root.old).pairs }
+    requires label { HasRoom (tree_of root.old).pairs label }
     requires fits { StaysFit R.Run edit label (tree_of root.old).pairs }
     requires deep { (tree_of root.old).depth + 1 < 2 ^ 32 }
     requires spares { spares.old ≡ 0 }
     ensures edited { IfOk result (λ own. IsTreeEdit R.Run edit label (tree_of root.old) (tree_of root.new) own) }
-    ensures err { OnErr result ((tree_of root.new ≡ tree_of root.old) × (IsChange edit → ⊥)) }
+    ensures err { OnErr result (tree_of root.new ≡ tree_of root.old) }
     ensures onward { visits.old ≤ visits.new }
     ensures cost { visits.new ≤ visits.old + (tree_of root.old).depth }
 {
@@ -61,7 +61,6 @@ fn raise<R: Run + Drop>(
     requires deep { (tree_of root.old).depth + 1 < 2 ^ 32 }
     ensures pairs { (tree_of root.new).pairs ≡ (tree_of root.old).pairs ++ pairs_of_right right }
     ensures enough { 2 ^ (tree_of root.new).depth ≤ 2 * length (tree_of root.new).pairs }
-    ensures whole { right ≡ None → tree_of root.new ≡ tree_of root.old }
 {
     let Some(right) = right else { return };
     let Some(left) = root.take() else {

@@ -10,6 +10,7 @@ use crate::label::Recent;
 use crate::part::Part;
 use crate::root::{edit_root, insert_run, relabel_root};
 use crate::spares::Spares;
+use crate::visible::Visible;
 use ew_model::NoMem;
 use ew_model::run::Run;
 use ew_model::steps::Steps;
@@ -102,6 +103,22 @@ impl<R: Run> OrderTree<R> {
             unreachable!()
         };
         root.find(Count::Prepared, i, visits)
+    }
+
+    /// The i-th character, from 0, that is visible in what is prepared: its run, its place in it, and how many characters of the
+    /// text are in runs with lower labels.
+    pub fn find_visible<L: Ledger>(&self, i: u32, visits: &mut Steps<L>) -> Visible<'_, R>
+        requires { i < total R.prepared self.now.pairs }
+        ensures place { IsPlace R.prepared self.now.pairs i result.label result.place }
+        ensures run { Contains self.now.pairs (result.label, result.run.now) }
+        ensures before { result.before ≡ total R.effect (lower self.now.pairs result.label) }
+        ensures onward { visits.old ≤ visits.new }
+        ensures cost { visits.new ≤ visits.old + self.now.depth }
+    {
+        let Some(root) = &self.root else {
+            unreachable!()
+        };
+        root.visible(i, visits)
     }
 
     /// The label of the run with the i-th character of the text, from 0, and the character's place in it.
@@ -211,11 +228,10 @@ impl<R: Run + Drop> OrderTree<R> {
         ensures onward { visits.old ≤ visits.new }
         ensures cost { visits.new ≤ visits.old + self.old.depth }
     {
-        let mut spares = Spares::new(self.alloc, self.recent);
-        let edit = Edit::Change(run);
-        let Ok(_) = edit_root(&mut self.root, label, edit, &mut spares, visits) else {
+        let Some(root) = &mut self.root else {
             unreachable!()
         };
+        let _ = root.change(label, run, visits);
     }
 }
 

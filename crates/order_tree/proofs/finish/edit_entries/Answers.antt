@@ -1,6 +1,6 @@
 use Rattle.std.proofs.Common.{◌+◌, refl}
 use Rattle.order_tree.proofs.InnerEdits.{edited_fits}
-use Rattle.order_tree.proofs.BranchEdits.{halved_enough, halved_left, none_right}
+use Rattle.order_tree.proofs.BranchEdits.{halved_enough, halved_left}
 use Rattle.order_tree.proofs.finish.edit_entries.Goals as goal
 
 pub leaf_halves-right-requires-clause-fit : goal.leaf_halves-right-requires-clause-fit
@@ -17,5 +17,4 @@ returns-clause-edited g c =
       enough = halved_enough c.args.way.above _ _ c.in_ok-done.done.tail halved;
       like = c.leaf_halves-right.ensures.like;
       left = halved_left c.args.way.above _ _ c.in_ok-done.done.tail _ halves halved;
-      whole = λ same. none_right c.in_ok-done.done.tail _ halves (c.in_ok-done.ensures.change same);
     }

@@ -1,10 +1,10 @@
 use Rattle.std.proofs.Common.{◌≡◌, ℕ, ◌+◌, ◌<◌, List, length, slice_index_or, arith, refl, sym, ap, ◌∙◌, subst}
 use Rattle.std.proofs.lemmas.List.{length-set}
 use Rattle.order_tree.specs.declared.summary.Summary.{Summary}
-use Rattle.order_tree.specs.Pairs.{Tree, IsRising}
+use Rattle.order_tree.specs.Pairs.{Tree, IsRising, HasRoomBelow}
 use Rattle.order_tree.specs.Parts.{summary_of, all_pairs}
 use Rattle.order_tree.specs.Shape.{pairs_in, AllBelow}
-use Rattle.order_tree.specs.Edits.{IsPlaced, HasLabel, StaysFit}
+use Rattle.order_tree.specs.Edits.{IsPlaced, StaysFit}
 use Rattle.order_tree.specs.Rights.{IsLeft}
 use Rattle.order_tree.proofs.KidLaws.{kid_lower, bound_inner}
 use Rattle.order_tree.proofs.KidPlaces.{part_rises}
@@ -58,7 +58,7 @@ edit_entries-requires-clause-label g t c =
     let shape = rw c.in-Leaf.is at c.self.invariant.shape in
     let kept = rw c.in-Leaf.is at c.self.invariant.kept in
     let deep : c.args.self.now.depth ≡ 1 = sym (ap (λ (s : Tree _). s.depth) c.self.view_is) ∙ shape.0 in
-    subst (λ (ps : List (ℕ × _)). HasLabel c.args.edit (c.args.way.most + 1) c.args.way.label ps) here c.requires.label
+    subst (λ (ps : List (ℕ × _)). HasRoomBelow (c.args.way.most + 1) ps c.args.way.label) here c.requires.label
 
 pub edit_entries-requires-clause-fits : goal.edit_entries-requires-clause-fits
 edit_entries-requires-clause-fits g t c =
@@ -87,7 +87,7 @@ invariant_of-self g t c =
     let kept = rw c.in-Leaf.is at c.self.invariant.kept in
     let deep : c.args.self.now.depth ≡ 1 = sym (ap (λ (s : Tree _). s.depth) c.self.view_is) ∙ shape.0 in
     let err = c.in_err-summary-in-Leaf.ensures.err in
-    record { shape = (shape.0, c.in_err-summary-in-Leaf.ensures.some, c.in_err-summary-in-Leaf.ensures.few, c.in_err-summary-in-Leaf.ensures.room); kept = kept ∙ ap (λ (ps : List (ℕ × _)). summary_of g.R.Run ps) (sym err.0) }
+    record { shape = (shape.0, c.in_err-summary-in-Leaf.ensures.some, c.in_err-summary-in-Leaf.ensures.few, c.in_err-summary-in-Leaf.ensures.room); kept = kept ∙ ap (λ (ps : List (ℕ × _)). summary_of g.R.Run ps) (sym err) }
 
 pub returns-in_err-summary-in-Leaf-clause-edited : goal.returns-in_err-summary-in-Leaf-clause-edited
 returns-in_err-summary-in-Leaf-clause-edited g t c =
@@ -100,7 +100,7 @@ returns-in_err-summary-in-Leaf-clause-err g t c =
     let kept = rw c.in-Leaf.is at c.self.invariant.kept in
     let deep : c.args.self.now.depth ≡ 1 = sym (ap (λ (s : Tree _). s.depth) c.self.view_is) ∙ shape.0 in
     let err = c.in_err-summary-in-Leaf.ensures.err in
-    on_err c.from_residual.result _ c.from_residual.ensures.0 (same_tree _ c.args.self.now (err.0 ∙ sym here) (ap (λ (s : Tree _). s.depth) c.self.view_is), err.1)
+    on_err c.from_residual.result _ c.from_residual.ensures.0 (same_tree _ c.args.self.now (err ∙ sym here) (ap (λ (s : Tree _). s.depth) c.self.view_is))
 
 pub returns-in_err-summary-in-Leaf-clause-cost : goal.returns-in_err-summary-in-Leaf-clause-cost
 returns-in_err-summary-in-Leaf-clause-cost g t c =
@@ -184,7 +184,7 @@ edit-requires g t c κs within =
             (
               rw label (placed_down g.R.Run kids k c.args.way.label (c.args.way.most + 1) (c.way_down-k.result.1.most + 1) kid lt is rising below above free c.args.edit (subst (λ (ps : List (ℕ × _)). IsPlaced g.R.Run c.args.edit c.args.way.label ps) here c.requires.placed)),
               (
-                rw label (label_down g.R.Run kids k c.args.way.label (c.args.way.most + 1) (c.way_down-k.result.1.most + 1) kid lt is rising below above free c.args.edit (subst (λ (ps : List (ℕ × _)). HasLabel c.args.edit (c.args.way.most + 1) c.args.way.label ps) here c.requires.label)),
+                rw label (label_down g.R.Run kids k c.args.way.label (c.args.way.most + 1) (c.way_down-k.result.1.most + 1) kid lt is rising below above free (subst (λ (ps : List (ℕ × _)). HasRoomBelow (c.args.way.most + 1) ps c.args.way.label) here c.requires.label)),
                 (
                   rw label (fits_down g.R.Run kids k c.args.way.label (c.args.way.most + 1) (c.way_down-k.result.1.most + 1) kid lt is rising below above free c.args.edit (subst (λ (ps : List (ℕ × _)). StaysFit g.R.Run c.args.edit c.args.way.label ps) here c.requires.fits)),
                   (c.requires.spares, above_fits),
@@ -214,7 +214,7 @@ invariant_of-self-in_err-done-in-Inner g t c =
     let kid = c.index_mut.result.now in
     let is : kid ≡ slice_index_or kids k kid = c.index_mut.ensures.value in
     let lower = kid_lower c.self.inside.depth kids k kid shape.0 lt is in
-    let same = set_same kids k c.edit.new.self kid is c.in_err-done-in-Inner.ensures.err.0 in
+    let same = set_same kids k c.edit.new.self kid is c.in_err-done-in-Inner.ensures.err in
     let len = length-set c.in-Inner.kids.items c.way_down-k.result.0 c.edit.new.self in
     record {
       shape = (subst (λ (ks : List (Tree _)). AllBelow c.self.inside.depth ks) (sym same) shape.0, omega (arith, len, shape.1), omega (arith, len, shape.2), shape.3);
@@ -243,9 +243,8 @@ returns-in_err-done-in-Inner-clause-err g t c =
     let kid = c.index_mut.result.now in
     let is : kid ≡ slice_index_or kids k kid = c.index_mut.ensures.value in
     let lower = kid_lower c.self.inside.depth kids k kid shape.0 lt is in
-    let err = c.in_err-done-in-Inner.ensures.err in
-    let same = set_same kids k c.edit.new.self kid is err.0 in
-    on_err c.from_residual-in_err-done-in-Inner.result _ c.from_residual-in_err-done-in-Inner.ensures.0 (same_tree _ c.args.self.now (ap (λ (ks : List (Tree _)). all_pairs (λ k. k.pairs) ks) same ∙ sym here) (ap (λ (s : Tree _). s.depth) c.self.view_is), err.1)
+    let same = set_same kids k c.edit.new.self kid is c.in_err-done-in-Inner.ensures.err in
+    on_err c.from_residual-in_err-done-in-Inner.result _ c.from_residual-in_err-done-in-Inner.ensures.0 (same_tree _ c.args.self.now (ap (λ (ks : List (Tree _)). all_pairs (λ k. k.pairs) ks) same ∙ sym here) (ap (λ (s : Tree _). s.depth) c.self.view_is))
 
 pub returns-in_err-done-in-Inner-clause-cost : goal.returns-in_err-done-in-Inner-clause-cost
 returns-in_err-done-in-Inner-clause-cost g t c =
@@ -477,7 +476,6 @@ returns-in_ok-summary-in-Leaf-clause-edited g t c =
       enough = rw shape.0 done.enough;
       like = rw deep done.like;
       left = done.left;
-      whole = done.whole;
     }
 
 pub returns-in_ok-summary-in-Leaf-clause-cost : goal.returns-in_ok-summary-in-Leaf-clause-cost
@@ -516,7 +514,6 @@ returns-in_ok-done-in-Inner-clause-edited g t c =
       enough = bound_inner c.self.inside.depth c.finish-done.new.kids.items f.below f.some;
       like = rw deep f.like;
       left = f.spares;
-      whole = λ change. f.whole (done.whole change);
     }
 
 pub returns-in_ok-done-in-Inner-clause-cost : goal.returns-in_ok-done-in-Inner-clause-cost
