@@ -2,9 +2,10 @@ pub mod ChainLaws
 pub mod CmpLaws
 pub mod DescentLaws
 pub mod EndLaws
+pub mod FoundLaws
+pub mod HeirLaws
 pub mod IndexLaws
 pub mod KeptLaws
-pub mod KnownLaws
 pub mod LeaderLaws
 pub mod LineLaws
 pub mod ListLaws

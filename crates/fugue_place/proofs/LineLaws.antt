@@ -24,11 +24,11 @@ is_less Equal e = absurd (false≢true e)
 is_less Greater e = absurd (false≢true e)
 
 -- further out is an order
-further_on : (end : Side) (x y z : Id) → is_further end x y ≡ true → is_further end y z ≡ true → is_further end x z ≡ true
+pub further_on : (end : Side) (x y z : Id) → is_further end x y ≡ true → is_further end y z ≡ true → is_further end x z ≡ true
 further_on Left x y z e f = ap is_lt (id_total.trans x y z (is_less (id_cmp x y) e) (is_less (id_cmp y z) f))
 further_on Right x y z e f = ap is_lt (id_total.trans z y x (is_less (id_cmp z y) f) (is_less (id_cmp y x) e))
 
-not_further_itself : (end : Side) (x : Id) → is_further end x x ≡ false
+pub not_further_itself : (end : Side) (x : Id) → is_further end x x ≡ false
 not_further_itself Left x = false_from_ne_true (is_further Left x x) (λ e. not_itself id_total x (is_less (id_cmp x x) e))
 not_further_itself Right x = false_from_ne_true (is_further Right x x) (λ e. not_itself id_total x (is_less (id_cmp x x) e))
 

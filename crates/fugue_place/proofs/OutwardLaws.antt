@@ -1,24 +1,23 @@
 -- Chains lead outward still once one more child is attached.
-use Rattle.std.proofs.Common.{◌≡◌, ℕ, ◌+◌, ◌<◌, Bool, true, false, ⊎_elim, List, [], ◌∷◌, ◌++◌, length, take, get_or, slice_get, Option, Some, None, refl, sym, ap, ◌∙◌, subst, length-append, arith}
+use Rattle.std.proofs.Common.{◌≡◌, ℕ, ◌+◌, ◌-◌, ◌<◌, Bool, true, false, ⊎_elim, List, [], ◌∷◌, ◌++◌, length, take, get_or, slice_get, Option, Some, None, refl, sym, ap, ◌∙◌, subst, length-append, arith}
 use Rattle.std.specs.List.{list_any}
+use Rattle.std.specs.Option.{option_map_or}
 use Rattle.std.proofs.lemmas.Bool.{false_from_ne_true, cases_eq}
 use Rattle.std.proofs.lemmas.List.{take-append-le}
 use Rattle.std.proofs.lemmas.Option.{none-some, same_Some, slice_get_within}
-use Rattle.std.proofs.Math.Seq.{take-length, get_or-append_seam}
-use Rattle.ew_model.specs.declared.node.Node.{Node}
+use Rattle.std.proofs.Math.Seq.{get_or-append_seam}
 use Rattle.ew_model.specs.Sets.{Among}
-use Rattle.ew_model.proofs.VersionLaws.{found_by}
 use Rattle.fugue_place.specs.declared.child.Side.{Side}
 use Rattle.fugue_place.specs.declared.child.Attached.{Attached}
 use Rattle.fugue_place.specs.declared.line.Line.{Line}
-use Rattle.fugue_place.specs.Attachments.{AreAttached}
+use Rattle.fugue_place.specs.Attachments.{node_eq, AreAttached}
 use Rattle.fugue_place.specs.Chains.{IsLedBy}
 use Rattle.fugue_place.specs.Lines.{is_in_line, line_of, is_further, IsOutermost, IsBest, AreOutermost, IsNewOutermost, IsNoOutermost}
-use Rattle.fugue_place.specs.Spots.{node_of, IsIndex}
-use Rattle.fugue_place.proofs.ListLaws.{place_of, place_more, place_new, place_cases}
+use Rattle.fugue_place.proofs.ListLaws.{place_more, place_new, place_cases}
 use Rattle.fugue_place.proofs.LineLaws.{best_skips, best_stays, best_begins, best_moves}
 use Rattle.fugue_place.proofs.EndLaws.{from_line, in_line}
-use Rattle.fugue_place.proofs.PlaceLaws.{parent_early}
+use Rattle.fugue_place.proofs.NodeLaws.{node_itself}
+use Rattle.fugue_place.proofs.PlaceLaws.{one_node, newest_childless}
 
 module _ (children : List Attached) (a : Attached) where
   abbrev more : List Attached
@@ -49,15 +48,11 @@ module _ (children : List Attached) (a : Attached) where
 
   -- the newest child has no children
   childless : AreAttached [] more → (end : Side) → list_any (is_in_line (line_of a.node end)) (take (length more) more) ≡ false
-  childless all end = false_from_ne_true (list_any (is_in_line (line_of a.node end)) (take (length more) more)) (λ e.
-      let found = found_by (is_in_line (line_of a.node end)) (take (length more) more) e in
-      let place = place_of more found.0 (subst (Among found.0) (take-length more) found.1) in
-      let later : length children < place.0 = parent_early more all (length children) place.0 a found.0 (place_new children a (length children) refl) place.1 (from_line (line_of a.node end) found.0 found.2).parent in
-      let inside : place.0 < length more = slice_get_within more place.0 found.0 place.1 in
-      let e = count in
-      absurd (omega arith))
+  childless all end =
+      let last : slice_get more (length more - 1) ≡ Some a = place_new children a (length more - 1) (let e = count in omega arith) in
+      newest_childless more all (line_of a.node end) (ap (λ (o : Option Attached). option_map_or (λ (c : Attached). node_eq c.node a.node) o false) last ∙ node_itself a.node)
 
-  module _ (all : AreAttached [] more) (end : Side) (find : Node → Option ℕ) (index : IsIndex node_of children find) (outer led : ℕ → Option ℕ) (outermost : AreOutermost end children outer)
+  module _ (all : AreAttached [] more) (end : Side) (outer led : ℕ → Option ℕ) (outermost : AreOutermost end children outer)
       (behind : Option ℕ) (added : IsLedBy (length children) outer behind led)
       (new : (k : ℕ) → behind ≡ Some k → IsNewOutermost end children outer a k) (none : behind ≡ None → IsNoOutermost end children outer a) where
     module _ (k : ℕ) (p : Attached) (here : slice_get children k ≡ Some p) where
@@ -86,13 +81,13 @@ module _ (children : List Attached) (a : Attached) where
       moves : (found : IsNewOutermost end children outer a k) (best : Option ℕ) → outer k ≡ best → IsBestNow (Some (length children))
       moves found None e =
           let same : found.parent ≡ p = same_Some found.parent p (sym found.here ∙ here) in
-          best_begins line end more (length children) a within newest (before None e) (fits (found.is ∙ ap node_of same) found.side)
+          best_begins line end more (length children) a within newest (before None e) (fits (found.is ∙ ap (λ (c : Attached). c.node) same) found.side)
       moves found (Some j) e =
           let same : found.parent ≡ p = same_Some found.parent p (sym found.here ∙ here) in
           let old : IsOutermost line end children (length children) j = subst (IsBest line end children (length children)) e (outermost k p here) in
           let best : IsOutermost line end more (length children) j = before (Some j) e in
           let one : best.child ≡ old.child = same_Some best.child old.child (sym best.here ∙ place_more children a j old.child old.here) in
-          best_moves line end more (length children) a within newest j best (fits (found.is ∙ ap node_of same) found.side)
+          best_moves line end more (length children) a within newest j best (fits (found.is ∙ ap (λ (c : Attached). c.node) same) found.side)
           (ap (λ (x : Attached). is_further end a.id x.id) one ∙ found.further j old.child e old.here)
 
       -- where the new child goes behind another, it isn't in this line
@@ -100,7 +95,7 @@ module _ (children : List Attached) (a : Attached) where
       apart m e other = false_from_ne_true (is_in_line line a) (λ t.
           let found = new m e in
           let same : found.parent.node ≡ p.node = sym found.is ∙ (from_line line a t).parent in
-          other (same_Some m k (sym (index.tells m found.parent found.here) ∙ ap find same ∙ index.tells k p here)))
+          other (one_node more all m k found.parent p (place_more children a m found.parent found.here) (place_more children a k p here) same))
 
       kept : behind ≡ None → IsBestNow (outer k)
       kept e = at (is_in_line line a) refl

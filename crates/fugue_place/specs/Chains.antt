@@ -1,5 +1,5 @@
 -- Chains of places, in which each is followed by a later one or by none.
-use Rattle.std.specs.Prelude.{◌≡◌, ℕ, zero, suc, ◌+◌, ◌<◌, ◌⊎◌, List, length, get_or, Option, Some, None}
+use Rattle.std.specs.Prelude.{◌≡◌, ℕ, zero, suc, ◌+◌, ◌^◌, ◌<◌, ◌⊎◌, List, length, get_or, Option, Some, None}
 use Rattle.std.specs.Vec.{vec_len, vec_capacity}
 use Rattle.fugue_place.specs.declared.chains.Chains.{Chains}
 use Rattle.fugue_place.specs.declared.child.Side.{Side}
@@ -62,8 +62,9 @@ pub record IsSame (c d : Chains) : Type 0 where
   pub numbers : d.numbers.items ≡ c.numbers.items
   pub ends : d.ends.items ≡ c.ends.items
 
--- one more fits into each table
+-- one more fits into each table, and has a number
 pub record HasRoom (c : Chains) : Type 0 where
+  pub few : vec_len c.outer + 1 < 2 ^ 32
   pub outer : vec_len c.outer < vec_capacity c.outer
   pub inner : vec_len c.inner < vec_capacity c.inner
   pub numbers : vec_len c.numbers < vec_capacity c.numbers

@@ -1,18 +1,19 @@
 -- What is kept of attached children.
 use Rattle.std.specs.Prelude.{ℕ, List, [], Option}
-use Rattle.ew_model.specs.declared.node.Node.{Node}
 use Rattle.fugue_place.specs.declared.chains.Chains.{Chains}
 use Rattle.fugue_place.specs.declared.child.Side.TheVariants.{Left, Right}
 use Rattle.fugue_place.specs.declared.child.Attached.{Attached}
+use Rattle.fugue_place.specs.declared.places.Places.{Places}
 use Rattle.fugue_place.specs.declared.spot.Spot.{Spot}
 use Rattle.fugue_place.specs.Attachments.{AreAttached}
 use Rattle.fugue_place.specs.Chains.{LeadOutward}
-use Rattle.fugue_place.specs.Spots.{spot_of, node_of, IsIndex}
+use Rattle.fugue_place.specs.Places.{ArePlaces}
+use Rattle.fugue_place.specs.Spots.{IsIndex}
 
 -- Each was rightly attached, is found by its spot and by its node, and the chains on each side lead outward.
-pub record AreSiblings (children : List Attached) (spot : Spot → Option ℕ) (place : Node → Option ℕ) (firsts lasts : Chains) : Type 0 where
+pub record AreSiblings (children : List Attached) (spot : Spot → Option ℕ) (kept : Places) (firsts lasts : Chains) : Type 0 where
   pub attached : AreAttached [] children
-  pub spots : IsIndex spot_of children spot
-  pub places : IsIndex node_of children place
+  pub spots : IsIndex children spot
+  pub places : ArePlaces children kept
   pub left : LeadOutward Left children firsts
   pub right : LeadOutward Right children lasts

@@ -1,7 +1,9 @@
 pub mod Attachments
 pub mod Chains
+pub mod Heirs
 pub mod Kept
 pub mod Lines
 pub mod Neighbours
+pub mod Places
 pub mod Spots
 pub mod Subtrees

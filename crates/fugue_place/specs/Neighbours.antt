@@ -37,13 +37,6 @@ has_child attached parent side = list_any (is_child parent side) attached
 abbrev pub has_lower : List Attached → Node → Side → Id → Bool
 has_lower attached parent side x = list_any (λ (a : Attached). is_child parent side a && id_lt a.id x) attached
 
--- what is said of nodes holds of one of the right children attached to the node, and of all of them
-abbrev pub SomeRightChild : (Node → Type 0) → List Attached → Node → Type 0
-SomeRightChild P attached v = (a : Attached) × Among a attached × (is_child v Right a ≡ true) × P a.node
-
-abbrev pub EveryRightChild : (Node → Type 0) → List Attached → Node → Type 0
-EveryRightChild P attached v = (a : Attached) → Among a attached → is_child v Right a ≡ true → P a.node
-
 -- The first node is a base character: with a greater number than the second, where that is one too; with any, where it is
 -- the root.
 abbrev pub is_beyond : Node → Node → Bool

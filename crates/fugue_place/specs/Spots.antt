@@ -1,5 +1,5 @@
 -- The order in which children are found, and what is found there.
-use Rattle.std.specs.Prelude.{◌≡◌, ℕ, false, List, slice_get, Option, Some, None, IsSome}
+use Rattle.std.specs.Prelude.{◌≡◌, ℕ, false, List, take, slice_get, Option, Some, None, IsSome}
 use Rattle.std.specs.BTreeMap.Range.{IsLeBy, IsLtBy}
 use Rattle.std.specs.declared.cmp.Ordering.{Ordering}
 use Rattle.std.specs.declared.cmp.Ordering.TheVariants.{Less, Equal, Greater}
@@ -15,6 +15,7 @@ use Rattle.fugue_place.specs.declared.line.Line.{Line}
 use Rattle.fugue_place.specs.declared.spot.Rank.{Rank}
 use Rattle.fugue_place.specs.declared.spot.Rank.TheVariants.{First, Of, Last}
 use Rattle.fugue_place.specs.declared.spot.Spot.{Spot}
+use Rattle.fugue_place.specs.Heirs.{is_heir}
 
 -- the root, base characters by their numbers, events by their positions
 abbrev pub node_cmp : Node → Node → Ordering
@@ -54,10 +55,6 @@ spot_cmp a b = ordering_then (node_cmp a.parent b.parent) (ordering_then (side_c
 abbrev pub spot_of : Attached → Spot
 spot_of a = record { parent = a.parent; side = a.side; rank = Of a.id }
 
--- the node of a child
-abbrev pub node_of : Attached → Node
-node_of a = a.node
-
 -- the spot ahead of all children in a line
 abbrev pub ahead_of : Line → Spot
 ahead_of line = record { parent = line.parent; side = line.side; rank = First }
@@ -71,10 +68,10 @@ rank_behind (Some limit) = Of limit
 abbrev pub behind : Line → Spot
 behind line = record { parent = line.parent; side = line.side; rank = rank_behind line.below }
 
--- What is kept under a child's key is its place in the list, and nothing else is kept.
-pub record IsIndex {K : Type 0} (key_of : Attached → K) (children : List Attached) (find : K → Option ℕ) : Type 0 where
-  pub tells : (k : ℕ) (a : Attached) → slice_get children k ≡ Some a → find (key_of a) ≡ Some k
-  pub told : (key : K) (k : ℕ) → find key ≡ Some k → (a : Attached) × (slice_get children k ≡ Some a) × (key_of a ≡ key)
+-- What is kept under the spot of a child that is no heir is its place in the list, and only places of children are kept.
+pub record IsIndex (children : List Attached) (find : Spot → Option ℕ) : Type 0 where
+  pub tells : (k : ℕ) (a : Attached) → slice_get children k ≡ Some a → is_heir (take k children) a ≡ false → find (spot_of a) ≡ Some k
+  pub told : (spot : Spot) (k : ℕ) → find spot ≡ Some k → (a : Attached) × (slice_get children k ≡ Some a) × (spot_of a ≡ spot)
 
 -- the spot lies from the first up to the second
 pub record IsBetween (from to at : Spot) : Type 0 where

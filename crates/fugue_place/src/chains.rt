@@ -1,23 +1,26 @@
 //! Where the subtrees of children end on one side.
 
-ghost use Rattle.std.specs.Prelude.{◌≡◌, ℕ, ◌<◌, ◌+◌, [], length, set, Some, IfSome, IfNone, OnOk};
+ghost use Rattle.std.specs.Prelude.{◌≡◌, ℕ, ◌<◌, ◌+◌, ◌^◌, [], length, set, Some, IfSome, IfNone, OnOk};
 ghost use Rattle.fugue_place.specs.Chains.{follower, number_at, IsChains, IsEndOf, IsLedBy, IsSame, HasRoom, IsLone, KeepsLinks, IsOuterRenumbered, IsInnerRenumbered};
 
 use ew_model::NoMem;
 use std::alloc::Global;
+
+/// So many children are kept at most.
+const MOST: u32 = u32::MAX;
 
 /// Children in chains that lead outward on one side: each is followed by its outermost child there, if it has one, and so the
 /// subtree of each ends at the end of its chain. They are told by their places in the list of all children.
 #[derive(Drop)]
 pub struct Chains {
     /// What follows each.
-    pub outer: Vec<Option<usize>>,
+    pub outer: Vec<Option<u32>>,
     /// What each followed when it was added.
-    pub inner: Vec<Option<usize>>,
+    pub inner: Vec<Option<u32>>,
     /// The number of each one's chain.
-    pub numbers: Vec<usize>,
+    pub numbers: Vec<u32>,
     /// The end of the chain with each number.
-    pub ends: Vec<usize>,
+    pub ends: Vec<u32>,
 }
 
 impl Chains {
@@ -34,11 +37,14 @@ impl Chains {
         }
     }
 
-    /// Makes room for one more.
+    /// Makes room for one more, while each has a number.
     pub fn reserve(&mut self) -> Result<(), NoMem>
         ensures same { IsSame self.old self.new }
         ensures room { OnOk result (HasRoom self.new) }
     {
+        if self.outer.len() >= MOST as usize {
+            return Err(NoMem);
+        }
         self.outer.reserve(1)?;
         self.inner.reserve(1)?;
         self.numbers.reserve(1)?;
@@ -46,7 +52,7 @@ impl Chains {
     }
 
     /// What follows this one.
-    pub fn follower(&self, at: usize) -> Option<usize>
+    pub fn follower(&self, at: usize) -> Option<u32>
         requires { at < length self.now.outer.items }
         ensures { result ≡ follower self.now.outer.items at }
     {
@@ -60,7 +66,7 @@ impl Chains {
         ensures end { IsEndOf (follower self.now.outer.items) at result }
         ensures within { result < length self.now.outer.items }
     {
-        self.ends[self.numbers[at]]
+        self.ends[self.numbers[at] as usize] as usize
     }
 
     /// Adds the next one: behind another, in the place of what followed that one, or alone.
@@ -72,12 +78,13 @@ impl Chains {
         ensures count { length self.new.outer.items ≡ length self.old.outer.items + 1 }
         ensures led { IsLedBy (length self.old.outer.items) (follower self.old.outer.items) behind (follower self.new.outer.items) }
     {
-        let new = self.outer.len();
+        let new = self.outer.len() as u32;
+        let leader = narrow(behind);
         self.outer.push_reserved(None);
-        self.inner.push_reserved(behind);
+        self.inner.push_reserved(leader);
         self.numbers.push_reserved(new);
         self.ends.push_reserved(new);
-        if let Some(at) = behind {
+        if let Some(at) = leader {
             self.lead(at, new);
         }
     }
@@ -86,7 +93,7 @@ impl Chains {
 impl Chains {
     /// Has the newest one, which is alone in the chain of its own number, follow another in the place of what followed that
     /// one. Of the two parts of the chain there, the shorter one gets a new number.
-    fn lead(&mut self, at: usize, new: usize)
+    fn lead(&mut self, at: u32, new: u32)
         requires { IsLone self.old at new }
         ensures chains { IsChains self.new }
         ensures outer { self.new.outer.items ≡ set self.old.outer.items at (Some new) }
@@ -99,36 +106,36 @@ impl Chains {
     }
 
     /// Gives the number of the newest one to all that follow the other.
-    fn move_outer_part(&mut self, at: usize, new: usize)
+    fn move_outer_part(&mut self, at: u32, new: u32)
         requires { IsLone self.old at new }
         ensures chains { IsChains self.new }
         ensures outer { self.new.outer.items ≡ set self.old.outer.items at (Some new) }
     {
         self.renumber_outer_part(at, new);
-        let number = self.numbers[at];
-        self.numbers[new] = number;
-        self.ends[new] = self.ends[number];
-        self.ends[number] = new;
-        self.outer[at] = Some(new);
+        let number = self.numbers[at as usize];
+        self.numbers[new as usize] = number;
+        self.ends[new as usize] = self.ends[number as usize];
+        self.ends[number as usize] = new;
+        self.outer[at as usize] = Some(new);
     }
 
     /// Gives the number of the newest one to the other and all that it follows.
-    fn move_inner_part(&mut self, at: usize, new: usize)
+    fn move_inner_part(&mut self, at: u32, new: u32)
         requires { IsLone self.old at new }
         ensures chains { IsChains self.new }
         ensures outer { self.new.outer.items ≡ set self.old.outer.items at (Some new) }
     {
         self.renumber_inner_part(at, new);
-        self.outer[at] = Some(new);
+        self.outer[at as usize] = Some(new);
     }
 
     /// Whether fewer follow this one than it follows and itself: it decides only what a change costs.
-    fn is_outer_part_shorter(&self, at: usize) -> bool
+    fn is_outer_part_shorter(&self, at: u32) -> bool
         requires { (new : ℕ) × IsLone self.now at new }
     {
         let mut outer = at;
         let mut inner = at;
-        while let Some(k) = self.outer[outer] {
+        while let Some(k) = self.outer[outer as usize] {
             let Some(j) = self.leader(inner) else {
                 return false;
             };
@@ -139,43 +146,54 @@ impl Chains {
     }
 
     /// Gives all that follow this one the number.
-    fn renumber_outer_part(&mut self, at: usize, new: usize)
+    fn renumber_outer_part(&mut self, at: u32, new: u32)
         requires { IsLone self.old at new }
         ensures same { KeepsLinks self.old self.new }
         ensures numbers { IsOuterRenumbered new (follower self.old.outer.items) (number_at self.old.numbers.items) (number_at self.new.numbers.items) at }
     {
         let mut last = at;
-        while let Some(k) = self.outer[last] {
-            self.numbers[k] = new;
+        while let Some(k) = self.outer[last as usize] {
+            self.numbers[k as usize] = new;
             last = k;
         }
     }
 
     /// Gives this one and all that it follows the number.
-    fn renumber_inner_part(&mut self, at: usize, new: usize)
+    fn renumber_inner_part(&mut self, at: u32, new: u32)
         requires { IsLone self.old at new }
         ensures same { KeepsLinks self.old self.new }
         ensures numbers { IsInnerRenumbered new (follower self.old.outer.items) (number_at self.old.numbers.items) (number_at self.new.numbers.items) at }
     {
         let mut first = at;
-        self.numbers[first] = new;
+        self.numbers[first as usize] = new;
         while let Some(k) = self.leader(first) {
-            self.numbers[k] = new;
+            self.numbers[k as usize] = new;
             first = k;
         }
     }
 
     /// What this one follows.
-    fn leader(&self, at: usize) -> Option<usize>
+    fn leader(&self, at: u32) -> Option<u32>
         requires at { at < length self.now.inner.items }
         requires early { IfSome (follower self.now.inner.items at) (λ k. k < length self.now.outer.items) }
         ensures some { IfSome result (λ k. (follower self.now.inner.items at ≡ Some k) × (follower self.now.outer.items k ≡ Some at)) }
         ensures none { IfNone result ((k : ℕ) → follower self.now.inner.items at ≡ Some k → follower self.now.outer.items k ≡ Some at → ⊥) }
     {
-        let k = self.inner[at]?;
-        match self.outer[k] {
+        let k = self.inner[at as usize]?;
+        match self.outer[k as usize] {
             Some(j) if j == at => Some(k),
             _ => None,
         }
+    }
+}
+
+/// The place, in fewer bits.
+fn narrow(place: Option<usize>) -> Option<u32>
+    requires { IfSome place (λ k. k < 2 ^ 32) }
+    ensures { result ≡ place }
+{
+    match place {
+        Some(k) => Some(k as u32),
+        None => None,
     }
 }

@@ -7,6 +7,7 @@ mod child;
 mod leaders;
 mod line;
 mod neighbour;
+mod places;
 mod search;
 mod spot;
 mod table;

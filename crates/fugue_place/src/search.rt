@@ -6,13 +6,15 @@ ghost use Rattle.fugue_place.specs.declared.child.Side.TheVariants.{Left, Right}
 ghost use Rattle.fugue_place.specs.Attachments.{side_of, is_attached, is_there, has_id, path_of, AreAttached};
 ghost use Rattle.fugue_place.specs.Chains.{LeadOutward};
 ghost use Rattle.fugue_place.specs.Neighbours.{IsPlaceOfNew, beside};
-ghost use Rattle.fugue_place.specs.Spots.{spot_cmp, spot_of, IsIndex};
+ghost use Rattle.fugue_place.specs.Places.{ArePlaces};
+ghost use Rattle.fugue_place.specs.Spots.{spot_cmp, IsIndex};
 ghost use Rattle.fugue_place.specs.Subtrees.{node_at, HasBase, tree_nodes, EndsBelow};
 
 use crate::chains::Chains;
-use crate::child::{Attached, Side};
+use crate::child::{Attached, Side, is_newest};
 use crate::line::{Line, outermost_child};
 use crate::neighbour::Place;
+use crate::places::Places;
 use crate::spot::Spot;
 use ew_model::id::Id;
 use ew_model::node::Node;
@@ -22,6 +24,7 @@ use std::collections::BTreeMap;
 pub fn place_of_new(
     children: &[Attached],
     spots: &BTreeMap<Spot, usize>,
+    places: &Places,
     left: &Chains,
     right: &Chains,
     parent: Node,
@@ -29,19 +32,24 @@ pub fn place_of_new(
     id: Id,
 ) -> Place
     requires attached { AreAttached [] children.now }
-    requires indexed { IsIndex spot_of children.now (get spot_cmp spots.now) }
+    requires indexed { IsIndex children.now (get spot_cmp spots.now) }
+    requires places { ArePlaces children.now places.now }
     requires left { LeadOutward Left children.now left.now }
     requires right { LeadOutward Right children.now right.now }
     requires parent { is_there children.now parent ≡ true }
     requires unused { has_id children.now id ≡ false }
     ensures { IsPlaceOfNew children.now parent side id result }
 {
+    // No child hangs on the one that was attached last.
+    if is_newest(children, parent) {
+        return beside(parent, side);
+    }
     let lower = Line {
         parent,
         side,
         below: Some(id),
     };
-    if let Some(k) = outermost_child(spots, &lower, Side::Right) {
+    if let Some(k) = outermost_child(children, spots, places, &lower, Side::Right) {
         let last = outermost_node(children, right, k, Side::Right);
         return Place::After(last);
     }
@@ -50,7 +58,7 @@ pub fn place_of_new(
         side,
         below: None,
     };
-    if let Some(k) = outermost_child(spots, &all, Side::Left) {
+    if let Some(k) = outermost_child(children, spots, places, &all, Side::Left) {
         let first = outermost_node(children, left, k, Side::Left);
         return Place::Before(first);
     }

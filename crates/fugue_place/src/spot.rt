@@ -1,12 +1,13 @@
 //! The order in which children are found.
 
-ghost use Rattle.std.specs.Prelude.{◌≡◌, Some, None, if◌then◌else◌, OnOk, OnErr};
-ghost use Rattle.std.specs.BTreeMap.{get, is_at};
-ghost use Rattle.ew_model.specs.declared.node.Node.{Node};
-ghost use Rattle.fugue_place.specs.declared.spot.Spot.{Spot};
-ghost use Rattle.fugue_place.specs.Spots.{node_cmp, spot_cmp, spot_of};
+ghost use Rattle.std.specs.Prelude.{◌≡◌, false, [], ◌∷◌, ◌++◌, OnOk, OnErr};
+ghost use Rattle.std.specs.BTreeMap.{get};
+ghost use Rattle.fugue_place.specs.Attachments.{is_attached, has_id};
+ghost use Rattle.fugue_place.specs.Places.{ArePlaces};
+ghost use Rattle.fugue_place.specs.Spots.{spot_cmp, IsIndex};
 
-use crate::child::{Attached, Side};
+use crate::child::{Attached, Side, is_heir};
+use crate::places::Places;
 use ew_model::NoMem;
 use ew_model::id::Id;
 use ew_model::node::Node;
@@ -31,28 +32,35 @@ pub enum Rank {
     Last,
 }
 
-/// Keeps the place of a new child under its spot and under its node.
+/// Keeps the place of one more child behind these: under its spot, where it is no heir, and by its node.
 pub fn enlist(
     spots: &mut BTreeMap<Spot, usize>,
-    places: &mut BTreeMap<Node, usize>,
+    places: &mut Places,
+    children: &[Attached],
     child: &Attached,
-    place: usize,
 ) -> Result<(), NoMem>
-    requires spot { get spot_cmp spots.old (spot_of child.now) ≡ None }
-    ensures spots { OnOk result ((q : Spot) → get spot_cmp spots.new q ≡ (if is_at (spot_cmp (spot_of child.now)) q then Some place else get spot_cmp spots.old q)) }
-    ensures places { OnOk result ((v : Node) → get node_cmp places.new v ≡ (if is_at (node_cmp child.now.node) v then Some place else get node_cmp places.old v)) }
-    ensures same_spots { OnErr result ((q : Spot) → get spot_cmp spots.new q ≡ get spot_cmp spots.old q) }
-    ensures same_places { OnErr result ((v : Node) → get node_cmp places.new v ≡ get node_cmp places.old v) }
+    requires spots { IsIndex children.now (get spot_cmp spots.old) }
+    requires places { ArePlaces children.now places.old }
+    requires new { is_attached children.now child.now.node ≡ false }
+    requires unused { has_id children.now child.now.id ≡ false }
+    ensures spots { OnOk result (IsIndex (children.now ++ child.now ∷ []) (get spot_cmp spots.new)) }
+    ensures places { OnOk result (ArePlaces (children.now ++ child.now ∷ []) places.new) }
+    ensures same_spots { OnErr result (IsIndex children.now (get spot_cmp spots.new)) }
+    ensures same_places { OnErr result (ArePlaces children.now places.new) }
 {
+    if is_heir(children, child) {
+        places.add(children, child)?;
+        return Ok(());
+    }
     let rank = Rank::Of(child.id);
     let spot = Spot {
         parent: child.parent,
         side: child.side,
         rank,
     };
-    spots.insert(spot, place)?;
-    match places.insert(child.node, place) {
-        Ok(_) => Ok(()),
+    spots.insert(spot, children.len())?;
+    match places.add(children, child) {
+        Ok(()) => Ok(()),
         Err(_) => {
             spots.remove(&spot);
             Err(NoMem)

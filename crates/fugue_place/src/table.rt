@@ -1,16 +1,14 @@
 //! The attached children.
 
 ghost use Rattle.std.specs.Prelude.{◌≡◌, true, false, [], ◌∷◌, ◌++◌, IfOk, OnOk, OnErr};
-ghost use Rattle.std.specs.BTreeMap.{get};
 ghost use Rattle.fugue_place.specs.Attachments.{is_event, is_attached, is_there, has_id};
-ghost use Rattle.fugue_place.specs.Neighbours.{has_beyond, SomeRightChild, EveryRightChild, IsPlaceOfNew};
-ghost use Rattle.fugue_place.specs.Spots.{spot_cmp, spot_of, IsIndex};
+ghost use Rattle.fugue_place.specs.Neighbours.{has_beyond, IsPlaceOfNew};
 
 use crate::chains::Chains;
-use crate::child::{Attached, Side, child_at};
+use crate::child::{Attached, Side};
 use crate::leaders::leader_of;
-use crate::line::Line;
 use crate::neighbour::Place;
+use crate::places::Places;
 use crate::search::place_of_new;
 use crate::spot::{Spot, enlist};
 use ew_model::NoMem;
@@ -24,10 +22,10 @@ use std::marker::Model;
 #[derive(Drop)]
 pub struct Siblings {
     children: Vec<Attached>,
-    /// The place of each child in that list, by parent, side and id.
+    /// The place of each child in that list, by parent, side and id, but for heirs.
     spots: BTreeMap<Spot, usize>,
-    /// The same by node.
-    places: BTreeMap<Node, usize>,
+    /// The place of each child by its node.
+    places: Places,
     /// Where subtrees begin.
     left: Chains,
     /// Where subtrees end.
@@ -39,13 +37,13 @@ impl Model for Siblings {
     ghost use Rattle.std.specs.BTreeMap.{get};
     ghost use Rattle.fugue_place.specs.declared.child.Attached.{Attached};
     ghost use Rattle.fugue_place.specs.Kept.{AreSiblings};
-    ghost use Rattle.fugue_place.specs.Spots.{node_cmp, spot_cmp};
+    ghost use Rattle.fugue_place.specs.Spots.{spot_cmp};
 
     ghost Value = { List Attached };
 
     ghost view = { λ s. s.children.items };
 
-    ghost invariant = { λ s. AreSiblings s.children.items (get spot_cmp s.spots) (get node_cmp s.places) s.left s.right };
+    ghost invariant = { λ s. AreSiblings s.children.items (get spot_cmp s.spots) s.places s.left s.right };
 }
 
 impl Siblings {
@@ -56,7 +54,7 @@ impl Siblings {
         Ok(Siblings {
             children: Vec::new(alloc),
             spots: BTreeMap::new(alloc),
-            places: BTreeMap::new(alloc),
+            places: Places::new(alloc),
             left: Chains::new(alloc),
             right: Chains::new(alloc),
         })
@@ -85,8 +83,8 @@ impl Siblings {
         self.children.reserve(1)?;
         self.left.reserve()?;
         self.right.reserve()?;
-        let place = self.children.len();
-        enlist(&mut self.spots, &mut self.places, &child, place)?;
+        let before = self.children.as_slice();
+        enlist(&mut self.spots, &mut self.places, before, &child)?;
         self.children.push_reserved(child);
         self.left.add(left);
         self.right.add(right);
@@ -107,6 +105,7 @@ impl Siblings {
         place_of_new(
             self.children.as_slice(),
             &self.spots,
+            &self.places,
             &self.left,
             &self.right,
             parent,
@@ -114,38 +113,4 @@ impl Siblings {
             id,
         )
     }
-
-    /// Whether an attached right child of the node is known.
-    pub fn has_known_right<F: Fn(Node) -> bool>(&self, node: Node, known: F) -> bool
-        requires { EveryRightChild (F.pre known) self.now node }
-        ensures one { result ≡ true → SomeRightChild (λ v. F.post known v true) self.now node }
-        ensures none { result ≡ false → EveryRightChild (λ v. F.post known v false) self.now node }
-    {
-        has_known_right(self.children.as_slice(), &self.spots, node, known)
-    }
-}
-
-fn has_known_right<F: Fn(Node) -> bool>(
-    children: &[Attached],
-    spots: &BTreeMap<Spot, usize>,
-    node: Node,
-    known: F,
-) -> bool
-    requires indexed { IsIndex spot_of children.now (get spot_cmp spots.now) }
-    requires known { EveryRightChild (F.pre known) children.now node }
-    ensures one { result ≡ true → SomeRightChild (λ v. F.post known v true) children.now node }
-    ensures none { result ≡ false → EveryRightChild (λ v. F.post known v false) children.now node }
-{
-    let line = Line {
-        parent: node,
-        side: Side::Right,
-        below: None,
-    };
-    for (_, place) in spots.range(line.ahead()..line.behind()) {
-        let child = child_at(children, *place);
-        if known(child.node) {
-            return true;
-        }
-    }
-    false
 }

@@ -1,12 +1,7 @@
-use Rattle.std.proofs.Common.{◌≡◌, ℕ, ◌<◌, length, Option, Some, None, sym, ◌∙◌, subst, arith}
-use Rattle.std.specs.BTreeMap.{get}
+use Rattle.std.proofs.Common.{ℕ, ◌<◌, length, Option, sym, ◌∙◌, subst, arith}
 use Rattle.std.specs.Option.{IfNone}
-use Rattle.std.specs.declared.cmp.Ordering.{Ordering}
-use Rattle.ew_model.specs.declared.node.Node.{Node}
 use Rattle.fugue_place.specs.Chains.{follower}
 use Rattle.fugue_place.specs.Lines.{IsNoOutermost}
-use Rattle.fugue_place.specs.Spots.{node_cmp}
-use Rattle.fugue_place.proofs.CmpLaws.{nodes_by}
 use Rattle.fugue_place.proofs.LeaderLaws.{no_parent, leader_early, follower_early, no_further, new_further, new_only}
 use Rattle.fugue_place.proofs.NodeLaws.{side_same}
 use Rattle.fugue_place.proofs.leaders.leader_of.Goals as goal
@@ -15,21 +10,16 @@ pub returns-in_err-at-clause-none : goal.returns-in_err-at-clause-none
 returns-in_err-at-clause-none c =
     let xs = c.args.children.now in
     let outer = follower c.args.chains.now.outer.items in
-    let find = get node_cmp c.args.places.now in
     let outward = c.requires.chains in
-    let none : find c.args.child.now.parent ≡ None =
-    subst (λ (cmp : Node → Node → Ordering). get cmp c.args.places.now c.args.child.now.parent ≡ None) nodes_by (sym c.in_err-at.ensures.value) in
-    subst (λ (o : Option ℕ). IfNone o (IsNoOutermost c.args.end xs outer c.args.child.now)) (sym c.from_residual.ensures) (no_parent xs find c.requires.places c.args.end outer outward.outermost c.args.child.now none)
+    subst (λ (o : Option ℕ). IfNone o (IsNoOutermost c.args.end xs outer c.args.child.now)) (sym c.from_residual.ensures) (no_parent xs c.requires.attached c.args.end outer outward.outermost c.args.child.now c.in_err-at.ensures.none)
 
 pub follower-requires : goal.follower-requires
 follower-requires c =
     let xs = c.args.children.now in
     let outer = follower c.args.chains.now.outer.items in
-    let find = get node_cmp c.args.places.now in
     let outward = c.requires.chains in
-    let found : find c.args.child.now.parent ≡ Some c.in_ok-at.field-0.now =
-    subst (λ (cmp : Node → Node → Ordering). get cmp c.args.places.now c.args.child.now.parent ≡ Some c.in_ok-at.field-0.now) nodes_by (sym c.in_ok-at.ensures.value) in
-    let early : c.in_ok-at.field-0.now < length xs = leader_early xs find c.requires.places c.args.end outer outward.outermost c.args.child.now c.in_ok-at.field-0.now found in
+    let found = c.in_ok-at.ensures.some in
+    let early : c.in_ok-at.at < length xs = leader_early xs c.requires.attached c.args.end outer outward.outermost c.args.child.now c.in_ok-at.at found.0 found.1 found.2 in
     let count = outward.count in
     omega arith
 
@@ -37,40 +27,32 @@ pub child_at-rival-requires : goal.child_at-rival-requires
 child_at-rival-requires c =
     let xs = c.args.children.now in
     let outer = follower c.args.chains.now.outer.items in
-    let find = get node_cmp c.args.places.now in
     let outward = c.requires.chains in
-    let found : find c.args.child.now.parent ≡ Some c.in_ok-at.field-0.now =
-    subst (λ (cmp : Node → Node → Ordering). get cmp c.args.places.now c.args.child.now.parent ≡ Some c.in_ok-at.field-0.now) nodes_by (sym c.in_ok-at.ensures.value) in
-    follower_early xs find c.requires.places c.args.end outer outward.outermost c.args.child.now c.in_ok-at.field-0.now found c.in-Some.k (sym c.follower.ensures ∙ c.in-Some.is)
+    let found = c.in_ok-at.ensures.some in
+    follower_early xs c.requires.attached c.args.end outer outward.outermost c.args.child.now c.in_ok-at.at found.0 found.1 found.2 c.in-Some.k (sym c.follower.ensures ∙ c.in-Some.is)
 
 pub returns-then-not-is_further-clause-none : goal.returns-then-not-is_further-clause-none
 returns-then-not-is_further-clause-none c =
     let xs = c.args.children.now in
     let outer = follower c.args.chains.now.outer.items in
-    let find = get node_cmp c.args.places.now in
     let outward = c.requires.chains in
-    let found : find c.args.child.now.parent ≡ Some c.in_ok-at.field-0.now =
-    subst (λ (cmp : Node → Node → Ordering). get cmp c.args.places.now c.args.child.now.parent ≡ Some c.in_ok-at.field-0.now) nodes_by (sym c.in_ok-at.ensures.value) in
-    no_further xs find c.requires.places c.args.end outer outward.outermost c.args.child.now c.in_ok-at.field-0.now found c.in-Some.k c.child_at-rival.result (sym c.follower.ensures ∙ c.in-Some.is) c.child_at-rival.ensures (sym c.if-not-is_further.ensures)
+    let found = c.in_ok-at.ensures.some in
+    no_further xs c.requires.attached c.args.end outer outward.outermost c.args.child.now c.in_ok-at.at found.0 found.1 found.2 c.in-Some.k c.child_at-rival.result (sym c.follower.ensures ∙ c.in-Some.is) c.child_at-rival.ensures (sym c.if-not-is_further.ensures)
 
 pub returns-else-not-is_further-clause-some : goal.returns-else-not-is_further-clause-some
 returns-else-not-is_further-clause-some c =
     let xs = c.args.children.now in
     let outer = follower c.args.chains.now.outer.items in
-    let find = get node_cmp c.args.places.now in
     let outward = c.requires.chains in
-    let found : find c.args.child.now.parent ≡ Some c.in_ok-at.field-0.now =
-    subst (λ (cmp : Node → Node → Ordering). get cmp c.args.places.now c.args.child.now.parent ≡ Some c.in_ok-at.field-0.now) nodes_by (sym c.in_ok-at.ensures.value) in
-    new_further xs find c.requires.places c.args.end outer outward.outermost c.args.child.now c.in_ok-at.field-0.now found c.in-Some.k c.child_at-rival.result (sym c.follower.ensures ∙ c.in-Some.is) c.child_at-rival.ensures (sym c.if-not-is_further.ensures)
+    let found = c.in_ok-at.ensures.some in
+    new_further xs c.requires.attached c.args.end outer outward.outermost c.args.child.now c.in_ok-at.at found.0 found.1 found.2 c.in-Some.k c.child_at-rival.result (sym c.follower.ensures ∙ c.in-Some.is) c.child_at-rival.ensures (sym c.if-not-is_further.ensures)
     (side_same c.args.child.now.side c.args.end (sym c.if-not-is_side.ensures))
 
 pub returns-in_default-clause-some : goal.returns-in_default-clause-some
 returns-in_default-clause-some c =
     let xs = c.args.children.now in
     let outer = follower c.args.chains.now.outer.items in
-    let find = get node_cmp c.args.places.now in
     let outward = c.requires.chains in
-    let found : find c.args.child.now.parent ≡ Some c.in_ok-at.field-0.now =
-    subst (λ (cmp : Node → Node → Ordering). get cmp c.args.places.now c.args.child.now.parent ≡ Some c.in_ok-at.field-0.now) nodes_by (sym c.in_ok-at.ensures.value) in
-    new_only xs find c.requires.places c.args.end outer outward.outermost c.args.child.now c.in_ok-at.field-0.now found (sym c.follower.ensures ∙ c.in_default.is)
+    let found = c.in_ok-at.ensures.some in
+    new_only xs c.requires.attached c.args.end outer outward.outermost c.args.child.now c.in_ok-at.at found.0 found.1 found.2 (sym c.follower.ensures ∙ c.in_default.is)
     (side_same c.args.child.now.side c.args.end (sym c.if-not-is_side.ensures))

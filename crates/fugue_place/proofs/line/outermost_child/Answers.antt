@@ -1,19 +1,33 @@
-use Rattle.std.proofs.Common.{length, subst, sym}
-use Rattle.std.specs.BTreeMap.{get}
-use Rattle.fugue_place.specs.declared.child.Side.{Side}
-use Rattle.fugue_place.specs.Lines.{IsBest}
-use Rattle.fugue_place.specs.Spots.{spot_cmp}
-use Rattle.fugue_place.proofs.IndexLaws.{first_best, last_best}
+use Rattle.std.proofs.Common.{sym}
+use Rattle.std.proofs.lemmas.Option.{slice_get_within}
+use Rattle.fugue_place.proofs.HeirLaws.{best_without, heir_alone, heir_further, other_further}
 use Rattle.fugue_place.proofs.line.outermost_child.Goals as goal
 
-pub returns-in-Left : goal.returns-in-Left
-returns-in-Left c = λ children index.
-    subst (λ (s : Side). IsBest c.args.line.now s children (length children) c.first_between.result) (sym c.in-Left.is)
-    (first_best children (get spot_cmp c.args.spots.now) index c.args.line.now c.ahead-from.result c.behind-to.result c.ahead-from.ensures c.behind-to.ensures c.first_between.result
-    c.first_between.ensures.some c.first_between.ensures.none)
+pub returns-in_default : goal.returns-in_default
+returns-in_default c =
+    best_without c.args.children.now c.requires.attached c.args.line.now c.args.end c.in_default.ensures.none c.outermost_of_others-other.result (c.outermost_of_others-other.ensures c.args.children.now c.requires.indexed)
 
-pub returns-in-Right : goal.returns-in-Right
-returns-in-Right c = λ children index.
-    subst (λ (s : Side). IsBest c.args.line.now s children (length children) c.last_between.result) (sym c.in-Right.is)
-    (last_best children (get spot_cmp c.args.spots.now) index c.args.line.now c.ahead-from.result c.behind-to.result c.ahead-from.ensures c.behind-to.ensures c.last_between.result
-    c.last_between.ensures.some c.last_between.ensures.none)
+pub returns-in_default-other : goal.returns-in_default-other
+returns-in_default-other c = heir_alone c.args.children.now c.requires.attached c.args.line.now c.args.end c.in-Some.heir c.in-Some.ensures.some (c.in_default-other.ensures c.args.children.now c.requires.indexed)
+
+pub child_at-first-requires : goal.child_at-first-requires
+child_at-first-requires c = let heir = c.in-Some.ensures.some in slice_get_within c.args.children.now c.in-Some.heir heir.child heir.here
+
+pub child_at-second-requires : goal.child_at-second-requires
+child_at-second-requires c = let other = c.in-Some-other.ensures c.args.children.now c.requires.indexed in slice_get_within c.args.children.now c.in-Some-other.place other.child other.here
+
+pub returns-then-is_further : goal.returns-then-is_further
+returns-then-is_further c =
+    heir_further c.args.children.now c.requires.attached c.args.line.now c.args.end c.in-Some.heir c.in-Some.ensures.some c.in-Some-other.place (c.in-Some-other.ensures c.args.children.now c.requires.indexed) c.child_at-first.result
+    c.child_at-second.result
+    c.child_at-first.ensures
+    c.child_at-second.ensures
+    (sym c.if-is_further.ensures)
+
+pub returns-else-is_further : goal.returns-else-is_further
+returns-else-is_further c =
+    other_further c.args.children.now c.requires.attached c.args.line.now c.args.end c.in-Some.heir c.in-Some.ensures.some c.in-Some-other.place (c.in-Some-other.ensures c.args.children.now c.requires.indexed) c.child_at-first.result
+    c.child_at-second.result
+    c.child_at-first.ensures
+    c.child_at-second.ensures
+    (sym c.if-is_further.ensures)

@@ -1,0 +1,84 @@
+//! Where children stand in the list of all, by their nodes.
+
+ghost use Rattle.std.specs.Prelude.{◌≡◌, true, false, [], ◌∷◌, ◌++◌, IfSome, IfNone, OnOk, OnErr};
+ghost use Rattle.fugue_place.specs.Attachments.{is_attached};
+ghost use Rattle.fugue_place.specs.Places.{HasNodeAt, AreRising, ArePlaces, is_above_newest};
+
+use crate::child::{Attached, is_newest};
+use ew_model::NoMem;
+use ew_model::node::Node;
+use std::alloc::Global;
+use std::collections::BTreeMap;
+
+/// The places of children by their nodes. The nodes of the first children rise, up to the first that doesn't, and those
+/// children are found by halving. Only the places of the others are kept.
+#[derive(Drop)]
+pub struct Places {
+    /// How many children stand ahead of the first whose node doesn't rise.
+    pub rising: usize,
+    /// The places of the others.
+    pub others: BTreeMap<Node, usize>,
+}
+
+impl Places {
+    /// Those of no children.
+    pub fn new(alloc: Global) -> Places
+        ensures { ArePlaces [] result }
+    {
+        Places {
+            rising: 0,
+            others: BTreeMap::new(alloc),
+        }
+    }
+
+    /// The place of the child with this node, if there is one.
+    pub fn find(&self, children: &[Attached], node: Node) -> Option<usize>
+        requires { ArePlaces children.now self.now }
+        ensures some { IfSome result (HasNodeAt children.now node) }
+        ensures none { IfNone result (is_attached children.now node ≡ false) }
+    {
+        if is_newest(children, node) {
+            return Some(children.len() - 1);
+        }
+        if let Some(place) = place_by_halving(&children[..self.rising], node) {
+            return Some(place);
+        }
+        self.others.get(&node).copied()
+    }
+
+    /// Keeps the place of one more child behind these.
+    pub fn add(&mut self, children: &[Attached], child: &Attached) -> Result<(), NoMem>
+        requires places { ArePlaces children.now self.old }
+        requires new { is_attached children.now child.now.node ≡ false }
+        ensures ok { OnOk result (ArePlaces (children.now ++ child.now ∷ []) self.new) }
+        ensures err { OnErr result (ArePlaces children.now self.new) }
+    {
+        if self.rising == children.len() && is_above_newest(children, child.node) {
+            self.rising += 1;
+        } else {
+            self.others.insert(child.node, children.len())?;
+        }
+        Ok(())
+    }
+}
+
+/// The place of the child with this node among children whose nodes rise.
+fn place_by_halving(children: &[Attached], node: Node) -> Option<usize>
+    requires { AreRising children.now }
+    ensures some { IfSome result (HasNodeAt children.now node) }
+    ensures none { IfNone result (is_attached children.now node ≡ false) }
+{
+    children
+        .binary_search_by_key(&node, |child| child.node)
+        .ok()
+}
+
+/// Whether the node is above that of the child that was attached last.
+fn is_above_newest(children: &[Attached], node: Node) -> bool
+    ensures { result ≡ is_above_newest children.now node }
+{
+    match children.last() {
+        Some(child) => child.node < node,
+        None => true,
+    }
+}
