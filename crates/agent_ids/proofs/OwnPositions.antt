@@ -105,6 +105,27 @@ found_name (b ∷ names) a n h = at (name_eq a b) refl (position (name_eq a) nam
     at false c None k f = let no : ⊥ = cc in absurd no
     at false c (Some i) k f = let there : 1 + i ≡ n = cc in let next : suc i ≡ n = omega (arith, there) in subst (λ m. slice_get (b ∷ names) m ≡ Some a) next (f i refl)
 
+none_at : {X : Type 0} (p : X → Bool) (xs : List X) (n : ℕ) (x : X) → list_any p xs ≡ false → slice_get xs n ≡ Some x → p x ≡ false
+none_at p [] n x d h = let no : ⊥ = cc in absurd no
+none_at p (y ∷ xs) n x d h = at (p y) (list_any p xs) refl refl d n h (λ k. none_at p xs k x)
+  where
+    at : (b c : Bool) → p y ≡ b → list_any p xs ≡ c → (b || c) ≡ false → (n : ℕ) → slice_get (y ∷ xs) n ≡ Some x → ((k : ℕ) → list_any p xs ≡ false → slice_get xs k ≡ Some x → p x ≡ false) → p x ≡ false
+    at true c e f k n h rest = let no : ⊥ = cc in absurd no
+    at false c e f k zero h rest = let one : y ≡ x = cc in subst (λ z. p z ≡ false) one e
+    at false c e f k (suc n) h rest = rest n (f ∙ k) h
+
+-- a name that stands once is found where it stands
+stands_once : (names : List (List ℕ)) (a : List ℕ) (n : ℕ) → AreDistinct names → slice_get names n ≡ Some a → position (name_eq a) names ≡ Some n
+stands_once [] a n d h = let no : ⊥ = cc in absurd no
+stands_once (b ∷ names) a zero d h =
+    let one : a ≡ b = cc in
+    position-cons (name_eq a) b names ∙ ap (λ c. cond c (Some 0) (option_map (λ i. 1 + i) (position (name_eq a) names))) (subst (λ x. name_eq a x ≡ true) one (names_alike.refl a))
+stands_once (b ∷ names) a (suc n) d h =
+    let next : 1 + n ≡ suc n = omega arith in
+    position-cons (name_eq a) b names
+    ∙ ap (λ c. cond c (Some 0) (option_map (λ i. 1 + i) (position (name_eq a) names))) (names_alike.symm a b ∙ none_at (name_eq b) names n a d.0 h)
+    ∙ ap (option_map (λ i. 1 + i)) (stands_once names a n d.1 h) ∙ ap Some next
+
 slice_get-map : {X Y : Type 0} (f : X → Y) (xs : List X) (n : ℕ) (x : X) → slice_get xs n ≡ Some x → slice_get (map f xs) n ≡ Some (f x)
 slice_get-map f [] n x h = let no : ⊥ = cc in absurd no
 slice_get-map f (y ∷ xs) zero x h = let one : y ≡ x = cc in ap (λ z. Some (f z)) one
@@ -140,6 +161,10 @@ one_changed f g (b ∷ names) a n d h other =
 -- The code's search by name is that of the definitions.
 pub searched : (names : List (List ℕ)) (a : List ℕ) → position (pointwise nat_eq a) names ≡ position (name_eq a) names
 searched names a = ap (λ (same : List ℕ → List ℕ → Bool). position (same a) names) (sym names_tested)
+
+-- a name that stands at a place among the agents is found there
+pub agent_at : (ids : List Id) (names : List (List ℕ)) (a : List ℕ) (n : ℕ) → names ≡ agents_of ids → slice_get names n ≡ Some a → position (pointwise nat_eq a) names ≡ Some n
+agent_at ids names a n is h = searched names a ∙ stands_once names a n (subst AreDistinct (sym is) (agents_distinct ids)) h
 
 -- No more agents are kept than there are ids.
 pub kept_few : (ids : List Id) (names lists : List (List ℕ)) → AreAgents ids names lists → length names ≤ length ids

@@ -1,10 +1,10 @@
 -- Ids in runs: where one stands, one more, the last run cut, and how many runs there are.
 use Rattle.std.proofs.Common.{◌≡◌, ℕ, zero, suc, ◌+◌, ◌-◌, ◌<◌, ◌≤◌, ◌^◌, Bool, true, false, cond, List, [], ◌∷◌, ◌++◌, length, map, set, slice_get, slice_index_or, Some, refl, sym, ap, ◌∙◌, subst, arith, append-nil, append_assoc, length-append, take, nat_lt, lt-ltb, le-ltb, max}
-use Rattle.std.specs.List.{range_with_len}
+use Rattle.std.specs.List.{AllWithin, range_with_len}
 use Rattle.std.proofs.lemmas.Bool.{ltb-true, ltb-false, true≢false}
 use Rattle.std.proofs.lemmas.List.{length-map, map-append}
 use Rattle.std.proofs.lemmas.List.FromFn.{length-range_with_len}
-use Rattle.std.proofs.lemmas.Option.{same_Some, slice_get-get_or}
+use Rattle.std.proofs.lemmas.Option.{same_Some, slice_get-get_or, get_or_from_slice_get}
 use Rattle.ew_model.specs.declared.id.Id.{Id}
 use Rattle.ew_model.specs.Ids.{id_eq}
 use Rattle.ew_model.proofs.IdLaws.{is_same_id}
@@ -60,6 +60,13 @@ starts_rise (y ∷ runs) start end zero (suc j) d r l m =
     let high = (run_within runs (start + suc y.more) end j (slice_index_or runs j d) r.3 (slice_get-get_or runs j d (omega (arith, m)))).0 in
     let at = r.0 in omega (arith, high, at)
 starts_rise (y ∷ runs) start end (suc i) (suc j) d r l m = starts_rise runs (start + suc y.more) end i j d r.3 (omega (arith, l)) (omega (arith, m))
+
+-- where the last run begins at a place or before it, all do
+pub all_begin : (runs : List IdRun) (end place : ℕ) (x : IdRun) → AreRuns 0 runs end → slice_get runs (length runs - 1) ≡ Some x → x.start ≤ place → AllWithin (λ (r : IdRun). r.start ≤ place) runs 0 (length runs)
+all_begin runs end place x r e l = λ k d low m.
+    let rise = starts_rise runs 0 end k (length runs - 1) d r (omega (arith, m)) (omega (arith, m)) in
+    let read = ap (λ (y : IdRun). y.start) (get_or_from_slice_get runs (length runs - 1) x d e) in
+    omega (arith, rise, read, l)
 
 -- THE ID at a place
 pub read_run : (runs : List IdRun) (start end place i p : ℕ) (x : IdRun) → AreRuns start runs end → slice_get runs i ≡ Some x → x.start ≤ place → place ≤ x.start + x.more → start + p ≡ place

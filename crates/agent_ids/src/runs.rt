@@ -1,10 +1,10 @@
 //! Ids in runs.
 
-ghost use Rattle.std.specs.Prelude.{◌≡◌, ℕ, suc, ◌+◌, ◌-◌, ◌<◌, ◌≤◌, ◌^◌, Bool, true, List, [], ◌∷◌, ◌++◌, take, length, Some, slice_get, IsSomeAnd, IfSome, IfNone, OnOk, OnErr};
+ghost use Rattle.std.specs.Prelude.{◌≡◌, ◌↔◌, ℕ, suc, ◌+◌, ◌-◌, ◌<◌, ◌≤◌, ◌^◌, Bool, true, List, [], ◌∷◌, ◌++◌, take, length, Some, slice_get, IsTrue, IsSomeAnd, IfSome, IfNone, OnOk, OnErr};
 ghost use Rattle.std.specs.List.{AllWithin};
 ghost use Rattle.ew_model.specs.declared.id.Id.{Id};
 ghost use Rattle.agent_ids.specs.declared.runs.IdRun.{IdRun};
-ghost use Rattle.agent_ids.specs.IdRuns.{id_runs, ids_in, is_next, last_of, AreRuns, goes_on, with_more, shortened, ids_from};
+ghost use Rattle.agent_ids.specs.IdRuns.{id_runs, id_with, ids_in, is_next, last_of, AreRuns, goes_on, with_more, shortened, ids_from};
 
 use ew_model::NoMem;
 use ew_model::id::Id;
@@ -117,7 +117,21 @@ fn count_to(runs: &[IdRun], place: u32) -> usize
     ensures to { AllWithin (λ r. r.start ≤ place) runs.now 0 result }
     ensures behind { AllWithin (λ r. place < r.start) runs.now result (length runs.now) }
 {
+    if all_begin_to(runs, place) {
+        return runs.len();
+    }
     runs.partition_point(|run| run.start <= place)
+}
+
+/// Whether there are runs, and all of them begin at a place or before it.
+fn all_begin_to(runs: &[IdRun], place: u32) -> bool
+    requires { (end : ℕ) × AreRuns 0 runs.now end }
+    ensures { IsTrue result → AllWithin (λ r. r.start ≤ place) runs.now 0 (length runs.now) }
+{
+    match runs.last() {
+        Some(run) => run.start <= place,
+        None => false,
+    }
 }
 
 /// Puts an id behind the others: into the last run, where that goes on with it, or else into a run of its own.
@@ -155,15 +169,14 @@ fn goes_on(runs: &[IdRun], id: &Id) -> bool
 fn is_next(x: &Id, y: &Id) -> bool
     ensures { result ≡ is_next x.now y.now }
 {
-    if x.seq < y.seq {
-        let next = Id {
-            agent: x.agent,
-            seq: x.seq + 1,
-        };
-        next.is(y)
-    } else {
-        false
-    }
+    comes_next(x, y)
+}
+
+/// The same by the numbers, and by the agent only where these fit.
+fn comes_next(x: &Id, y: &Id) -> bool
+    ensures { IsTrue result ↔ (y.now ≡ id_with x.now.agent (suc x.now.seq)) }
+{
+    x.seq < y.seq && y.seq - x.seq == 1 && y.agent.is(&x.agent)
 }
 
 /// The last id of the runs.

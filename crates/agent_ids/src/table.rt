@@ -1,6 +1,6 @@
 //! The table of ids.
 
-ghost use Rattle.std.specs.Prelude.{◌≡◌, ℕ, suc, ◌+◌, ◌<◌, ◌≤◌, ◌^◌, List, [], ◌∷◌, ◌++◌, length, take, Some, OnOk, OnErr, IsOkAnd, IfSome, MatchOption, false, nat_eq, slice_get, position};
+ghost use Rattle.std.specs.Prelude.{◌≡◌, ℕ, suc, ◌+◌, ◌<◌, ◌≤◌, ◌^◌, List, [], ◌∷◌, ◌++◌, length, take, Some, OnOk, OnErr, IsOkAnd, IfSome, IfNone, MatchOption, IsTrue, false, nat_eq, slice_get, position};
 ghost use Rattle.std.specs.List.{All};
 ghost use Rattle.std.specs.Cmp.Lexicographic.{pointwise};
 ghost use Rattle.std.specs.Vec.{vec_len};
@@ -28,6 +28,8 @@ pub struct AgentTable {
     names: IndexSet<Name>,
     /// For each agent the positions of its ids.
     positions: Vec<PositionRuns>,
+    /// The number of an agent that had an id lately: most often the next id is that agent's too.
+    lately: usize,
 }
 
 impl Model for AgentTable {
@@ -51,6 +53,7 @@ impl AgentTable {
             ids: IdRuns::new(alloc),
             names: IndexSet::new(alloc),
             positions: Vec::new(alloc),
+            lately: 0,
         })
     }
 
@@ -127,11 +130,16 @@ impl AgentTable {
         let lv = self.ids.len();
         let agent = id.agent;
         self.ids.push(id)?;
-        if let Err(fault) = add_position(&mut self.names, &mut self.positions, agent, lv) {
-            self.ids.cut_run(lv);
-            return Err(fault);
+        match add_position(&mut self.names, &mut self.positions, self.lately, agent, lv) {
+            Ok(number) => {
+                self.lately = number;
+                Ok(())
+            }
+            Err(fault) => {
+                self.ids.cut_run(lv);
+                Err(fault)
+            }
         }
-        Ok(())
     }
 
     /// Leaves the first n ids.
@@ -148,7 +156,7 @@ impl AgentTable {
         ensures value { MatchOption result (positions_of self.now name.now ≡ []) (λ own. own.now ≡ positions_of self.now name.now) }
         ensures numbered { AreNumbered self.now }
     {
-        let number = self.names.get_index_of(name)?;
+        let number = find_number(&self.names, self.lately, name)?;
         Some(&self.positions[number])
     }
 
@@ -163,24 +171,56 @@ impl AgentTable {
     }
 }
 
-/// Gives an agent one more position, behind the ones that it has.
+/// The number of an agent, where these are the agents' names. The likely number is tried first.
+fn find_number(names: &IndexSet<Name>, likely: usize, name: &Name) -> Option<usize>
+    requires { (ids : List Id) × (names.now.keys ≡ agents_of ids) }
+    ensures index { result ≡ position (pointwise nat_eq name.now) names.now.keys }
+    ensures absent { IfNone result (contains (pointwise nat_eq) names.now name.now ≡ false) }
+    ensures within { IfSome result (λ n. n < length names.now.keys) }
+{
+    if is_at(names, likely, name) {
+        Some(likely)
+    } else {
+        names.get_index_of(name)
+    }
+}
+
+/// Whether the name stands at a place.
+fn is_at(names: &IndexSet<Name>, place: usize, name: &Name) -> bool
+    ensures { IsTrue result → slice_get names.now.keys place ≡ Some name.now }
+{
+    match names.get_index(place) {
+        Some(there) => there.is(name),
+        None => false,
+    }
+}
+
+/// Gives an agent one more position, behind the ones that it has. Its likely number is tried first, and its number is told.
 fn add_position(
     names: &mut IndexSet<Name>,
     positions: &mut Vec<PositionRuns>,
+    likely: usize,
     name: Name,
     lv: u32,
-) -> Result<(), NoMem>
+) -> Result<usize, NoMem>
+    requires agents { (ids : List Id) × (names.old.keys ≡ agents_of ids) }
     requires alike { vec_len positions.old ≡ length names.old.keys }
     requires room { All (λ own. length own + 1 < 2 ^ 32) positions.old.items }
     ensures ok { OnOk result ((ids : List Id) (id : Id) → AreAgents ids names.old.keys positions.old.items → length ids ≡ lv → id.agent ≡ name → AreAgents (ids ++ id ∷ []) names.new.keys positions.new.items) }
     ensures same_names { OnErr result (names.new.keys ≡ names.old.keys) }
     ensures same_positions { OnErr result (positions.new.items ≡ positions.old.items) }
 {
-    match names.get_index_of(&name) {
-        Some(number) => positions[number].push(lv)?,
-        None => start_agent(names, positions, name, lv)?,
+    let count = names.len();
+    match find_number(names, likely, &name) {
+        Some(number) => {
+            positions[number].push(lv)?;
+            Ok(number)
+        }
+        None => {
+            start_agent(names, positions, name, lv)?;
+            Ok(count)
+        }
     }
-    Ok(())
 }
 
 /// Gives a new agent its first position.

@@ -157,13 +157,13 @@ impl Graph {
         requires { lv < length self.now }
         ensures { IfOk result (λ e. slice_get self.now lv ≡ Some e) }
     {
-        let positions = self.events.parents_at(lv);
+        let (op, positions) = self.events.event_at(lv);
         let mut parents = ids_at(self.alloc, &self.ids, positions.as_slice())?;
         parents.sort_unstable();
         Ok(Event {
             id: self.ids.id_at(lv),
             parents: Parents::from_vec(parents),
-            op: self.events.op_at(lv),
+            op,
         })
     }
 

@@ -1,8 +1,8 @@
 -- The events of runs: how many there are, where each one stands, and that they need no more than their own characters.
 use Rattle.std.proofs.Common.{◌≡◌, ℕ, zero, suc, ◌+◌, ◌-◌, ◌<◌, ◌≤◌, List, [], ◌∷◌, ◌++◌, length, map, get_or, slice_get, slice_index_or, Some, refl, sym, ap, ◌∙◌, subst, arith, length-append}
-use Rattle.std.specs.List.{range_with_len}
+use Rattle.std.specs.List.{AllWithin, range_with_len}
 use Rattle.std.proofs.lemmas.List.FromFn.{length-map-range_with_len}
-use Rattle.std.proofs.lemmas.Option.{same_Some, slice_get-get_or}
+use Rattle.std.proofs.lemmas.Option.{same_Some, slice_get-get_or, get_or_from_slice_get}
 use Rattle.ew_model.specs.declared.event.Op.{Op}
 use Rattle.ew_model.specs.declared.event.Op.TheVariants.{Ins}
 use Rattle.event_runs.specs.declared.runs.Run.{Run}
@@ -87,6 +87,13 @@ starts_rise (y ∷ runs) (f ∷ lists) start place end long zero (suc j) d r l m
     let at = r.0 in omega (arith, high, at)
 starts_rise (y ∷ runs) (f ∷ lists) start place end long (suc i) (suc j) d r l m =
     starts_rise runs lists (start + suc y.more) (place + chars_of y.kind (suc y.more)) end long i j d r.4 (omega (arith, l)) (omega (arith, m))
+
+-- where the last run begins below a position, all do
+pub all_begin : (runs : List Run) (lists : List (List ℕ)) (count chars end : ℕ) (x : Run) → AreRuns 0 0 runs lists count chars → slice_get runs (length runs - 1) ≡ Some x → x.start < end → AllWithin (λ (r : Run). r.start < end) runs 0 (length runs)
+all_begin runs lists count chars end x r e l = λ k d low m.
+    let rise = starts_rise runs lists 0 0 count chars k (length runs - 1) d r (omega (arith, m)) (omega (arith, m)) in
+    let read = ap (λ (y : Run). y.start) (get_or_from_slice_get runs (length runs - 1) x d e) in
+    omega (arith, rise, read, l)
 
 -- a position below the next run's first one, or below the end, is in the run
 pub in_run : (runs : List Run) (lists : List (List ℕ)) (start place end long position i : ℕ) (x : Run) → AreRuns start place runs lists end long → slice_get runs i ≡ Some x → position < end

@@ -143,7 +143,21 @@ fn count_below(runs: &[Run], end: u32) -> usize
     ensures below { AllWithin (λ r. r.start < end) runs.now 0 result }
     ensures above { AllWithin (λ r. end ≤ r.start) runs.now result (length runs.now) }
 {
+    if all_begin_below(runs, end) {
+        return runs.len();
+    }
     runs.partition_point(|run| run.start < end)
+}
+
+/// Whether there are runs, and all of them begin below a position.
+fn all_begin_below(runs: &[Run], end: u32) -> bool
+    requires { (lists : List (List ℕ)) × (count : ℕ) × (chars : ℕ) × AreRuns 0 0 runs.now lists count chars }
+    ensures { IsTrue result → AllWithin (λ r. r.start < end) runs.now 0 (length runs.now) }
+{
+    match runs.last() {
+        Some(run) => run.start < end,
+        None => false,
+    }
 }
 
 /// The place of the run that has the event at a position.
@@ -197,7 +211,7 @@ fn kind_of_last(runs: &[Run], one: &Run, parents: &[u32]) -> Option<RunKind>
 fn is_only(positions: &[u32], position: u32) -> bool
     ensures { IsTrue result ↔ (positions.now ≡ position ∷ []) }
 {
-    positions == [position].as_slice()
+    positions.len() == 1 && positions[0] == position
 }
 
 /// Gives the last run an event more, and a kind.

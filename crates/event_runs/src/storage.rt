@@ -110,6 +110,25 @@ impl EventRuns {
         }
     }
 
+    /// The operation and the parents of the event at a position: its run is sought once for both.
+    pub fn event_at(&self, lv: u32) -> (Op, SmallVec<u32, 16>)
+        requires { lv < length self.now }
+        ensures op { slice_get (ops_in self.now) lv ≡ Some result.0 }
+        ensures parents { result.1.items ≡ parents_at (parents_in self.now) lv }
+        ensures lower { AreParents lv result.1.items }
+    {
+        let _count = self.count;
+        let alloc = *self.runs.allocator();
+        let place = find_run(&self.runs, lv);
+        let run = self.runs[place];
+        let op = run.op_behind(lv - run.start, &self.chars);
+        if run.start == lv {
+            (op, inline_from(alloc, self.parents.get(place)))
+        } else {
+            (op, inline_from(alloc, &[lv - 1]))
+        }
+    }
+
     /// Leaves the first n events.
     pub fn truncate(&mut self, n: u32)
         ensures { self.new ≡ take n self.old }

@@ -1,12 +1,14 @@
-use Rattle.std.proofs.Common.{suc, sym, ap, arith}
-use Rattle.std.proofs.lemmas.Bool.{false_from_ne_true}
+use Rattle.std.proofs.Common.{◌≡◌, ◌↔◌, suc, Bool, true, sym}
 use Rattle.ew_model.specs.declared.id.Id.{Id}
 use Rattle.ew_model.proofs.IdLaws.{is_same_id}
-use Rattle.agent_ids.specs.IdRuns.{is_next, id_with}
+use Rattle.ew_model.proofs.ListTests.{same_truth}
+use Rattle.agent_ids.specs.IdRuns.{id_with, is_next}
 use Rattle.agent_ids.proofs.runs.is_next.Goals as goal
 
-pub returns-else-x-y : goal.returns-else-x-y
-returns-else-x-y c =
-    sym (false_from_ne_true (is_next c.args.x.now c.args.y.now) (λ e.
-    let same = ap (λ (x : Id). x.seq) ((is_same_id (id_with c.args.x.now.agent (suc c.args.x.now.seq)) c.args.y.now).0 e) in
-    omega (arith, same, c.if-x-y.false)))
+next_told : (b : Bool) (x y : Id) → ((b ≡ true) ↔ (y ≡ id_with x.agent (suc x.seq))) → b ≡ is_next x y
+next_told b x y h =
+    let same = is_same_id (id_with x.agent (suc x.seq)) y in
+    same_truth b (is_next x y) (λ e. same.1 (sym (h.0 e))) (λ e. h.1 (sym (same.0 e)))
+
+pub returns : goal.returns
+returns c = next_told c.comes_next.result c.args.x.now c.args.y.now c.comes_next.ensures

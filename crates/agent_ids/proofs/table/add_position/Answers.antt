@@ -4,6 +4,9 @@ use Rattle.agent_ids.specs.Table.{AreAgents}
 use Rattle.agent_ids.proofs.OwnPositions.{place_within, more_of_agent, more_of_new}
 use Rattle.agent_ids.proofs.table.add_position.Goals as goal
 
+pub start_agent-requires : goal.start_agent-requires
+start_agent-requires c = record { new = c.in-None.ensures.absent }
+
 pub returns-in_ok-push-in-Some-clause-ok : goal.returns-in_ok-push-in-Some-clause-ok
 returns-in_ok-push-in-Some-clause-ok c ids id t long agent =
     more_of_agent ids id c.args.names.now.keys c.args.positions.now.items c.in-Some.number c.index_mut.result.now c.push.new.self t

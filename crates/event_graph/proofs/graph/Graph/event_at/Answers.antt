@@ -20,12 +20,12 @@ returns c =
     let lv = c.args.lv in
     let kept : IsKeptOf now inside.ids inside.events inside.heads inside.cuts = subst (λ (h : List Event). IsKeptOf h inside.ids inside.events inside.heads inside.cuts) c.self.view_is c.self.invariant in
     let positions = parents_at (parents_in inside.events) lv in
-    let found : c.in_ok-parents.parents.items ≡ map (id_of inside.ids) positions = c.in_ok-parents.ensures ∙ ap (map (id_of inside.ids)) (c.as_slice.ensures ∙ c.parents_at-positions.ensures.value) in
+    let found : c.in_ok-parents.parents.items ≡ map (id_of inside.ids) positions = c.in_ok-parents.ensures ∙ ap (map (id_of inside.ids)) (c.as_slice.ensures ∙ c.event_at-op.ensures.parents) in
     let after = c.sort_unstable.new.self.items in
     let sorted : after ≡ sort_by id_cmp (map (id_of inside.ids) positions) =
     sorted_is_sort_by id_total (map (id_of inside.ids) positions) after (parents_apart now inside.ids inside.events inside.heads inside.cuts kept lv c.requires)
     (subst (λ (xs : List Id). IsPermutation xs after) found c.sort_unstable.ensures.permutation) c.sort_unstable.ensures.sorted in
     let same : ascending_at inside.ids positions ≡ c.from_vec.result = sym (c.from_vec.ensures ∙ sorted) in
     ap (λ (h : List Event). slice_get h lv) (sym c.self.view_is)
-    ∙ event_here inside.ids inside.ids inside.events lv c.id_at.result c.op_at.result c.id_at.ensures c.op_at.ensures
-    ∙ ap (λ (ps : List Id). Some (record { id = c.id_at.result; parents = ps; op = c.op_at.result })) same
+    ∙ event_here inside.ids inside.ids inside.events lv c.id_at.result c.event_at-op.result.0 c.id_at.ensures c.event_at-op.ensures.op
+    ∙ ap (λ (ps : List Id). Some (record { id = c.id_at.result; parents = ps; op = c.event_at-op.result.0 })) same
