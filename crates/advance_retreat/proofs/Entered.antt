@@ -22,7 +22,7 @@ use Rattle.advance_retreat.proofs.PartedRuns.{Parted, parted, lower_is}
 use Rattle.advance_retreat.proofs.ChangedPairs.{changed_is, moves_changed}
 use Rattle.advance_retreat.proofs.JoinedRuns.{joined_laid}
 use Rattle.advance_retreat.proofs.AlteredChars.{one_record, effect_most}
-use Rattle.advance_retreat.proofs.OpenedChars.{around_empty, lower_opened, lower_changed}
+use Rattle.advance_retreat.proofs.OpenedChars.{around_empty, lower_opened}
 use Rattle.advance_retreat.proofs.RunChars.{counted_in, length-records_of, chars-append, shown-chars}
 use Rattle.advance_retreat.proofs.RunsAt.{run_held}
 use Rattle.advance_retreat.proofs.CharPlaces.{stands_not, none_of, up_to_chars, index_behind, index_ahead}
@@ -129,9 +129,6 @@ module _ (ps : List (ℕ × Stretch)) (rising : IsRising ps) (label : ℕ) (run 
       let few = effect_most (lower ps label) in
       let long = long_front in
       omega (arith, old, few, long)
-
-  pub lower_joined : lower (changed ps label joined) label ≡ lower ps label
-  lower_joined = lower_changed ps label run joined rising held
 
   pub joined_labelled : (t : Labels) → AreLabelled ps t → 0 < run.len → list_any (is_of (Event child.lv)) (chars_in ps) ≡ false → AreLabelled (changed ps label joined) t
   joined_labelled t laid some none =

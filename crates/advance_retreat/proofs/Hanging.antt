@@ -1,5 +1,5 @@
 -- The nodes that a state changes hang in its tree; what a new one hangs on, by the counts of right children.
-use Rattle.std.proofs.Common.{◌≡◌, ℕ, ◌≤◌, ◌^◌, ◌||◌, true, nat_lt, Option, Some, List, length, drop, slice_get, inl, refl, sym, ap, ◌∙◌, subst, arith}
+use Rattle.std.proofs.Common.{◌≡◌, ℕ, ◌≤◌, ◌^◌, ◌||◌, true, nat_lt, Bool, Option, Some, None, IfSome, List, length, drop, slice_get, inl, refl, sym, ap, ◌∙◌, subst, arith}
 use Rattle.ew_model.specs.declared.node.Node.{Node}
 use Rattle.ew_model.specs.Sets.{Among}
 use Rattle.ew_model.specs.Tree.{Applied}
@@ -7,9 +7,10 @@ use Rattle.ew_model.proofs.SetLaws.{joined_right}
 use Rattle.walker_record.specs.Stretches.{Stretch}
 use Rattle.fugue_place.specs.declared.child.Attached.{Attached}
 use Rattle.fugue_place.specs.Attachments.{is_there}
+use Rattle.advance_retreat.specs.declared.spot.Hold.{Hold}
 use Rattle.advance_retreat.specs.Kept.{Kept, target_at}
 use Rattle.advance_retreat.specs.Rights.{Counted, AreRights}
-use Rattle.advance_retreat.specs.Spots.{Left, IsVisibleAt, first_known, has_next_base, hold_by, hold_of}
+use Rattle.advance_retreat.specs.Spots.{IsVisibleAt, IsHold, first_known, has_next_base, has_counted_right, has_known_right, hold_by}
 use Rattle.advance_retreat.specs.Standing.{node_of, kept_record, about, is_applied, StandsFor}
 use Rattle.advance_retreat.proofs.CharLaws.{own_char, char_there}
 use Rattle.advance_retreat.proofs.Cuts.{cut_at}
@@ -43,9 +44,16 @@ module _ (s : Kept) (b : ℕ) (events : List (Applied ℕ)) (prepared : List ℕ
       let among : Among cut.here (rs s b events prepared st) = subst (Among cut.here) (sym cut.whole) (joined_right cut.front _ cut.here (inl refl)) in
       ap (λ (r : Stretch). is_there s.attached r.from) (sym cut.image) ∙ char_there s b events prepared st cut.here.node (own_char s b events prepared st cut.here among)
 
--- by the counts, a new character hangs where it should
-pub hold_is : (rs : List Stretch) (attached : List Attached) (c : Counted) → AreRights rs attached c → (b : ℕ) (l : Left) (left : Node) (next : Option Node) → left ≡ l.node → next ≡ first_known (drop l.behind rs)
-    → hold_by (has_next_base b left || nat_lt 0 (c.count left)) next left ≡ hold_of b rs attached l
-hold_is rs attached c rights b l left next here behind =
-    (λ i. hold_by (has_next_base b (here i) || nat_lt 0 (c.count (here i))) (behind i) (here i))
-    ∙ ap (λ known. hold_by (has_next_base b l.node || known) (first_known (drop l.behind rs)) l.node) (ap (nat_lt 0) (rights.counts l.node) ∙ known_child rs attached l.node)
+-- the counts tell which nodes have right children
+pub counted_right : (ks : List Stretch) (attached : List Attached) (c : Counted) → AreRights ks attached c → (b : ℕ) (v : Node) → has_counted_right b c v ≡ has_known_right b ks attached v
+counted_right ks attached c rights b v = ap (λ known. has_next_base b v || known) (ap (nat_lt 0) (rights.counts v) ∙ known_child ks attached v)
+
+-- so by them a new character hangs where it should
+pub hold_is : (ks : List Stretch) (attached : List Attached) (c : Counted) → AreRights ks attached c → (b at : ℕ) (o : Option Hold)
+    → IfSome o (IsHold (has_counted_right b c) ks at) → IfSome o (IsHold (has_known_right b ks attached) ks at)
+hold_is ks attached c rights b at None h = tt
+hold_is ks attached c rights b at (Some hold) h = record {
+  left = h.left;
+  here = h.here;
+  is = h.is ∙ ap (λ (known : Bool). hold_by known (first_known (drop h.left.behind ks)) h.left.node) (counted_right ks attached c rights b h.left.node);
+}

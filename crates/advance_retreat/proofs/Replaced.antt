@@ -1,6 +1,6 @@
 -- One record in the place of another, and counts of them.
-use Rattle.std.proofs.Common.{◌≡◌, ℕ, suc, ◌+◌, ◌≤◌, Bool, true, false, cond, ◌||◌, List, [], ◌∷◌, ◌++◌, map, filter, length, take, drop, insert, Contains, if◌then◌else◌, refl, sym, ap, ◌∙◌, subst, arith, length-append, take-append-drop}
-use Rattle.std.specs.List.{AllByRecursion, list_any}
+use Rattle.std.proofs.Common.{◌≡◌, ℕ, suc, ◌+◌, ◌≤◌, Bool, true, false, cond, ◌||◌, List, [], ◌∷◌, ◌++◌, map, filter, length, take, drop, insert, Contains, if◌then◌else◌, refl, sym, ap, ◌∙◌, arith, length-append, take-append-drop}
+use Rattle.std.specs.List.{list_any}
 use Rattle.std.proofs.lemmas.Bool.{false≢true}
 use Rattle.ew_model.specs.declared.node.Node.{Node}
 use Rattle.walker_record.specs.Stretches.{Stretch}
@@ -33,14 +33,6 @@ module _ (ps : List (ℕ × Stretch)) (rising : IsRising ps) (label : ℕ) (was 
     now = ap chars_in (changed_is label now ps was at) ∙ chars-append at.front (((label, now) ∷ []) ++ at.back)
         ∙ ap (λ (xs : List Stretch). chars_in at.front ++ (xs ++ chars_in at.back)) (one_record now alone);
   }
-
-  -- what all keep to, it keeps to
-  pub single_keeps : (P : Stretch → Type 0) → AllByRecursion P (chars_in ps) → P was
-  single_keeps P all = at_here (chars_in at.front) (subst (λ (xs : List Stretch). AllByRecursion P xs) single_chars all)
-    where
-      at_here : (xs : List Stretch) → AllByRecursion P (xs ++ was ∷ chars_in at.back) → P was
-      at_here [] h = h.0
-      at_here (x ∷ xs) h = at_here xs h.1
 
 -- where none is of the node, a change of it changes none
 pub none_changed : (xs : List Stretch) (v : Node) (change : Change) → list_any (is_of v) xs ≡ false → map (changed_at v change) xs ≡ xs

@@ -1,9 +1,9 @@
 -- Where a node's character stands.
-use Rattle.std.proofs.Common.{rules, ◌≡◌, ℕ, ◌+◌, ◌-◌, ◌≤◌, true, Option, IsSome, IfNone, List, None, Some, Contains, refl, sym, ap, ◌∙◌, subst, arith}
+use Rattle.std.proofs.Common.{rules, ◌≡◌, ℕ, ◌+◌, ◌-◌, ◌≤◌, true, Option, IsSome, IfSome, IfNone, List, None, Some, Contains, refl, sym, ap, ◌∙◌, subst, arith}
 use Rattle.std.proofs.lemmas.Bool.{false≢true, leb-true, le-leb}
 use Rattle.ew_model.specs.declared.node.Node.{Node}
 use Rattle.ew_model.specs.declared.node.Node.TheVariants.{Root, Base, Event}
-use Rattle.walker_record.specs.Stretches.{Stretch, node_on, HasNumbers}
+use Rattle.walker_record.specs.Stretches.{Stretch, node_on}
 use Rattle.advance_retreat.specs.declared.labels.Labels.{Labels}
 use Rattle.advance_retreat.specs.Labelled.{label_of, is_up_to, IsLast}
 use Rattle.advance_retreat.specs.Laid.{Stands, AreLabelled, IsOffset}
@@ -71,16 +71,10 @@ module _ (ps : List (ℕ × Stretch)) (t : Labels) (laid : AreLabelled ps t) whe
       not_some : (n : ℕ) → None ≡ Some n → ⊥
       not_some n e = cc
 
--- the node at a spot
-pub same_node : (ps : List (ℕ × Stretch)) (label n : ℕ) (run : Stretch) (v : Node) → IsRising ps → Contains ps (label, run) → Stands ps label n v → node_on run.from n ≡ v
-same_node ps label n run v rising held s = ap (λ (r : Stretch). node_on r.from n) (same_run ps label run s.run rising held s.held) ∙ s.node
-
--- so many of a node's followers have numbers, where more have
-pub fewer_numbers : (v : Node) (m n : ℕ) → m ≤ n → HasNumbers v n → HasNumbers v m
-fewer_numbers Root m n le h = h
-fewer_numbers (Base i) m n le h = omega (arith, le, h)
-fewer_numbers (Event i) m n le h = omega (arith, le, h)
-
 pub if_none : {A : Type 0} (o : Option A) (P : Type 0) → P → IfNone o P
 if_none None P h = h
 if_none (Some x) P h = tt
+
+pub if_some_both : {A : Type 0} (o : Option A) (P Q R : A → Type 0) → ((x : A) → P x → Q x → R x) → IfSome o P → IfSome o Q → IfSome o R
+if_some_both None P Q R f h k = tt
+if_some_both (Some x) P Q R f h k = f x h k

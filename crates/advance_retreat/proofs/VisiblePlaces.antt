@@ -1,14 +1,15 @@
 -- The visible character with an index, in a list of runs.
-use Rattle.std.proofs.Common.{◌≡◌, ℕ, suc, ◌+◌, ◌<◌, Bool, true, false, cond, List, [], ◌∷◌, ◌++◌, Contains, map, filter, length, take, drop, Some, slice_get, nat_eq, refl, sym, ap, ◌∙◌, arith}
+use Rattle.std.proofs.Common.{◌≡◌, ℕ, suc, ◌+◌, ◌<◌, Bool, true, false, cond, List, [], ◌∷◌, ◌++◌, Contains, map, filter, length, take, drop, Some, slice_get, nat_eq, inr, refl, sym, ap, ◌∙◌, arith}
 use Rattle.std.proofs.lemmas.Bool.{eqb-true}
 use Rattle.std.proofs.lemmas.List.{length-append}
 use Rattle.std.proofs.lemmas.List.Elements.{filter-append}
+use Rattle.ew_model.specs.declared.node.Node.{Node}
 use Rattle.walker_record.specs.Stretches.{Stretch, node_on, states_from, prepared_of, effect_of}
 use Rattle.order_tree.specs.Pairs.{IsRising, IsPlace, lower, greater, total}
 use Rattle.order_tree.proofs.PairLaws.{total-append, total-cons}
 use Rattle.advance_retreat.specs.Kept.{is_visible, visible_in, shown_in, deletion_by}
 use Rattle.advance_retreat.specs.Laid.{record_of, records_of, chars_in}
-use Rattle.advance_retreat.specs.Spots.{IsVisibleAt}
+use Rattle.advance_retreat.specs.Spots.{IsVisibleAt, IsLeft}
 use Rattle.advance_retreat.proofs.PartedRuns.{Parted, parted, lower_is}
 use Rattle.advance_retreat.proofs.RunChars.{one, counted_in, visible-chars, shown-chars, around, char_at, chars_before, chars_behind}
 use Rattle.advance_retreat.proofs.CutPairs.{greater_is}
@@ -64,6 +65,12 @@ module _ (ps : List (ℕ × Stretch)) (at label place : ℕ) (rising : IsRising 
 
   abbrev pub visible_place : IsVisibleAt (chars_in ps) at place_in
   visible_place = (there, at_place, visible_there, before)
+
+  -- it stands before the next index
+  pub left_place : (v : Node) → v ≡ node_on is.run.from place → IsLeft (chars_in ps) (at + 1) (record { node = v; behind = suc place_in })
+  left_place v node =
+      let index : at + 1 ≡ suc (visible_in (take place_in (chars_in ps))) = omega (arith, before) in
+      inr (place_in, there, at_place, visible_there, index, node, refl)
 
   -- what stands behind it
   pub behind_place : drop (suc place_in) (chars_in ps) ≡ drop (place + 1) (records_of is.run) ++ chars_in (greater ps label)

@@ -1,11 +1,13 @@
 -- What the calls of a state require.
-use Rattle.std.specs.Prelude.{◌≡◌, ℕ, nat_eq, true, false, List}
+use Rattle.std.specs.Prelude.{◌≡◌, ℕ, nat_eq, true, false, List, [], ◌∷◌}
 use Rattle.std.specs.List.{list_any}
 use Rattle.ew_model.specs.declared.id.Id.{Id}
 use Rattle.ew_model.specs.Sets.{Among}
 use Rattle.ew_model.specs.Tree.{Applied}
-use Rattle.ew_model.specs.Records.{holds, inserts_as, MayAdvance, MayRetreat}
-use Rattle.advance_retreat.specs.Standing.{is_applied}
+use Rattle.ew_model.specs.Records.{holds, without, inserts_as, MayAdvance, MayRetreat}
+use Rattle.ew_model.specs.Moves.{after_advances, after_retreats}
+use Rattle.advance_retreat.specs.Kept.{Kept}
+use Rattle.advance_retreat.specs.Standing.{is_applied, StandsFor}
 
 -- no event has this position
 abbrev pub IsNewPosition : List (Applied ℕ) → ℕ → Type 0
@@ -26,6 +28,29 @@ MayAdvanceTo events prepared lv = is_applied events lv × MayAdvance events prep
 
 abbrev pub MayRetreatFrom : List (Applied ℕ) → List ℕ → ℕ → Type 0
 MayRetreatFrom events prepared lv = is_applied events lv × MayRetreat events prepared lv
+
+-- each of the events may come in where those before it did, and each may be taken out where those before it were
+abbrev pub MayAdvanceEach : List (Applied ℕ) → List ℕ → List ℕ → Type 0
+MayAdvanceEach events prepared [] = Unit {0}
+MayAdvanceEach events prepared (x ∷ xs) = MayAdvanceTo events prepared x × MayAdvanceEach events (x ∷ prepared) xs
+
+abbrev pub MayRetreatEach : List (Applied ℕ) → List ℕ → List ℕ → Type 0
+MayRetreatEach events prepared [] = Unit {0}
+MayRetreatEach events prepared (x ∷ xs) = MayRetreatFrom events prepared x × MayRetreatEach events (without x prepared) xs
+
+-- the first of all these advances were made, and the rest of them may be made now
+pub record Advanced (s : Kept) (b : ℕ) (events : List (Applied ℕ)) (prepared all rest : List ℕ) : Type 0 where
+  pub now : List ℕ
+  pub stands : StandsFor s b events now
+  pub may : MayAdvanceEach events now rest
+  pub same : after_advances now rest ≡ after_advances prepared all
+
+-- the same of retreats
+pub record Retreated (s : Kept) (b : ℕ) (events : List (Applied ℕ)) (prepared all rest : List ℕ) : Type 0 where
+  pub now : List ℕ
+  pub stands : StandsFor s b events now
+  pub may : MayRetreatEach events now rest
+  pub same : after_retreats now rest ≡ after_retreats prepared all
 
 -- all events are prepared
 abbrev pub AllPrepared : List (Applied ℕ) → List ℕ → Type 0

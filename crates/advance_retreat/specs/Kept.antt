@@ -1,5 +1,6 @@
 -- What a state keeps: a record for each character, in order, and which character each event is about.
-use Rattle.std.specs.Prelude.{◌≡◌, ℕ, zero, suc, ◌+◌, ◌<◌, ◌^◌, nat_eq, nat_lt, Bool, true, false, ◌&&◌, if◌then◌else◌, List, [], ◌∷◌, ◌++◌, map, filter, find, length, Option, option_map}
+use Rattle.std.specs.Prelude.{◌≡◌, ℕ, zero, suc, ◌+◌, ◌-◌, ◌<◌, ◌^◌, nat_eq, nat_lt, Bool, true, false, ◌&&◌, if◌then◌else◌, List, [], ◌∷◌, ◌++◌, map, filter, find, length, Option, Some, None, option_map, slice_get}
+use Rattle.std.specs.Option.{option_or, option_map_or}
 use Rattle.std.specs.List.{list_any}
 use Rattle.ew_model.specs.declared.node.Node.{Node}
 use Rattle.ew_model.specs.declared.node.Node.TheVariants.{Base}
@@ -65,6 +66,23 @@ base_records (suc n) = base_records n ++ single (Base n) 1 true ∷ []
 -- the character that the event at a position is about
 abbrev pub target_at : List Target → ℕ → Option Node
 target_at targets n = option_map (λ (t : Target). t.node) (find (λ (t : Target). nat_eq t.lv n) targets)
+
+-- where the event at a position stands if the positions behind the first go on by one
+abbrev pub place_in : List Target → ℕ → ℕ
+place_in targets n = option_map_or (λ (first : Target). n - first.lv) (slice_get targets 0) 0
+
+-- one more event stands so
+abbrev pub is_next : List Target → ℕ → Bool
+is_next targets n = nat_eq (place_in targets n) (length targets)
+
+-- the character of an event, if it has the position
+abbrev pub node_for : ℕ → Option Target → Option Node
+node_for n None = None
+node_for n (Some t) = if nat_eq t.lv n then Some t.node else None
+
+-- the character of the event that stands so, else what is kept under the position
+abbrev pub found_in : List Target → (ℕ → Option Node) → ℕ → Option Node
+found_in targets others n = option_or (node_for n (slice_get targets (place_in targets n))) (others n)
 
 -- such a search finds what the list tells
 abbrev pub AreFound : List Target → (ℕ → Option Node) → Type 0

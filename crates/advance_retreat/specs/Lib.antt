@@ -4,6 +4,8 @@ pub mod Kept
 pub mod Labelled
 pub mod Laid
 pub mod Loose
+pub mod Noted
+pub mod Parents
 pub mod Refusals
 pub mod Replacing
 pub mod Rights

@@ -1,6 +1,5 @@
 -- How many right children of each node are inserted in what is prepared.
-use Rattle.std.specs.Prelude.{◌≡◌, ℕ, ◌+◌, ◌<◌, ◌≤◌, ◌^◌, Bool, ◌&&◌, if◌then◌else◌, List, filter, length, Option, Some, None, IsSome, unwrap_or}
-use Rattle.std.specs.Ordering.{nat_cmp}
+use Rattle.std.specs.Prelude.{◌≡◌, ℕ, ◌+◌, ◌<◌, ◌≤◌, ◌^◌, Bool, ◌&&◌, if◌then◌else◌, true, List, [], map, filter, length, Option, Some, None, IsSome, unwrap_or}
 use Rattle.std.specs.BTreeMap.{get}
 use Rattle.ew_model.specs.declared.node.Node.{Node}
 use Rattle.ew_model.specs.declared.node.Node.TheVariants.{Root, Base, Event}
@@ -10,9 +9,14 @@ use Rattle.fugue_place.specs.declared.child.Attached.{Attached}
 use Rattle.fugue_place.specs.declared.child.Side.TheVariants.{Right as right}
 use Rattle.fugue_place.specs.Neighbours.{is_child, side_eq}
 use Rattle.fugue_place.specs.Spots.{node_cmp}
+use Rattle.fugue_place.specs.Attachments.{is_there, AreAttached}
+use Rattle.advance_retreat.specs.declared.change.Change.{Change}
+use Rattle.advance_retreat.specs.declared.change.Positions.{Positions}
+use Rattle.advance_retreat.specs.declared.runs.changing.Known.{Known}
 use Rattle.advance_retreat.specs.declared.rights.Rights.{Rights}
 use Rattle.advance_retreat.specs.Kept.{knows}
-use Rattle.advance_retreat.specs.Replacing.{one_if}
+use Rattle.advance_retreat.specs.Noted.{told}
+use Rattle.advance_retreat.specs.Replacing.{one_if, changed_in}
 
 -- the records of characters, the runs that they are kept in, and the children of the tree's nodes
 pub record InTree : Type 0 where
@@ -50,14 +54,14 @@ or_none o = unwrap_or o 0
 
 -- what the tables tell
 abbrev pub counted : Rights → Counted
-counted r = record { parent_at = get nat_cmp r.parents; count = λ v. or_none (get node_cmp r.counts v) }
+counted r = record { parent_at = told r.parents; count = λ v. or_none (get node_cmp r.counts v) }
 
 -- each of those parents has a count
 abbrev pub HaveCounts : (ℕ → Option Node) → (Node → Option ℕ) → Type 0
 HaveCounts parent_at count_at = (n : ℕ) (p : Node) → parent_at n ≡ Some p → IsSome (count_at p)
 
 abbrev pub IsWhole : Rights → Type 0
-IsWhole r = HaveCounts (get nat_cmp r.parents) (get node_cmp r.counts)
+IsWhole r = HaveCounts (told r.parents) (get node_cmp r.counts)
 
 -- the tables tell of the attached children
 pub record KeepRights (rs : List Stretch) (attached : List Attached) (r : Rights) : Type 0 where
@@ -73,3 +77,11 @@ pub record Shifts (old new : Counted) (v : Node) (was is : Bool) : Type 0 where
 -- the count of the parent may change so
 abbrev pub MayShift : Counted → Node → Bool → Bool → Type 0
 MayShift c v was is = (p : Node) → parent_of c v ≡ Some p → (one_if was ≤ c.count p) × (c.count p + one_if is < 2 ^ 32)
+
+-- The nodes of the events at these positions hang in the tree, and a change brings each of them from the first state to the second.
+pub record ShiftEach (rs : List Stretch) (attached : List Attached) (change : Change) (at : Positions) (known : Known) : Type 0 where
+  pub sound : AreAttached [] attached
+  pub few : length rs ≤ 2 ^ 25
+  pub there : (n : ℕ) → at.from ≤ n → n < at.to → is_there attached (Event n) ≡ true
+  pub was : (n : ℕ) → at.from ≤ n → n < at.to → knows rs (Event n) ≡ known.was
+  pub is : (n : ℕ) → at.from ≤ n → n < at.to → knows (map (changed_in at change) rs) (Event n) ≡ known.is

@@ -11,9 +11,9 @@ use Rattle.fugue_place.specs.declared.neighbour.Place.{Place}
 use Rattle.fugue_place.specs.declared.neighbour.Place.TheVariants.{After, Before}
 use Rattle.fugue_place.specs.Attachments.{is_there, is_attached, has_id}
 use Rattle.fugue_place.specs.Neighbours.{is_child, has_beyond, IsPlaceOfNew}
-use Rattle.advance_retreat.specs.declared.characters.Gap.{Gap}
 use Rattle.advance_retreat.specs.declared.characters.Deletion.{Deletion}
 use Rattle.advance_retreat.specs.declared.spot.Hold.{Hold}
+use Rattle.advance_retreat.specs.Rights.{Counted}
 use Rattle.advance_retreat.specs.Kept.{Kept, is_inserted, is_of, knows, visible_in, shown_in, single, deletion_by}
 
 -- the visible character with this index stands at the place k
@@ -34,13 +34,6 @@ IsLeft rs at l =
 -- the node of the first record that is inserted in what is prepared
 abbrev pub first_known : List Stretch → Option Node
 first_known rs = option_map (λ (r : Stretch). r.from) (find is_inserted rs)
-
--- the gap at the index: what stands before it, and the first node behind that is inserted in what is prepared
-pub record IsGap (rs : List Stretch) (at : ℕ) (gap : Gap) : Type 0 where
-  pub left : Left
-  pub here : IsLeft rs at left
-  pub node : gap.left ≡ left.node
-  pub next : gap.next ≡ first_known (drop left.behind rs)
 
 -- the deletion of the visible character with this index, and what it does to the text
 pub record IsDeletion (rs : List Stretch) (at : ℕ) (deletion : Deletion) : Type 0 where
@@ -70,6 +63,16 @@ hold_by false next v = record { parent = v; side = right }
 
 abbrev pub hold_of : ℕ → List Stretch → List Attached → Left → Hold
 hold_of b rs attached l = hold_by (has_known_right b rs attached l.node) (first_known (drop l.behind rs)) l.node
+
+-- by the counts, a right child of the node is inserted in what is prepared
+abbrev pub has_counted_right : ℕ → Counted → Node → Bool
+has_counted_right b c v = has_next_base b v || nat_lt 0 (c.count v)
+
+-- what a new node hangs on at the index, where this tells which nodes have right children
+pub record IsHold (has_right : Node → Bool) (rs : List Stretch) (at : ℕ) (hold : Hold) : Type 0 where
+  pub left : Left
+  pub here : IsLeft rs at left
+  pub is : hold ≡ hold_by (has_right left.node) (first_known (drop left.behind rs)) left.node
 
 -- the place of a node, and 0 where none is of it
 abbrev pub IsPlaceOf : List Stretch → Node → (ℕ → ℕ) → ℕ → Type 0

@@ -18,6 +18,13 @@ pub enum Change {
     Strike,
 }
 
+/// The positions from `from` on that are below `to`.
+#[derive(Clone, Copy)]
+pub struct Positions {
+    pub from: u32,
+    pub to: u32,
+}
+
 /// A record after a change.
 pub fn changed(before: Record, change: Change) -> Record
     requires { HasRoom before }

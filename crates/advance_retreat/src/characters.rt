@@ -1,6 +1,6 @@
 //! The characters that a state keeps, in order.
 
-ghost use Rattle.std.specs.Prelude.{◌≡◌, ◌+◌, ◌*◌, ◌<◌, ◌≤◌, ◌^◌, Bool, List, true, false, ◌∷◌, [], ◌++◌, length, map, IfSome, IfNone, IfOk, OnOk, OnErr};
+ghost use Rattle.std.specs.Prelude.{◌≡◌, ℕ, ◌+◌, ◌*◌, ◌<◌, ◌≤◌, ◌^◌, Bool, List, true, false, ◌∷◌, [], ◌++◌, length, map, IfSome, IfNone, IfOk, OnOk, OnErr};
 ghost use Rattle.std.specs.List.{AllByRecursion, list_any};
 ghost use Rattle.ew_model.specs.declared.node.Node.{Node as Nodes};
 ghost use Rattle.ew_model.specs.declared.node.Node.TheVariants as nodes;
@@ -10,11 +10,14 @@ ghost use Rattle.advance_retreat.specs.Kept.{is_of, knows, visible_in, shown_in,
 ghost use Rattle.advance_retreat.specs.Entering.{attached_by, IsNewChild};
 ghost use Rattle.advance_retreat.specs.Laid.{records_in};
 ghost use Rattle.advance_retreat.specs.Loose.{loose_in, is_told};
-ghost use Rattle.advance_retreat.specs.Spots.{IsGap, IsDeletion, Comes};
+ghost use Rattle.advance_retreat.specs.Replacing.{ArePart, changed_in};
+ghost use Rattle.advance_retreat.specs.Rights.{counted};
+ghost use Rattle.advance_retreat.specs.Spots.{has_counted_right, IsHold, IsDeletion, Comes};
 
-use crate::change::Change;
-use crate::runs::{Child, Runs};
-use crate::spot::Hold;
+use crate::change::{Change, Positions};
+use crate::rights::Rights;
+use crate::runs::{Child, Known, Runs};
+use crate::spot::{Hold, has_known_right};
 use ew_model::NoMem;
 use ew_model::id::Id;
 use ew_model::node::Node;
@@ -41,15 +44,6 @@ impl Model for Characters {
     ghost view = { λ s. in_runs s.runs.tree.pairs };
 
     ghost invariant = { λ s. AreCounted s.runs.tree.pairs s.runs.labels s.visible s.shown };
-}
-
-/// What stands around an index of what is prepared.
-#[derive(Clone, Copy)]
-pub struct Gap {
-    /// The visible character before it, or the root.
-    pub left: Node,
-    /// The first character behind that one that is inserted, whether it is deleted or not.
-    pub next: Option<Node>,
 }
 
 /// The deletion of a character, and what that does to the text.
@@ -92,24 +86,18 @@ impl Characters {
         self.runs.count()
     }
 
-    /// Whether the node is inserted in what is prepared.
-    pub fn knows(&self, node: Node) -> bool
-        ensures { result ≡ knows self.now.records node }
-    {
-        self.knows_by::<Brand>(node, Blank::new(1))
-    }
-
-    /// What stands around an index of what is prepared. None where the index is past the end.
-    pub fn gap_at(&self, at: u32) -> Option<Gap>
-        ensures some { IfSome result (IsGap self.now.records at) }
+    /// What a new character hangs on at an index of what is prepared, by the right children of nodes and the number of base
+    /// characters. None where the index is past the end.
+    pub fn hold_at(&self, base: u32, rights: &Rights, at: u32) -> Option<Hold>
+        ensures some { IfSome result (IsHold (has_counted_right base (counted rights.now)) self.now.records at) }
         ensures none { IfNone result (visible_in self.now.records < at) }
     {
         if at > self.visible {
             None
         } else if at == 0 {
-            Some(self.first_gap::<Brand>(Blank::new(1)))
+            Some(self.first_hold::<Brand>(base, rights, Blank::new(1)))
         } else {
-            Some(self.gap_behind::<Brand>(at - 1, Blank::new(1)))
+            Some(self.hold_behind::<Brand>(base, rights, at - 1, Blank::new(1)))
         }
     }
 
@@ -125,15 +113,37 @@ impl Characters {
         }
     }
 
-    /// Changes the states of a character.
-    pub fn change(&mut self, node: Node, change: Change) -> Result<(), NoMem>
+    /// Changes the states of a character. Answers whether it is inserted, before and after.
+    pub fn change(&mut self, node: Node, change: Change) -> Result<Known, NoMem>
         requires { AllByRecursion HasRoom self.old.records }
         ensures ok { OnOk result (self.new.records ≡ map (changed_at node change) self.old.records) }
+        ensures was { IfOk result (λ k. k.was ≡ knows self.old.records node) }
+        ensures is { IfOk result (λ k. k.is ≡ knows self.new.records node) }
         ensures err { OnErr result (self.new.records ≡ self.old.records) }
         ensures loose { (among : Nodes → Bool) → loose_in among self.new.runs ≤ loose_in among self.old.runs + 2 }
         ensures told { (among : Nodes → Bool) → among node ≡ true → loose_in among self.new.runs ≤ loose_in among self.old.runs }
     {
         self.change_by::<Brand>(node, change, Blank::new(1))
+    }
+
+    /// Changes the states of the run of an event's character, where all of its characters are of events at positions within
+    /// these. Answers the positions of those events, and whether they are inserted before and after.
+    pub fn change_run(
+        &mut self,
+        lv: u32,
+        within: Positions,
+        change: Change,
+    ) -> Option<(Positions, Known)>
+        requires { AllByRecursion HasRoom self.old.records }
+        ensures part { IfSome result (λ r. ArePart lv r.0 within) }
+        ensures told { IfSome result (λ r. (n : ℕ) → r.0.from ≤ n → n < r.0.to → list_any (is_of (nodes.Event n)) self.old.records ≡ true) }
+        ensures records { IfSome result (λ r. self.new.records ≡ map (changed_in r.0 change) self.old.records) }
+        ensures was { IfSome result (λ r. (n : ℕ) → r.0.from ≤ n → n < r.0.to → knows self.old.records (nodes.Event n) ≡ r.1.was) }
+        ensures is { IfSome result (λ r. (n : ℕ) → r.0.from ≤ n → n < r.0.to → knows self.new.records (nodes.Event n) ≡ r.1.is) }
+        ensures none { IfNone result (self.new ≡ self.old) }
+        ensures loose { (among : Nodes → Bool) → loose_in among self.new.runs ≡ loose_in among self.old.runs }
+    {
+        self.change_run_by::<Brand>(lv, within, change, Blank::new(1))
     }
 
     /// Puts the character of a new event at a place, and attaches its node. Answers its index in the text.
@@ -179,44 +189,35 @@ fn base_by<L: Ledger>(alloc: Global, len: u32, blank: Blank) -> Result<Character
 }
 
 impl Characters {
-    fn knows_by<L: Ledger>(&self, node: Node, blank: Blank) -> bool
+    fn first_hold<L: Ledger>(&self, base: u32, rights: &Rights, blank: Blank) -> Hold
         requires name { blank.name ≡ L.name }
         requires parts { blank.parts ≡ L.parts }
         requires some { 0 < blank.parts }
-        ensures { result ≡ knows self.now.records node }
+        ensures { IsHold (has_counted_right base (counted rights.now)) self.now.records 0 result }
     {
-        let mut visits: Steps<L> = Steps::new(blank);
-        self.runs.knows(node, &mut visits)
-    }
-
-    fn first_gap<L: Ledger>(&self, blank: Blank) -> Gap
-        requires name { blank.name ≡ L.name }
-        requires parts { blank.parts ≡ L.parts }
-        requires some { 0 < blank.parts }
-        ensures { IsGap self.now.records 0 result }
-    {
+        if !has_known_right(base, rights, Node::Root) {
+            return Hold::right_of(Node::Root);
+        }
         let mut visits: Steps<L> = Steps::new(blank);
         let _runs = self.runs.count();
-        Gap {
-            left: Node::Root,
-            next: self.runs.first_known(0, &mut visits),
-        }
+        Hold::behind(Node::Root, self.runs.first_known(0, &mut visits))
     }
 
-    fn gap_behind<L: Ledger>(&self, at: u32, blank: Blank) -> Gap
+    fn hold_behind<L: Ledger>(&self, base: u32, rights: &Rights, at: u32, blank: Blank) -> Hold
         requires name { blank.name ≡ L.name }
         requires parts { blank.parts ≡ L.parts }
         requires some { 0 < blank.parts }
         requires within { at < visible_in self.now.records }
-        ensures { IsGap self.now.records (at + 1) result }
+        ensures { IsHold (has_counted_right base (counted rights.now)) self.now.records (at + 1) result }
     {
         let mut visits: Steps<L> = Steps::new(blank);
         let _runs = self.runs.count();
-        let spot = self.runs.visible_at(at, &mut visits);
-        Gap {
-            left: self.runs.node(spot, &mut visits),
-            next: self.runs.known_behind(spot, &mut visits),
+        let found = self.runs.visible_at(at, &mut visits);
+        let left = found.node();
+        if !has_known_right(base, rights, left) {
+            return Hold::right_of(left);
         }
+        Hold::behind(left, self.runs.known_behind(&found, &mut visits))
     }
 
     fn deletion_by<L: Ledger>(&self, at: u32, blank: Blank) -> Deletion
@@ -228,10 +229,10 @@ impl Characters {
     {
         let mut visits: Steps<L> = Steps::new(blank);
         let _runs = self.runs.count();
-        let spot = self.runs.visible_at(at, &mut visits);
+        let found = self.runs.visible_at(at, &mut visits);
         Deletion {
-            node: self.runs.node(spot, &mut visits),
-            op: self.runs.deletion(spot, &mut visits),
+            node: found.node(),
+            op: self.runs.deletion(&found),
         }
     }
 
@@ -240,23 +241,54 @@ impl Characters {
         node: Node,
         change: Change,
         blank: Blank,
-    ) -> Result<(), NoMem>
+    ) -> Result<Known, NoMem>
         requires name { blank.name ≡ L.name }
         requires parts { blank.parts ≡ L.parts }
         requires some { 0 < blank.parts }
         requires room { AllByRecursion HasRoom self.old.records }
         ensures ok { OnOk result (self.new.records ≡ map (changed_at node change) self.old.records) }
+        ensures was { IfOk result (λ k. k.was ≡ knows self.old.records node) }
+        ensures is { IfOk result (λ k. k.is ≡ knows self.new.records node) }
         ensures err { OnErr result (self.new.records ≡ self.old.records) }
         ensures loose { (among : Nodes → Bool) → loose_in among self.new.runs ≤ loose_in among self.old.runs + 2 }
         ensures told { (among : Nodes → Bool) → among node ≡ true → loose_in among self.new.runs ≤ loose_in among self.old.runs }
     {
         let mut visits: Steps<L> = Steps::new(blank);
         let Some(altered) = self.runs.change(node, change, &mut visits)? else {
-            return Ok(());
+            return Ok(Known {
+                was: false,
+                is: false,
+            });
         };
         self.visible = altered.visible(self.visible);
         self.shown = altered.shown(self.shown);
-        Ok(())
+        Ok(altered.known())
+    }
+
+    fn change_run_by<L: Ledger>(
+        &mut self,
+        lv: u32,
+        within: Positions,
+        change: Change,
+        blank: Blank,
+    ) -> Option<(Positions, Known)>
+        requires name { blank.name ≡ L.name }
+        requires parts { blank.parts ≡ L.parts }
+        requires some { 0 < blank.parts }
+        requires room { AllByRecursion HasRoom self.old.records }
+        ensures part { IfSome result (λ r. ArePart lv r.0 within) }
+        ensures told { IfSome result (λ r. (n : ℕ) → r.0.from ≤ n → n < r.0.to → list_any (is_of (nodes.Event n)) self.old.records ≡ true) }
+        ensures records { IfSome result (λ r. self.new.records ≡ map (changed_in r.0 change) self.old.records) }
+        ensures was { IfSome result (λ r. (n : ℕ) → r.0.from ≤ n → n < r.0.to → knows self.old.records (nodes.Event n) ≡ r.1.was) }
+        ensures is { IfSome result (λ r. (n : ℕ) → r.0.from ≤ n → n < r.0.to → knows self.new.records (nodes.Event n) ≡ r.1.is) }
+        ensures none { IfNone result (self.new ≡ self.old) }
+        ensures loose { (among : Nodes → Bool) → loose_in among self.new.runs ≡ loose_in among self.old.runs }
+    {
+        let mut visits: Steps<L> = Steps::new(blank);
+        let recast = self.runs.change_run(lv, within, change, &mut visits)?;
+        self.visible = recast.altered.visible(self.visible);
+        self.shown = recast.altered.shown(self.shown);
+        Some((recast.positions, recast.altered.known()))
     }
 
     fn insert_by<L: Ledger>(

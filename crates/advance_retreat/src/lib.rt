@@ -7,6 +7,7 @@ mod characters;
 mod fault;
 mod labels;
 mod offsets;
+mod parents;
 mod rights;
 mod runs;
 mod spot;

@@ -40,10 +40,19 @@ pub fn node_on(node: Node, n: u32) -> Node
     }
 }
 
+/// The node with this number in a run.
+pub fn node_at(run: &Record, offset: u32) -> Node
+    requires { offset < run.now.len }
+    ensures { result ≡ node_on run.now.from offset }
+{
+    node_on(run.from, offset)
+}
+
 /// The node behind the one with this number in a run, where it is in the run too.
 pub fn node_behind(run: &Record, offset: u32) -> Option<Node>
     requires { offset < run.now.len }
     ensures some { IfSome result (λ v. v ≡ node_on run.now.from (offset + 1)) }
+    ensures inside { IfSome result (λ _. offset + 1 < run.now.len) }
     ensures none { IfNone result (run.now.len ≡ offset + 1) }
 {
     if run.len > offset + 1 {

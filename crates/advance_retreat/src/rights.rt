@@ -1,15 +1,21 @@
 //! How many right children of each node are inserted in what is prepared.
 
-ghost use Rattle.std.specs.Prelude.{◌≡◌, ◌<◌, ◌^◌, ℕ, None, Some, OnOk, OnErr, IsSome, false, nat_eq, nat_lt, if◌then◌else◌};
+ghost use Rattle.std.specs.Prelude.{◌≡◌, ◌<◌, ◌≤◌, ◌^◌, ℕ, List, map, None, Some, OnOk, OnErr, IsSome, false, nat_eq, nat_lt, if◌then◌else◌};
 ghost use Rattle.std.specs.BTreeMap.{get, is_at};
 ghost use Rattle.ew_model.specs.declared.node.Node.{Node as Nodes};
+ghost use Rattle.walker_record.specs.Stretches.{Stretch};
+ghost use Rattle.fugue_place.specs.declared.child.Attached.{Attached};
 ghost use Rattle.fugue_place.specs.declared.child.Side.TheVariants.{Right as right};
 ghost use Rattle.fugue_place.specs.Neighbours.{side_eq};
 ghost use Rattle.fugue_place.specs.Spots.{node_cmp};
-ghost use Rattle.advance_retreat.specs.Rights.{parent_of, or_none, counted, IsWhole, Shifts, MayShift};
+ghost use Rattle.advance_retreat.specs.declared.change.Change.{Change as Changes};
+ghost use Rattle.advance_retreat.specs.Replacing.{changed_in};
+ghost use Rattle.advance_retreat.specs.Rights.{parent_of, or_none, counted, AreRights, IsWhole, Shifts, ShiftEach, MayShift};
 
+use crate::change::Positions;
+use crate::parents::Parents;
+use crate::runs::Known;
 use crate::spot::Hold;
-use crate::target::{forget, keep, node_at};
 use ew_model::NoMem;
 use ew_model::node::Node;
 use fugue_place::Side;
@@ -20,7 +26,7 @@ use std::collections::BTreeMap;
 #[derive(Drop)]
 pub struct Rights {
     /// By the positions of the children's events.
-    parents: BTreeMap<u32, Node>,
+    parents: Parents,
     /// Each of those parents has a count.
     counts: BTreeMap<Node, u32>,
 }
@@ -32,7 +38,7 @@ impl Rights {
         ensures counts { (v : Nodes) → (counted result).count v ≡ 0 }
     {
         Rights {
-            parents: BTreeMap::new(alloc),
+            parents: Parents::new(alloc),
             counts: BTreeMap::new(alloc),
         }
     }
@@ -54,13 +60,10 @@ impl Rights {
         ensures counts { (v : Nodes) → (counted self.new).count v ≡ (counted self.old).count v }
     {
         match hold.side {
-            Side::Left => {
-                forget(&mut self.parents, lv);
-                Ok(())
-            }
+            Side::Left => self.parents.note(lv, None),
             Side::Right => {
                 begin(&mut self.counts, hold.parent)?;
-                keep(&mut self.parents, lv, hold.parent)
+                self.parents.note(lv, Some(hold.parent))
             }
         }
     }
@@ -83,12 +86,26 @@ impl Rights {
         set_count(&mut self.counts, parent, count);
     }
 
+    /// The nodes of the events at these positions came from the first state to the second.
+    pub fn shift_each(&mut self, at: Positions, known: Known)
+        requires order { at.from ≤ at.to }
+        requires whole { IsWhole self.old }
+        requires may { (rs : List Stretch) × (attached : List Attached) × (change : Changes) × AreRights rs attached (counted self.old) × ShiftEach rs attached change at known }
+        ensures whole { IsWhole self.new }
+        ensures rights { (rs : List Stretch) (attached : List Attached) (change : Changes) → AreRights rs attached (counted self.old) → ShiftEach rs attached change at known
+            → AreRights (map (changed_in at change) rs) attached (counted self.new) }
+    {
+        for lv in at.from..at.to {
+            self.shift(Node::Event(lv), known.was, known.is);
+        }
+    }
+
     /// The parent of a right child.
     fn parent(&self, node: Node) -> Option<Node>
         ensures { result ≡ parent_of (counted self.now) node }
     {
         match node {
-            Node::Event(lv) => node_at(&self.parents, lv),
+            Node::Event(lv) => self.parents.at(lv),
             Node::Root | Node::Base(_) => None,
         }
     }

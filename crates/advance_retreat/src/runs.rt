@@ -2,6 +2,7 @@
 
 ghost use Rattle.std.specs.Prelude.{◌≡◌, ◌<◌, ◌≤◌, [], None, IfOk, length};
 ghost use Rattle.ew_model.specs.declared.node.Node.{Node as Nodes};
+ghost use Rattle.walker_record.specs.Stretches.{node_on};
 ghost use Rattle.advance_retreat.specs.Kept.{base_records};
 ghost use Rattle.advance_retreat.specs.Labelled.{label_of};
 ghost use Rattle.advance_retreat.specs.Laid.{AreLabelled, chars_in};
@@ -16,6 +17,8 @@ mod reading;
 mod relabelling;
 
 use crate::labels::Labels;
+use crate::offsets::node_at;
+pub use changing::Known;
 pub use child::Child;
 use ew_model::NoMem;
 use ew_model::node::Node;
@@ -37,6 +40,24 @@ pub struct Runs {
 pub struct Spot {
     pub label: u64,
     pub offset: u32,
+}
+
+/// A character that was found: where it stands, its run, and how many characters of the text are in runs with lower labels.
+#[derive(Clone, Copy)]
+pub struct Found {
+    pub spot: Spot,
+    pub run: Record,
+    pub before: u32,
+}
+
+impl Found {
+    /// Its node.
+    pub fn node(&self) -> Node
+        requires { self.now.spot.offset < self.now.run.len }
+        ensures { result ≡ node_on self.now.run.from self.now.spot.offset }
+    {
+        node_at(&self.run, self.spot.offset)
+    }
 }
 
 impl Runs {

@@ -1,10 +1,10 @@
 //! What a new character hangs on.
 
-ghost use Rattle.std.specs.Prelude.{◌≡◌, ◌||◌, nat_lt};
+ghost use Rattle.std.specs.Prelude.{◌≡◌, Option, true, false};
+ghost use Rattle.ew_model.specs.declared.node.Node.{Node as Nodes};
 ghost use Rattle.advance_retreat.specs.Rights.{counted};
-ghost use Rattle.advance_retreat.specs.Spots.{has_next_base, hold_by};
+ghost use Rattle.advance_retreat.specs.Spots.{has_counted_right, has_next_base, hold_by};
 
-use crate::characters::Gap;
 use crate::rights::Rights;
 use ew_model::node::Node;
 use fugue_place::Side;
@@ -16,26 +16,34 @@ pub struct Hold {
     pub side: Side,
 }
 
-/// Where a character goes in this gap: it is a right child of its left neighbour, or a left child of the node that follows in
-/// what is prepared, where that is a right child already.
-pub fn hold_of(base: u32, rights: &Rights, gap: Gap) -> Hold
-    ensures { result ≡ hold_by (has_next_base base gap.left || nat_lt 0 ((counted rights.now).count gap.left)) gap.next gap.left }
-{
-    match gap.next {
-        Some(next) if has_known_right(base, rights, gap.left) => Hold {
-            parent: next,
-            side: Side::Left,
-        },
-        _ => Hold {
-            parent: gap.left,
+impl Hold {
+    /// A right child of the node, as where it has none.
+    pub fn right_of(node: Node) -> Hold
+        ensures { (next : Option Nodes) → result ≡ hold_by false next node }
+    {
+        Hold {
+            parent: node,
             side: Side::Right,
-        },
+        }
+    }
+
+    /// Behind a node that has a right child: a left child of the node that follows in what is prepared, where one does.
+    pub fn behind(node: Node, next: Option<Node>) -> Hold
+        ensures { result ≡ hold_by true next node }
+    {
+        match next {
+            Some(next) => Hold {
+                parent: next,
+                side: Side::Left,
+            },
+            None => Hold::right_of(node),
+        }
     }
 }
 
-/// Whether the node has a right child in what is prepared.
-fn has_known_right(base: u32, rights: &Rights, node: Node) -> bool
-    ensures { result ≡ (has_next_base base node || nat_lt 0 ((counted rights.now).count node)) }
+/// Whether the node has a right child in what is prepared, over a base of so many characters.
+pub fn has_known_right(base: u32, rights: &Rights, node: Node) -> bool
+    ensures { result ≡ has_counted_right base (counted rights.now) node }
 {
     has_next_base(base, node) || rights.has_known(node)
 }

@@ -1,11 +1,12 @@
 //! The state of a walker.
 
-ghost use Rattle.std.specs.Prelude.{◌≡◌, ℕ, None, ◌+◌, ◌*◌, ◌<◌, ◌≤◌, ◌^◌, ◌↔◌, nat_eq, nat_lt, ◌&&◌, true, false, List, [], ◌∷◌, ◌++◌, length, Err, IfOk, OnOk, OnErr};
-ghost use Rattle.std.specs.List.{AllByRecursion};
+ghost use Rattle.std.specs.Prelude.{◌≡◌, ℕ, None, ◌+◌, ◌-◌, ◌*◌, ◌<◌, ◌≤◌, ◌^◌, ◌↔◌, nat_eq, nat_lt, ◌&&◌, true, false, List, [], ◌∷◌, ◌++◌, length, reverse, Err, IfOk, OnOk, OnErr};
+ghost use Rattle.std.specs.List.{AllByRecursion, range_with_len};
 ghost use Rattle.ew_model.specs.Operations.{next_operation};
 ghost use Rattle.ew_model.specs.Entries.{visible};
 ghost use Rattle.ew_model.specs.Places.Act.{InsertAs, DeleteAt};
 ghost use Rattle.ew_model.specs.Tree.{Applied, tree_of};
+ghost use Rattle.ew_model.specs.Moves.{after_advances, after_retreats};
 ghost use Rattle.ew_model.specs.Records.{next_of, without, prepared_entries, applied_entries};
 ghost use Rattle.walker_record.specs.Stretches.{Stretch};
 ghost use Rattle.fugue_place.specs.Attachments.{is_there, AreAttached};
@@ -14,10 +15,10 @@ ghost use Rattle.advance_retreat.specs.Kept.{with_lost, with_deletion, target_at
 ghost use Rattle.advance_retreat.specs.Laid.{records_in};
 ghost use Rattle.advance_retreat.specs.Standing.{most, StandsFor};
 ghost use Rattle.advance_retreat.specs.Refusals.{lost_after, one_more};
-ghost use Rattle.advance_retreat.specs.Conditions.{MayInsert, MayDelete, MayAdvanceTo, MayRetreatFrom, AllPrepared};
+ghost use Rattle.advance_retreat.specs.Conditions.{MayInsert, MayDelete, MayAdvanceTo, MayRetreatFrom, MayAdvanceEach, MayRetreatEach, Advanced, Retreated, AllPrepared};
 ghost use Rattle.advance_retreat.specs.Spots.{MayHang, Puts};
 
-use crate::change::Change;
+use crate::change::{Change, Positions};
 use crate::fault::ApplyFault;
 use crate::spot::Hold;
 use crate::target::Targets;
@@ -163,7 +164,7 @@ impl State {
     {
         // A name has at least one byte.
         let _agent = id.agent.as_slice();
-        let Some(gap) = self.tree.gap_at(at) else {
+        let Some(hold) = self.tree.hold_at(self.base, at) else {
             return Err(ApplyFault::OutOfRange {
                 len: self.prepared_len(),
             });
@@ -172,7 +173,6 @@ impl State {
             self.lost = one_more(self.lost);
             return Err(ApplyFault::OutOfMemory);
         }
-        let hold = self.tree.hold_of(self.base, gap);
         let at = self.put(lv, id, hold)?;
         Ok(TextOp::Ins { at, ch })
     }
@@ -298,6 +298,105 @@ impl State {
         Ok(())
     }
 
+    /// Puts the events at the positions from `from` on that are below `to` into the prepared version, one after another from the
+    /// lowest position up. After an error for want of memory it stands for some version on the way.
+    pub fn advance_span<L: Ledger>(
+        &mut self,
+        from: u32,
+        to: u32,
+        steps: &mut Steps<L>,
+    ) -> Result<(), NoMem>
+        requires order { from ≤ to }
+        requires may { (b : ℕ) × (events : List (Applied ℕ)) × (prepared : List ℕ) × StandsFor self.old b events prepared × MayAdvanceEach events prepared (range_with_len from (to - from)) }
+        ensures ok { (b : ℕ) (events : List (Applied ℕ)) (prepared : List ℕ) → StandsFor self.old b events prepared → MayAdvanceEach events prepared (range_with_len from (to - from)) → OnOk result (StandsFor self.new b events (after_advances prepared (range_with_len from (to - from)))) }
+        ensures err { (b : ℕ) (events : List (Applied ℕ)) (prepared : List ℕ) → StandsFor self.old b events prepared → MayAdvanceEach events prepared (range_with_len from (to - from)) → OnErr result ((later : List ℕ) × StandsFor self.new b events later) }
+        ensures lost { self.new.lost ≡ self.old.lost }
+        ensures steps { OnOk result (steps.new ≡ steps.old + (to - from)) }
+        ensures most { steps.new ≤ steps.old + (to - from) }
+    {
+        let mut at = from;
+        while at < to {
+            at = self.advance_some(Positions { from: at, to }, steps)?;
+        }
+        Ok(())
+    }
+
+    /// Puts the first of the events at these positions into the prepared version, and with it those behind it whose characters
+    /// are one run with its own. Answers the position of the next.
+    fn advance_some<L: Ledger>(&mut self, at: Positions, steps: &mut Steps<L>) -> Result<u32, NoMem>
+        requires some { at.from < at.to }
+        requires may { (b : ℕ) × (events : List (Applied ℕ)) × (prepared : List ℕ) × StandsFor self.old b events prepared × MayAdvanceEach events prepared (range_with_len at.from (at.to - at.from)) }
+        ensures low { IfOk result (λ next. at.from < next) }
+        ensures high { IfOk result (λ next. next ≤ at.to) }
+        ensures ok { (b : ℕ) (events : List (Applied ℕ)) (prepared : List ℕ) → StandsFor self.old b events prepared → MayAdvanceEach events prepared (range_with_len at.from (at.to - at.from))
+            → IfOk result (λ next. Advanced self.new b events prepared (range_with_len at.from (at.to - at.from)) (range_with_len next (at.to - next))) }
+        ensures err { OnErr result (self.new ≡ self.old) }
+        ensures lost { self.new.lost ≡ self.old.lost }
+        ensures steps { IfOk result (λ next. steps.new + at.from ≡ steps.old + next) }
+        ensures most { OnErr result (steps.new ≡ steps.old + 1) }
+    {
+        match self.tree.change_run(at.from, at, Change::Raise) {
+            Some(moved) => {
+                tick_each(moved.to - moved.from, steps);
+                Ok(moved.to)
+            }
+            None => {
+                self.advance(at.from, steps)?;
+                Ok(at.from + 1)
+            }
+        }
+    }
+
+    /// Takes the events at the positions from `from` on that are below `to` out of the prepared version, one after another from
+    /// the highest position down. After an error for want of memory it stands for some version on the way.
+    pub fn retreat_span<L: Ledger>(
+        &mut self,
+        from: u32,
+        to: u32,
+        steps: &mut Steps<L>,
+    ) -> Result<(), NoMem>
+        requires order { from ≤ to }
+        requires may { (b : ℕ) × (events : List (Applied ℕ)) × (prepared : List ℕ) × StandsFor self.old b events prepared × MayRetreatEach events prepared (reverse (range_with_len from (to - from))) }
+        ensures ok { (b : ℕ) (events : List (Applied ℕ)) (prepared : List ℕ) → StandsFor self.old b events prepared → MayRetreatEach events prepared (reverse (range_with_len from (to - from))) → OnOk result (StandsFor self.new b events (after_retreats prepared (reverse (range_with_len from (to - from))))) }
+        ensures err { (b : ℕ) (events : List (Applied ℕ)) (prepared : List ℕ) → StandsFor self.old b events prepared → MayRetreatEach events prepared (reverse (range_with_len from (to - from))) → OnErr result ((later : List ℕ) × StandsFor self.new b events later) }
+        ensures lost { self.new.lost ≡ self.old.lost }
+        ensures steps { OnOk result (steps.new ≡ steps.old + (to - from)) }
+        ensures most { steps.new ≤ steps.old + (to - from) }
+    {
+        let mut at = to;
+        while from < at {
+            at = self.retreat_some(Positions { from, to: at }, steps)?;
+        }
+        Ok(())
+    }
+
+    /// Takes the last of the events at these positions out of the prepared version, and with it those before it whose characters
+    /// are one run with its own. Answers the first position that was taken out.
+    fn retreat_some<L: Ledger>(&mut self, at: Positions, steps: &mut Steps<L>) -> Result<u32, NoMem>
+        requires some { at.from < at.to }
+        requires may { (b : ℕ) × (events : List (Applied ℕ)) × (prepared : List ℕ) × StandsFor self.old b events prepared × MayRetreatEach events prepared (reverse (range_with_len at.from (at.to - at.from))) }
+        ensures low { IfOk result (λ next. at.from ≤ next) }
+        ensures high { IfOk result (λ next. next < at.to) }
+        ensures ok { (b : ℕ) (events : List (Applied ℕ)) (prepared : List ℕ) → StandsFor self.old b events prepared → MayRetreatEach events prepared (reverse (range_with_len at.from (at.to - at.from)))
+            → IfOk result (λ next. Retreated self.new b events prepared (reverse (range_with_len at.from (at.to - at.from))) (reverse (range_with_len at.from (next - at.from)))) }
+        ensures err { OnErr result (self.new ≡ self.old) }
+        ensures lost { self.new.lost ≡ self.old.lost }
+        ensures steps { IfOk result (λ next. steps.new + next ≡ steps.old + at.to) }
+        ensures most { OnErr result (steps.new ≡ steps.old + 1) }
+    {
+        let last = at.to - 1;
+        match self.tree.change_run(last, at, Change::Lower) {
+            Some(moved) => {
+                tick_each(moved.to - moved.from, steps);
+                Ok(moved.from)
+            }
+            None => {
+                self.retreat(last, steps)?;
+                Ok(last)
+            }
+        }
+    }
+
     /// Forgets all events: what they leave of the text is the base from now on.
     pub fn clear(&mut self) -> Result<(), NoMem>
         requires { (b : ℕ) × (events : List (Applied ℕ)) × (prepared : List ℕ) × StandsFor self.old b events prepared × AllPrepared events prepared }
@@ -316,4 +415,13 @@ fn one_more(n: u32) -> u32
     ensures { result ≡ one_more n }
 {
     n.saturating_add(1)
+}
+
+/// Counts so many steps.
+fn tick_each<L: Ledger>(count: u32, steps: &mut Steps<L>)
+    ensures { steps.new ≡ steps.old + count }
+{
+    for _ in 0..count {
+        steps.tick();
+    }
 }

@@ -4,7 +4,7 @@ ghost use Rattle.std.specs.Prelude.{◌≡◌, None, Some, [], ◌∷◌, ◌++�
 ghost use Rattle.std.specs.Ordering.{nat_cmp};
 ghost use Rattle.std.specs.BTreeMap.{get};
 ghost use Rattle.advance_retreat.specs.declared.target.Target.{Target as One};
-ghost use Rattle.advance_retreat.specs.Kept.{target_at};
+ghost use Rattle.advance_retreat.specs.Kept.{target_at, place_in, is_next};
 
 use ew_model::NoMem;
 use ew_model::node::Node;
@@ -20,11 +20,12 @@ pub struct Target {
 }
 
 /// The characters of the applied events, which are found by the events' positions. Contracts see a list of them, in the order
-/// in which the events were applied.
+/// in which the events were applied. Where the positions behind the first go on by one, an event is found by its place there.
 #[derive(Drop)]
 pub struct Targets {
     applied: Vec<Target>,
-    nodes: BTreeMap<u32, Node>,
+    /// The characters of the events that stand elsewhere.
+    others: BTreeMap<u32, Node>,
 }
 
 impl Model for Targets {
@@ -32,13 +33,13 @@ impl Model for Targets {
     ghost use Rattle.std.specs.Ordering.{nat_cmp};
     ghost use Rattle.std.specs.BTreeMap.{get};
     ghost use Rattle.advance_retreat.specs.declared.target.Target.{Target};
-    ghost use Rattle.advance_retreat.specs.Kept.{AreFound};
+    ghost use Rattle.advance_retreat.specs.Kept.{AreFound, found_in};
 
     ghost Value = { List Target };
 
     ghost view = { λ t. t.applied.items };
 
-    ghost invariant = { λ t. AreFound t.applied.items (get nat_cmp t.nodes) };
+    ghost invariant = { λ t. AreFound t.applied.items (found_in t.applied.items (get nat_cmp t.others)) };
 }
 
 impl Targets {
@@ -48,7 +49,7 @@ impl Targets {
     {
         Targets {
             applied: Vec::new(alloc),
-            nodes: BTreeMap::new(alloc),
+            others: BTreeMap::new(alloc),
         }
     }
 
@@ -68,7 +69,10 @@ impl Targets {
     pub fn node(&self, lv: u32) -> Option<Node>
         ensures { result ≡ target_at self.now lv }
     {
-        node_at(&self.nodes, lv)
+        match self.applied.get(place(&self.applied, lv)) {
+            Some(target) if target.lv == lv => Some(target.node),
+            _ => node_at(&self.others, lv),
+        }
     }
 
     /// Adds an event with a new position.
@@ -78,7 +82,9 @@ impl Targets {
         ensures err { OnErr result (self.new ≡ self.old) }
     {
         self.applied.reserve(1)?;
-        keep(&mut self.nodes, lv, node)?;
+        if !is_next(&self.applied, lv) {
+            keep(&mut self.others, lv, node)?;
+        }
         self.applied.push_reserved(Target { lv, node });
         Ok(())
     }
@@ -89,8 +95,25 @@ impl Targets {
         ensures { (ts : List One) (t : One) → self.old ≡ ts ++ t ∷ [] → self.new ≡ ts }
     {
         let _ = self.applied.pop();
-        forget(&mut self.nodes, lv);
+        forget(&mut self.others, lv);
     }
+}
+
+/// Where an event stands if the positions behind the first go on by one up to its own.
+fn place(applied: &[Target], lv: u32) -> usize
+    ensures { result ≡ place_in applied.now lv }
+{
+    match applied.first() {
+        Some(first) => lv.saturating_sub(first.lv) as usize,
+        None => 0,
+    }
+}
+
+/// Whether one more event is found by its place.
+fn is_next(applied: &[Target], lv: u32) -> bool
+    ensures { result ≡ is_next applied.now lv }
+{
+    place(applied, lv) == applied.len()
 }
 
 pub fn node_at(nodes: &BTreeMap<u32, Node>, lv: u32) -> Option<Node>

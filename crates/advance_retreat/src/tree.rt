@@ -1,6 +1,6 @@
 //! The characters of a state, and the tree that their nodes hang in.
 
-ghost use Rattle.std.specs.Prelude.{◌≡◌, ◌+◌, ◌*◌, ◌<◌, ◌≤◌, ◌^◌, Bool, List, true, false, ◌∷◌, [], ◌++◌, length, map, drop, IfSome, IfNone, IfOk, OnOk, OnErr};
+ghost use Rattle.std.specs.Prelude.{◌≡◌, ℕ, ◌+◌, ◌*◌, ◌<◌, ◌≤◌, ◌^◌, Bool, List, true, false, ◌∷◌, [], ◌++◌, length, map, IfSome, IfNone, IfOk, OnOk, OnErr};
 ghost use Rattle.std.specs.List.{AllByRecursion, list_any};
 ghost use Rattle.ew_model.specs.declared.node.Node.{Node as Nodes};
 ghost use Rattle.ew_model.specs.declared.node.Node.TheVariants as nodes;
@@ -12,12 +12,13 @@ ghost use Rattle.advance_retreat.specs.declared.target.Target.{Target};
 ghost use Rattle.advance_retreat.specs.Kept.{is_of, visible_in, shown_in, base_records, changed_at, HasRoom};
 ghost use Rattle.advance_retreat.specs.Laid.{records_in};
 ghost use Rattle.advance_retreat.specs.Loose.{loose_in, is_told};
-ghost use Rattle.advance_retreat.specs.Spots.{Left, IsGap, IsDeletion, Comes, first_known, hold_of};
+ghost use Rattle.advance_retreat.specs.Replacing.{ArePart, changed_in};
+ghost use Rattle.advance_retreat.specs.Spots.{IsHold, IsDeletion, Comes, has_known_right};
 
-use crate::change::Change;
-use crate::characters::{Characters, Deletion, Gap};
+use crate::change::{Change, Positions};
+use crate::characters::{Characters, Deletion};
 use crate::rights::Rights;
-use crate::spot::{Hold, hold_of};
+use crate::spot::Hold;
 use ew_model::NoMem;
 use ew_model::id::Id;
 use ew_model::node::Node;
@@ -81,19 +82,13 @@ impl Tree {
         self.characters.runs()
     }
 
-    /// What stands around an index of what is prepared. None where the index is past the end.
-    pub fn gap_at(&self, at: u32) -> Option<Gap>
-        ensures some { IfSome result (IsGap self.now.records at) }
+    /// What a new character hangs on at an index of what is prepared, over a base of so many characters. None where the index is
+    /// past the end.
+    pub fn hold_at(&self, base: u32, at: u32) -> Option<Hold>
+        ensures some { IfSome result (IsHold (has_known_right base self.now.records self.now.attached) self.now.records at) }
         ensures none { IfNone result (visible_in self.now.records < at) }
     {
-        self.characters.gap_at(at)
-    }
-
-    /// What a new character hangs on in this gap, over a base of so many characters.
-    pub fn hold_of(&self, base: u32, gap: Gap) -> Hold
-        ensures { (left : Left) → gap.left ≡ left.node → gap.next ≡ first_known (drop left.behind self.now.records) → result ≡ hold_of base self.now.records self.now.attached left }
-    {
-        hold_of(base, &self.rights, gap)
+        self.characters.hold_at(base, &self.rights, at)
     }
 
     /// The deletion of the character at an index of what is prepared. None where no character is there.
@@ -116,11 +111,28 @@ impl Tree {
         ensures loose { (among : Nodes → Bool) → loose_in among self.new.runs ≤ loose_in among self.old.runs + 2 }
         ensures told { (among : Nodes → Bool) → among node ≡ true → loose_in among self.new.runs ≤ loose_in among self.old.runs }
     {
-        let was = self.characters.knows(node);
-        self.characters.change(node, change)?;
-        let is = self.characters.knows(node);
-        self.rights.shift(node, was, is);
+        let known = self.characters.change(node, change)?;
+        self.rights.shift(node, known.was, known.is);
         Ok(())
+    }
+
+    /// Changes the states of the run of an event's character, where all of its characters are of events at positions within
+    /// these. Answers the positions of those events.
+    pub fn change_run(&mut self, lv: u32, within: Positions, change: Change) -> Option<Positions>
+        requires room { AllByRecursion HasRoom self.old.records }
+        requires few { length self.old.records ≤ 2 ^ 25 }
+        requires sound { AreAttached [] self.old.attached }
+        requires there { (n : ℕ) → list_any (is_of (nodes.Event n)) self.old.records ≡ true → is_there self.old.attached (nodes.Event n) ≡ true }
+        ensures part { IfSome result (λ p. ArePart lv p within) }
+        ensures told { IfSome result (λ p. (n : ℕ) → p.from ≤ n → n < p.to → list_any (is_of (nodes.Event n)) self.old.records ≡ true) }
+        ensures records { IfSome result (λ p. self.new.records ≡ map (changed_in p change) self.old.records) }
+        ensures none { IfNone result (self.new ≡ self.old) }
+        ensures attached { self.new.attached ≡ self.old.attached }
+        ensures loose { (among : Nodes → Bool) → loose_in among self.new.runs ≡ loose_in among self.old.runs }
+    {
+        let (positions, known) = self.characters.change_run(lv, within, change)?;
+        self.rights.shift_each(positions, known);
+        Some(positions)
     }
 
     /// Attaches the node of a new event, and puts its character beside its neighbour. Answers its index in the text.

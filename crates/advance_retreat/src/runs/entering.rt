@@ -1,17 +1,17 @@
 //! Characters of new children that come in.
 
-ghost use Rattle.std.specs.Prelude.{◌≡◌, ◌+◌, ◌<◌, ◌≤◌, Bool, true, [], ◌∷◌, ◌++◌, IfOk, OnOk, OnErr, length, Contains};
+ghost use Rattle.std.specs.Prelude.{◌≡◌, ◌+◌, ◌<◌, ◌≤◌, Bool, true, [], ◌∷◌, ◌++◌, IfOk, IfSome, OnOk, OnErr, length, Contains};
 ghost use Rattle.ew_model.specs.declared.node.Node.{Node as Nodes};
 ghost use Rattle.ew_model.specs.declared.node.Node.TheVariants as nodes;
 ghost use Rattle.walker_record.specs.Stretches.{Stretch, effect_of, is_continued};
 ghost use Rattle.fugue_place.specs.declared.neighbour.Place.TheVariants as place;
 ghost use Rattle.order_tree.specs.Pairs.{HasRoom, total, lower, up_to, runs};
 ghost use Rattle.advance_retreat.specs.Entering.{run_of, attached_by, IsNewChild, EntersAt};
-ghost use Rattle.advance_retreat.specs.Laid.{AreLabelled, chars_in};
+ghost use Rattle.advance_retreat.specs.Laid.{Stands, AreLabelled, chars_in};
 ghost use Rattle.advance_retreat.specs.Loose.{loose_in, loose_parted};
 ghost use Rattle.advance_retreat.specs.Spots.{Comes};
 
-use crate::runs::{Child, Runs};
+use crate::runs::{Child, Found, Runs, Spot};
 use ew_model::NoMem;
 use ew_model::node::Node;
 use ew_model::steps::Steps;
@@ -62,6 +62,7 @@ impl Runs {
         &mut self,
         label: u64,
         front: &Record,
+        before: u32,
         siblings: &mut Siblings,
         child: &Child,
         visits: &mut Steps<L>,
@@ -70,6 +71,7 @@ impl Runs {
         requires new { IsNewChild (chars_in self.old.tree.pairs) siblings.old child.now }
         requires held { Contains self.old.tree.pairs (label, front.now) }
         requires some { 0 < front.now.len }
+        requires before { before ≡ total effect_of (lower self.old.tree.pairs label) }
         requires goes_on { is_continued front.now (run_of child.now 1) ≡ true }
         ensures laid { AreLabelled self.new.tree.pairs self.new.labels }
         ensures enters { IfOk result (EntersAt (chars_in self.old.tree.pairs) (chars_in self.new.tree.pairs) child.now (length (chars_in (up_to self.old.tree.pairs label)))) }
@@ -83,39 +85,61 @@ impl Runs {
         let _runs = self.tree.runs();
         let joined = front.join(&child.run());
         self.tree.change(label, joined, visits);
-        let before = self.shown_before(label, visits);
         let at = before + front.len;
         Ok(at)
     }
 
-    /// Puts a new child's character behind the run of a label, behind which one is free: into that run, if it goes on there.
-    fn append<L: Ledger>(
+    /// A node's character, where it is the last of its run and a new child's goes on with that run.
+    fn going_on<L: Ledger>(&self, node: Node, child: &Child, visits: &mut Steps<L>) -> Option<Found>
+        requires { AreLabelled self.now.tree.pairs self.now.labels }
+        ensures some { IfSome result (λ f. Stands self.now.tree.pairs f.spot.label f.spot.offset node) }
+        ensures held { IfSome result (λ f. Contains self.now.tree.pairs (f.spot.label, f.run)) }
+        ensures last { IfSome result (λ f. f.run.len ≡ f.spot.offset + 1) }
+        ensures before { IfSome result (λ f. f.before ≡ total effect_of (lower self.now.tree.pairs f.spot.label)) }
+        ensures goes_on { IfSome result (λ f. is_continued f.run (run_of child.now 1) ≡ true) }
+    {
+        let found = self.run_of(node, visits)?;
+        let is_last = found.run.len - found.offset == 1;
+        let goes_on = found.run.joinable(&child.run());
+        if is_last && goes_on {
+            Some(Found {
+                spot: Spot {
+                    label: found.label,
+                    offset: found.offset,
+                },
+                run: found.run,
+                before: self.shown_before(found.label, visits),
+            })
+        } else {
+            None
+        }
+    }
+
+    /// Puts a new child's character right behind that of a node, or before all where it has none, as a run of its own. Answers
+    /// its index in the text. After an error for want of memory the characters and the children are the same.
+    fn insert_apart<L: Ledger>(
         &mut self,
-        label: u64,
+        node: Node,
         siblings: &mut Siblings,
         child: &Child,
         visits: &mut Steps<L>,
     ) -> Result<u32, NoMem>
         requires laid { AreLabelled self.old.tree.pairs self.old.labels }
         requires new { IsNewChild (chars_in self.old.tree.pairs) siblings.old child.now }
-        requires held { (r : Stretch) × Contains self.old.tree.pairs (label, r) × (0 < r.len) }
-        requires room { HasRoom self.old.tree.pairs label }
-        requires few { length self.old.tree.pairs < 4294967295 }
         ensures laid { AreLabelled self.new.tree.pairs self.new.labels }
-        ensures enters { IfOk result (EntersAt (chars_in self.old.tree.pairs) (chars_in self.new.tree.pairs) child.now (length (chars_in (up_to self.old.tree.pairs label)))) }
+        ensures comes { IfOk result (Comes (chars_in self.old.tree.pairs) (chars_in self.new.tree.pairs) (place.After node) child.now.lv) }
         ensures attached { OnOk result (siblings.new ≡ siblings.old ++ attached_by child.now ∷ []) }
         ensures err { OnErr result (chars_in self.new.tree.pairs ≡ chars_in self.old.tree.pairs) }
         ensures detached { OnErr result (siblings.new ≡ siblings.old) }
-        ensures told { OnOk result ((among : Nodes → Bool) → among (nodes.Event child.now.lv) ≡ true → loose_in among (runs self.new.tree.pairs) ≤ loose_parted among (runs self.old.tree.pairs) (length (up_to self.old.tree.pairs label))) }
-        ensures loose { OnErr result ((among : Nodes → Bool) → loose_in among (runs self.new.tree.pairs) ≤ loose_in among (runs self.old.tree.pairs) + 1) }
+        ensures told { OnOk result ((among : Nodes → Bool) → among (nodes.Event child.now.lv) ≡ true → loose_in among (runs self.new.tree.pairs) ≤ loose_in among (runs self.old.tree.pairs)) }
+        ensures loose { OnErr result ((among : Nodes → Bool) → loose_in among (runs self.new.tree.pairs) ≤ loose_in among (runs self.old.tree.pairs) + 2) }
     {
+        self.cut_behind(node, visits)?;
+        let room = self.make_room(node, visits)?;
         let _runs = self.tree.runs();
-        let front = self.record(label, visits);
-        let goes_on = front.joinable(&child.run());
-        if goes_on {
-            self.lengthen(label, &front, siblings, child, visits)
-        } else {
-            self.insert_run(label, siblings, child, visits)
+        match room {
+            Some(spot) => self.insert_run(spot.label, siblings, child, visits),
+            None => self.insert_run(0, siblings, child, visits),
         }
     }
 
@@ -138,12 +162,13 @@ impl Runs {
         ensures told { OnOk result ((among : Nodes → Bool) → among (nodes.Event child.now.lv) ≡ true → loose_in among (runs self.new.tree.pairs) ≤ loose_in among (runs self.old.tree.pairs)) }
         ensures loose { OnErr result ((among : Nodes → Bool) → loose_in among (runs self.new.tree.pairs) ≤ loose_in among (runs self.old.tree.pairs) + 2) }
     {
-        self.cut_behind(node, visits)?;
-        let room = self.make_room(node, visits)?;
         let _runs = self.tree.runs();
-        match room {
-            Some(spot) => self.append(spot.label, siblings, child, visits),
-            None => self.insert_run(0, siblings, child, visits),
+        match self.going_on(node, child, visits) {
+            Some(found) => {
+                let label = found.spot.label;
+                self.lengthen(label, &found.run, found.before, siblings, child, visits)
+            }
+            None => self.insert_apart(node, siblings, child, visits),
         }
     }
 }

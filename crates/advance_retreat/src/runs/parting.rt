@@ -93,11 +93,10 @@ impl Runs {
         ensures cut { MayBeCut (runs self.old.tree.pairs) (runs self.new.tree.pairs) (node_on node 1) }
     {
         let _runs = self.tree.runs();
-        let Some(spot) = self.find(node, visits) else {
+        let Some(found) = self.run_of(node, visits) else {
             return Ok(());
         };
-        let run = self.tree.locate(spot.label, visits);
-        match node_behind(run, spot.offset) {
+        match node_behind(&found.run, found.offset) {
             Some(next) => self.cut(next, visits),
             None => Ok(()),
         }

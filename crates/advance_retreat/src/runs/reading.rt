@@ -4,17 +4,25 @@ ghost use Rattle.std.specs.Prelude.{◌≡◌, ◌<◌, ◌+◌, ℕ, IfSome, If
 ghost use Rattle.ew_model.specs.declared.node.Node.{Node as Nodes};
 ghost use Rattle.walker_record.specs.Stretches.{Stretch, prepared_of, effect_of};
 ghost use Rattle.order_tree.specs.Pairs.{IsRising, total, labels, lower, greater, IsPlace};
-ghost use Rattle.advance_retreat.specs.Kept.{knows, deletion_by};
-ghost use Rattle.advance_retreat.specs.Laid.{Stands, AreLabelled, records_of, chars_in};
+ghost use Rattle.advance_retreat.specs.Kept.{deletion_by};
+ghost use Rattle.advance_retreat.specs.Laid.{Stands, IsOffset, AreLabelled, records_of, chars_in};
 ghost use Rattle.advance_retreat.specs.Spots.{first_known};
 
-use crate::offsets::{node_on, offset_in};
-use crate::runs::{Runs, Spot};
+use crate::offsets::{node_behind, offset_in};
+use crate::runs::{Found, Runs, Spot};
 use ew_model::node::Node;
 use ew_model::steps::Steps;
 use ew_model::text_op::TextOp;
 use std::sync::ledger::Ledger;
 use walker_record::Record;
+
+/// A run with its label, and the number of a character in it.
+#[derive(Clone, Copy)]
+pub struct Located {
+    pub label: u64,
+    pub run: Record,
+    pub offset: u32,
+}
 
 impl Runs {
     /// How many runs there are.
@@ -33,61 +41,71 @@ impl Runs {
         *self.tree.locate(label, visits)
     }
 
+    /// The run of a node's character, where it has one.
+    pub fn run_of<L: Ledger>(&self, node: Node, visits: &mut Steps<L>) -> Option<Located>
+        requires { AreLabelled self.now.tree.pairs self.now.labels }
+        ensures some { IfSome result (λ f. Stands self.now.tree.pairs f.label f.offset node) }
+        ensures held { IfSome result (λ f. Contains self.now.tree.pairs (f.label, f.run)) }
+        ensures offset { IfSome result (λ f. IsOffset f.run node f.offset) }
+        ensures inside { IfSome result (λ f. f.offset < f.run.len) }
+        ensures none { IfNone result ((label n : ℕ) → Stands self.now.tree.pairs label n node → ⊥) }
+        ensures rising { IsRising self.now.tree.pairs }
+    {
+        let _runs = self.tree.runs();
+        let label = self.labels.last_up_to(node)?;
+        let run = self.tree.locate(label, visits);
+        let offset = offset_in(run, node)?;
+        Some(Located {
+            label,
+            run: *run,
+            offset,
+        })
+    }
+
     /// Where a node's character stands.
     pub fn find<L: Ledger>(&self, node: Node, visits: &mut Steps<L>) -> Option<Spot>
         requires { AreLabelled self.now.tree.pairs self.now.labels }
         ensures some { IfSome result (λ s. Stands self.now.tree.pairs s.label s.offset node) }
         ensures none { IfNone result ((label n : ℕ) → Stands self.now.tree.pairs label n node → ⊥) }
     {
-        let _runs = self.tree.runs();
-        let label = self.labels.last_up_to(node)?;
-        let run = self.tree.locate(label, visits);
-        let offset = offset_in(run, node)?;
-        Some(Spot { label, offset })
+        let found = self.run_of(node, visits)?;
+        Some(Spot {
+            label: found.label,
+            offset: found.offset,
+        })
     }
 
-    /// Whether a node's character is inserted in what is prepared.
-    pub fn knows<L: Ledger>(&self, node: Node, visits: &mut Steps<L>) -> bool
-        requires { AreLabelled self.now.tree.pairs self.now.labels }
-        ensures { result ≡ knows (chars_in self.now.tree.pairs) node }
-    {
-        let _runs = self.tree.runs();
-        let Some(spot) = self.find(node, visits) else {
-            return false;
-        };
-        self.tree.locate(spot.label, visits).prepared > 0
-    }
-
-    /// The node at a spot.
-    pub fn node<L: Ledger>(&self, spot: Spot, visits: &mut Steps<L>) -> Node
-        requires { (v : Nodes) × Stands self.now.tree.pairs spot.label spot.offset v }
-        ensures { (v : Nodes) → Stands self.now.tree.pairs spot.label spot.offset v → result ≡ v }
-    {
-        let _runs = self.tree.runs();
-        let run = self.tree.locate(spot.label, visits);
-        node_on(run.from, spot.offset)
-    }
-
-    /// Where the visible character with this index stands.
-    pub fn visible_at<L: Ledger>(&self, at: u32, visits: &mut Steps<L>) -> Spot
+    /// The visible character with this index.
+    pub fn visible_at<L: Ledger>(&self, at: u32, visits: &mut Steps<L>) -> Found
         requires { at < total prepared_of self.now.tree.pairs }
-        ensures { IsPlace prepared_of self.now.tree.pairs at result.label result.offset }
-    {
-        let (label, offset) = self.tree.find_prepared(at, visits);
-        Spot { label, offset }
-    }
-
-    /// What the deletion of the character at a spot does to the text.
-    pub fn deletion<L: Ledger>(&self, spot: Spot, visits: &mut Steps<L>) -> TextOp
-        requires { (r : Stretch) × Contains self.now.tree.pairs (spot.label, r) × (spot.offset < r.len) }
-        ensures { (r : Stretch) → Contains self.now.tree.pairs (spot.label, r)
-            → result ≡ deletion_by r.effect (total effect_of (lower self.now.tree.pairs spot.label) + spot.offset) }
+        ensures place { IsPlace prepared_of self.now.tree.pairs at result.spot.label result.spot.offset }
+        ensures held { Contains self.now.tree.pairs (result.spot.label, result.run) }
+        ensures inside { result.spot.offset < result.run.len }
+        ensures before { result.before ≡ total effect_of (lower self.now.tree.pairs result.spot.label) }
     {
         let _runs = self.tree.runs();
-        let run = self.tree.locate(spot.label, visits);
-        if run.effect {
+        let visible = self.tree.find_visible(at, visits);
+        Found {
+            spot: Spot {
+                label: visible.label,
+                offset: visible.place,
+            },
+            run: *visible.run,
+            before: visible.before,
+        }
+    }
+
+    /// What the deletion of a character does to the text.
+    pub fn deletion(&self, found: &Found) -> TextOp
+        requires held { Contains self.now.tree.pairs (found.now.spot.label, found.now.run) }
+        requires inside { found.now.spot.offset < found.now.run.len }
+        requires before { found.now.before ≡ total effect_of (lower self.now.tree.pairs found.now.spot.label) }
+        ensures { result ≡ deletion_by found.now.run.effect (total effect_of (lower self.now.tree.pairs found.now.spot.label) + found.now.spot.offset) }
+    {
+        let _runs = self.tree.runs();
+        if found.run.effect {
             return TextOp::Del {
-                at: self.tree.effect_before(spot.label, visits) + spot.offset,
+                at: found.before + found.spot.offset,
             };
         }
         TextOp::Nothing
@@ -102,17 +120,17 @@ impl Runs {
         Some(self.tree.locate(next, visits).from)
     }
 
-    /// The first node behind a spot that is inserted in what is prepared.
-    pub fn known_behind<L: Ledger>(&self, spot: Spot, visits: &mut Steps<L>) -> Option<Node>
-        requires { (r : Stretch) × Contains self.now.tree.pairs (spot.label, r) × (spot.offset < r.len) }
-        ensures { (r : Stretch) → Contains self.now.tree.pairs (spot.label, r)
-            → result ≡ first_known (drop (spot.offset + 1) (records_of r) ++ chars_in (greater self.now.tree.pairs spot.label)) }
+    /// The first node behind a character that is inserted in what is prepared.
+    pub fn known_behind<L: Ledger>(&self, found: &Found, visits: &mut Steps<L>) -> Option<Node>
+        requires { found.now.spot.offset < found.now.run.len }
+        ensures { result ≡ first_known (drop (found.now.spot.offset + 1) (records_of found.now.run) ++ chars_in (greater self.now.tree.pairs found.now.spot.label)) }
     {
-        let _runs = self.tree.runs();
-        let run = self.tree.locate(spot.label, visits);
-        if run.prepared > 0 && spot.offset + 1 < run.len {
-            return Some(node_on(run.from, spot.offset + 1));
+        if found.run.prepared == 0 {
+            return self.first_known(found.spot.label, visits);
         }
-        self.first_known(spot.label, visits)
+        match node_behind(&found.run, found.spot.offset) {
+            Some(next) => Some(next),
+            None => self.first_known(found.spot.label, visits),
+        }
     }
 }

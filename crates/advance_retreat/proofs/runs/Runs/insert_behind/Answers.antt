@@ -1,156 +1,41 @@
-use Rattle.std.proofs.Common.{◌≡◌, ℕ, Option, IfSome, IfNone, List, length, ◌∙◌, subst, sym, arith, ◌+◌, ◌≤◌, Bool, true, ap}
-use Rattle.walker_record.specs.Stretches.{Stretch, node_on}
-use Rattle.fugue_place.specs.declared.neighbour.Place.TheVariants.{After}
-use Rattle.order_tree.specs.Pairs.{HasRoom, up_to, runs}
-use Rattle.advance_retreat.specs.declared.runs.Spot.{Spot}
-use Rattle.advance_retreat.specs.Entering.{IsNewChild, EntersAt}
-use Rattle.advance_retreat.specs.Laid.{Stands, chars_in}
-use Rattle.advance_retreat.specs.Spots.{Comes}
-use Rattle.advance_retreat.proofs.RunsAt.{same_chars}
-use Rattle.advance_retreat.proofs.Entered.{if_ok_then, on_err, on_err_then, still_ends, comes_behind, comes_first_behind}
+use Rattle.std.proofs.Common.{◌≡◌, ◌≤◌, Bool, true, length, inl, refl, arith}
 use Rattle.ew_model.specs.declared.node.Node.{Node}
-use Rattle.advance_retreat.specs.Loose.{loose_in, loose_parted, MayBeCut}
 use Rattle.ew_model.specs.declared.node.Node.TheVariants.{Event}
-use Rattle.advance_retreat.proofs.Parting.{on_ok_then}
-use Rattle.advance_retreat.proofs.LooseCuts.{may_loose}
-use Rattle.advance_retreat.proofs.LooseEntries.{behind_told, first_behind_told}
+use Rattle.fugue_place.specs.declared.neighbour.Place.TheVariants.{After}
+use Rattle.order_tree.specs.Pairs.{up_to, runs}
+use Rattle.advance_retreat.specs.Entering.{EntersAt}
+use Rattle.advance_retreat.specs.Laid.{chars_in}
+use Rattle.advance_retreat.specs.Loose.{loose_in, loose_parted}
+use Rattle.advance_retreat.specs.Spots.{Comes}
+use Rattle.advance_retreat.proofs.Entered.{if_ok_then, comes_behind}
+use Rattle.advance_retreat.proofs.LooseEntries.{behind_told}
+use Rattle.advance_retreat.proofs.Parting.{on_ok_then, last_ends}
 use Rattle.advance_retreat.proofs.runs.Runs.insert_behind.Goals as goal
-
-pub returns-in_err-room-clause-err : goal.returns-in_err-room-clause-err
-returns-in_err-room-clause-err g c =
-    on_err c.from_residual-in_err-room.result (chars_in c.make_room.new.self.tree.pairs ≡ chars_in c.args.self.now.tree.pairs)
-    (same_chars c.make_room.new.self.tree.pairs c.cut_behind.new.self.tree.pairs c.make_room.ensures.runs ∙ c.cut_behind.ensures.chars)
-
-pub append-requires-clause-new : goal.append-requires-clause-new
-append-requires-clause-new g c =
-    subst (λ (rs : List Stretch). IsNewChild rs c.args.siblings.now c.args.child.now)
-    (sym (same_chars c.make_room.new.self.tree.pairs c.cut_behind.new.self.tree.pairs c.make_room.ensures.runs ∙ c.cut_behind.ensures.chars)) c.requires.new
-
-pub append-requires-clause-held : goal.append-requires-clause-held
-append-requires-clause-held g c =
-    let qs = c.make_room.new.self.tree.pairs in
-    let s = subst (λ (o : Option Spot). IfSome o (λ s. Stands qs s.label s.offset c.args.node)) c.in-Some.is c.in_ok-room.ensures.spot in
-    let lt = s.inside in
-    (s.run, s.held, omega (arith, lt))
-
-pub append-requires-clause-room : goal.append-requires-clause-room
-append-requires-clause-room g c =
-    let qs = c.make_room.new.self.tree.pairs in
-    subst (λ (o : Option Spot). IfSome o (λ s. HasRoom qs s.label)) c.in-Some.is c.in_ok-room.ensures.behind
 
 pub returns-in-Some-clause-comes : goal.returns-in-Some-clause-comes
 returns-in-Some-clause-comes g c =
-    let qs = c.make_room.new.self.tree.pairs in
-    let cut = c.cut_behind.new.self.tree.pairs in
-    let s = subst (λ (o : Option Spot). IfSome o (λ s. Stands qs s.label s.offset c.args.node)) c.in-Some.is c.in_ok-room.ensures.spot in
-    let spot = c.in-Some.spot in
-    let ends = still_ends cut qs c.make_room.ensures.runs c.args.node c.in_ok-cut_behind.ensures.last in
-    let same = same_chars qs cut c.make_room.ensures.runs ∙ c.cut_behind.ensures.chars in
-    let old = chars_in c.args.self.now.tree.pairs in
-    let new = chars_in c.append.new.self.tree.pairs in
-    if_ok_then c.append.result (EntersAt (chars_in qs) new c.args.child.now (length (chars_in (up_to qs spot.label)))) (Comes old new (After c.args.node) c.args.child.now.lv)
-    (λ m e. comes_behind qs c.runs-runs.ensures.rising old new same c.args.child.now c.args.node m spot.label spot.offset s ends e) c.append.ensures.enters
-
-pub returns-in-Some-clause-err : goal.returns-in-Some-clause-err
-returns-in-Some-clause-err g c =
-    let qs = c.make_room.new.self.tree.pairs in
-    let old = chars_in c.args.self.now.tree.pairs in
-    let new = chars_in c.append.new.self.tree.pairs in
-    let same = same_chars qs c.cut_behind.new.self.tree.pairs c.make_room.ensures.runs ∙ c.cut_behind.ensures.chars in
-    on_err_then c.append.result (new ≡ chars_in qs) (new ≡ old) (λ e. e ∙ same) c.append.ensures.err
-
-pub insert_run-requires-clause-new : goal.insert_run-requires-clause-new
-insert_run-requires-clause-new g c =
-    subst (λ (rs : List Stretch). IsNewChild rs c.args.siblings.now c.args.child.now)
-    (sym (same_chars c.make_room.new.self.tree.pairs c.cut_behind.new.self.tree.pairs c.make_room.ensures.runs ∙ c.cut_behind.ensures.chars)) c.requires.new
-
-pub insert_run-requires-clause-room : goal.insert_run-requires-clause-room
-insert_run-requires-clause-room g c =
-    let qs = c.make_room.new.self.tree.pairs in
-    subst (λ (o : Option Spot). IfNone o (HasRoom qs 0)) c.in-None.is c.in_ok-room.ensures.before
-
-pub returns-in-None-clause-comes : goal.returns-in-None-clause-comes
-returns-in-None-clause-comes g c =
-    let qs = c.make_room.new.self.tree.pairs in
-    let cut = c.cut_behind.new.self.tree.pairs in
-    let none = subst (λ (o : Option Spot). IfNone o ((label n : ℕ) → Stands qs label n c.args.node → ⊥)) c.in-None.is c.in_ok-room.ensures.none in
-    let same = same_chars qs cut c.make_room.ensures.runs ∙ c.cut_behind.ensures.chars in
-    let old = chars_in c.args.self.now.tree.pairs in
-    let new = chars_in c.insert_run.new.self.tree.pairs in
-    if_ok_then c.insert_run.result (EntersAt (chars_in qs) new c.args.child.now (length (chars_in (up_to qs 0)))) (Comes old new (After c.args.node) c.args.child.now.lv)
-    (λ m e. comes_first_behind qs c.runs-runs.ensures.rising old new same c.args.child.now c.args.node m none e) c.insert_run.ensures.enters
-
-pub returns-in-None-clause-err : goal.returns-in-None-clause-err
-returns-in-None-clause-err g c =
-    let qs = c.make_room.new.self.tree.pairs in
-    let old = chars_in c.args.self.now.tree.pairs in
-    let new = chars_in c.insert_run.new.self.tree.pairs in
-    let same = same_chars qs c.cut_behind.new.self.tree.pairs c.make_room.ensures.runs ∙ c.cut_behind.ensures.chars in
-    on_err_then c.insert_run.result (new ≡ chars_in qs) (new ≡ old) (λ e. e ∙ same) c.insert_run.ensures.err
-
-pub returns-in_err-cut_behind-clause-loose : goal.returns-in_err-cut_behind-clause-loose
-returns-in_err-cut_behind-clause-loose g c =
     let ps = c.args.self.now.tree.pairs in
-    on_err c.from_residual.result ((among : Node → Bool) → loose_in among (runs c.cut_behind.new.self.tree.pairs) ≤ loose_in among (runs ps) + 2)
-    (λ among. let one = may_loose among (runs ps) (runs c.cut_behind.new.self.tree.pairs) (node_on c.args.node 1) c.cut_behind.ensures.cut in omega (arith, one))
-
-pub returns-in_err-room-clause-loose : goal.returns-in_err-room-clause-loose
-returns-in_err-room-clause-loose g c =
-    let ps = c.args.self.now.tree.pairs in
-    let qs = c.make_room.new.self.tree.pairs in
-    on_err c.from_residual-in_err-room.result ((among : Node → Bool) → loose_in among (runs qs) ≤ loose_in among (runs ps) + 2)
-    (λ among.
-    let same = ap (loose_in among) c.make_room.ensures.runs in
-    let one = may_loose among (runs ps) (runs c.cut_behind.new.self.tree.pairs) (node_on c.args.node 1) c.cut_behind.ensures.cut in
-    omega (arith, same, one))
+    let rising = c.runs-runs.ensures.rising in
+    let node = c.args.node in
+    let label = c.in-Some.found.spot.label in
+    let offset = c.in-Some.found.spot.offset in
+    let s = c.in-Some.ensures.some in
+    let last = c.in-Some.ensures.last in
+    let ends = last_ends ps c.args.self.now.labels c.requires.laid rising node label offset c.in-Some.found.run s c.in-Some.ensures.held (omega (arith, last)) in
+    let old = chars_in ps in
+    let new = chars_in c.lengthen.new.self.tree.pairs in
+    if_ok_then c.lengthen.result (EntersAt old new c.args.child.now (length (chars_in (up_to ps label)))) (Comes old new (After node) c.args.child.now.lv)
+    (λ m e. comes_behind ps rising old new refl c.args.child.now node m label offset s ends e) c.lengthen.ensures.enters
 
 pub returns-in-Some-clause-told : goal.returns-in-Some-clause-told
 returns-in-Some-clause-told g c =
     let ps = c.args.self.now.tree.pairs in
-    let qs = c.make_room.new.self.tree.pairs in
-    let cut = subst (λ (rs : List Stretch). MayBeCut (runs ps) rs (node_on c.args.node 1)) (sym c.make_room.ensures.runs) c.cut_behind.ensures.cut in
-    let s = subst (λ (o : Option Spot). IfSome o (λ s. Stands qs s.label s.offset c.args.node)) c.in-Some.is c.in_ok-room.ensures.spot in
-    let spot = c.in-Some.spot in
-    on_ok_then c.append.result ((among : Node → Bool) → among (Event c.args.child.now.lv) ≡ true → loose_in among (runs c.append.new.self.tree.pairs) ≤ loose_parted among (runs qs) (length (up_to qs spot.label)))
-    ((among : Node → Bool) → among (Event c.args.child.now.lv) ≡ true → loose_in among (runs c.append.new.self.tree.pairs) ≤ loose_in among (runs ps))
+    let label = c.in-Some.found.spot.label in
+    let offset = c.in-Some.found.spot.offset in
+    let new = runs c.lengthen.new.self.tree.pairs in
+    on_ok_then c.lengthen.result ((among : Node → Bool) → among (Event c.args.child.now.lv) ≡ true → loose_in among new ≤ loose_parted among (runs ps) (length (up_to ps label)))
+    ((among : Node → Bool) → among (Event c.args.child.now.lv) ≡ true → loose_in among new ≤ loose_in among (runs ps))
     (λ h among e.
     let le = h among e in
-    let told = behind_told among qs c.make_room.new.self.labels c.make_room.ensures.laid c.runs-runs.ensures.rising (runs ps) c.args.node spot.label spot.offset s cut in
-    omega (arith, le, told)) c.append.ensures.told
-
-pub returns-in-Some-clause-loose : goal.returns-in-Some-clause-loose
-returns-in-Some-clause-loose g c =
-    let ps = c.args.self.now.tree.pairs in
-    let qs = c.make_room.new.self.tree.pairs in
-    let cut = subst (λ (rs : List Stretch). MayBeCut (runs ps) rs (node_on c.args.node 1)) (sym c.make_room.ensures.runs) c.cut_behind.ensures.cut in
-    on_err_then c.append.result ((among : Node → Bool) → loose_in among (runs c.append.new.self.tree.pairs) ≤ loose_in among (runs qs) + 1)
-    ((among : Node → Bool) → loose_in among (runs c.append.new.self.tree.pairs) ≤ loose_in among (runs ps) + 2)
-    (λ h among.
-    let le = h among in
-    let one = may_loose among (runs ps) (runs qs) (node_on c.args.node 1) cut in
-    omega (arith, le, one)) c.append.ensures.loose
-
-pub returns-in-None-clause-told : goal.returns-in-None-clause-told
-returns-in-None-clause-told g c =
-    let ps = c.args.self.now.tree.pairs in
-    let qs = c.make_room.new.self.tree.pairs in
-    let cut = subst (λ (rs : List Stretch). MayBeCut (runs ps) rs (node_on c.args.node 1)) (sym c.make_room.ensures.runs) c.cut_behind.ensures.cut in
-    let none = subst (λ (o : Option Spot). IfNone o ((label n : ℕ) → Stands qs label n c.args.node → ⊥)) c.in-None.is c.in_ok-room.ensures.none in
-    on_ok_then c.insert_run.result ((among : Node → Bool) → among (Event c.args.child.now.lv) ≡ true → loose_in among (runs c.insert_run.new.self.tree.pairs) ≤ loose_parted among (runs qs) (length (up_to qs 0)))
-    ((among : Node → Bool) → among (Event c.args.child.now.lv) ≡ true → loose_in among (runs c.insert_run.new.self.tree.pairs) ≤ loose_in among (runs ps))
-    (λ h among e.
-    let le = h among e in
-    let told = first_behind_told among qs c.make_room.new.self.labels c.make_room.ensures.laid c.runs-runs.ensures.rising (runs ps) c.args.node none cut in
-    omega (arith, le, told)) c.insert_run.ensures.told
-
-pub returns-in-None-clause-loose : goal.returns-in-None-clause-loose
-returns-in-None-clause-loose g c =
-    let ps = c.args.self.now.tree.pairs in
-    let qs = c.make_room.new.self.tree.pairs in
-    let cut = subst (λ (rs : List Stretch). MayBeCut (runs ps) rs (node_on c.args.node 1)) (sym c.make_room.ensures.runs) c.cut_behind.ensures.cut in
-    on_err_then c.insert_run.result ((among : Node → Bool) → loose_in among (runs c.insert_run.new.self.tree.pairs) ≤ loose_in among (runs qs) + 1)
-    ((among : Node → Bool) → loose_in among (runs c.insert_run.new.self.tree.pairs) ≤ loose_in among (runs ps) + 2)
-    (λ h among.
-    let le = h among in
-    let one = may_loose among (runs ps) (runs qs) (node_on c.args.node 1) cut in
-    omega (arith, le, one)) c.insert_run.ensures.loose
+    let told = behind_told among ps c.args.self.now.labels c.requires.laid c.runs-runs.ensures.rising (runs ps) c.args.node label offset c.in-Some.ensures.some (inl refl) in
+    omega (arith, le, told)) c.lengthen.ensures.told

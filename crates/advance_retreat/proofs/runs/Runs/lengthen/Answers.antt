@@ -5,7 +5,7 @@ use Rattle.advance_retreat.specs.Entering.{EntersAt}
 use Rattle.advance_retreat.specs.Laid.{AreLabelled, chars_in}
 use Rattle.advance_retreat.proofs.KnownRuns.{held_label}
 use Rattle.advance_retreat.proofs.AlteredChars.{sums_fit}
-use Rattle.advance_retreat.proofs.Entered.{joined_enters, joined_long, joined_short, lower_joined, joined_labelled, on_err}
+use Rattle.advance_retreat.proofs.Entered.{joined_enters, joined_long, joined_short, joined_labelled, on_err}
 use Rattle.ew_model.specs.declared.node.Node.{Node}
 use Rattle.advance_retreat.specs.Loose.{loose_in, loose_parted}
 use Rattle.advance_retreat.proofs.LooseEntries.{joined_told}
@@ -35,9 +35,7 @@ change-requires-clause-fit g c =
 pub overflow_add-at : goal.overflow_add-at
 overflow_add-at g c =
     let ps = c.args.self.now.tree.pairs in
-    let is = c.change.ensures.pairs ∙ ap (λ (r : Stretch). changed ps c.args.label r) (c.join-joined.ensures ∙ ap (λ (r : Stretch). joined_of c.args.front.now r) c.run.ensures) in
-    let low = ap (λ (xs : List (ℕ × Stretch)). lower xs c.args.label) is ∙ lower_joined ps c.runs-runs.ensures.rising c.args.label c.args.front.now c.requires.held c.args.child.now c.requires.goes_on in
-    let count = c.shown_before-before.ensures ∙ ap (λ (xs : List (ℕ × Stretch)). total effect_of xs) low in
+    let count = c.requires.before in
     let short = joined_short ps c.runs-runs.ensures.rising c.args.label c.args.front.now c.requires.held c.args.child.now c.requires.goes_on in
     let own = ap (λ (r : Stretch). r.len) c.front.view_is in
     omega (arith, count, short, own, c.requires.new.room)
@@ -53,10 +51,9 @@ pub returns-clause-enters : goal.returns-clause-enters
 returns-clause-enters g c =
     let ps = c.args.self.now.tree.pairs in
     let is = c.change.ensures.pairs ∙ ap (λ (r : Stretch). changed ps c.args.label r) (c.join-joined.ensures ∙ ap (λ (r : Stretch). joined_of c.args.front.now r) c.run.ensures) in
-    let low = ap (λ (xs : List (ℕ × Stretch)). lower xs c.args.label) is ∙ lower_joined ps c.runs-runs.ensures.rising c.args.label c.args.front.now c.requires.held c.args.child.now c.requires.goes_on in
-    let count = c.shown_before-before.ensures ∙ ap (λ (xs : List (ℕ × Stretch)). total effect_of xs) low in
+    let count = c.requires.before in
     let own = ap (λ (r : Stretch). r.len) c.front.view_is in
-    let n : ℕ = c.shown_before-before.result + c.front.inside.len in
+    let n : ℕ = c.args.before + c.front.inside.len in
     let sum : n ≡ total effect_of (lower ps c.args.label) + c.args.front.now.len = omega (arith, count, own) in
     subst (λ (xs : List (ℕ × Stretch)). EntersAt (chars_in ps) (chars_in xs) c.args.child.now (length (chars_in (up_to ps c.args.label))) n) (sym is)
     (joined_enters ps c.runs-runs.ensures.rising c.args.label c.args.front.now c.requires.held c.args.child.now c.requires.goes_on n sum)

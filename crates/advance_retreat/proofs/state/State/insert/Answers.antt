@@ -30,11 +30,10 @@ pub put-requires-clause-hangs : goal.put-requires-clause-hangs
 put-requires-clause-hangs c =
     let q = c.requires in
     let now = c.args.self.now in
-    let gap = c.in-Some.ensures.some in
-    let left : IsLeft now.records c.args.at gap.left = subst (λ (s : Kept). IsLeft s.records c.args.at gap.left) c.self.view_is gap.here in
-    let hold : c.hold_of-hold.result ≡ hold_of now.base now.records now.attached gap.left =
-    c.hold_of-hold.ensures gap.left gap.node gap.next ∙ ap (λ (s : Kept). hold_of s.base s.records s.attached gap.left) c.self.view_is in
-    asked now q.0 q.1 q.2 q.3 c.args.at gap.left left c.args.lv c.args.id (has_agent c.args.id.agent c.as_slice-agent.ensures.name) (can_insert q.0 q.1 c.args.lv c.args.id q.4 (sym (c.has_room_for_character.ensures q.0 q.1 q.2 q.3) ∙ c.if-not-has_room_for_character.false)) c.hold_of-hold.result hold
+    let is = c.in-Some.ensures.some in
+    let left : IsLeft now.records c.args.at is.left = subst (λ (s : Kept). IsLeft s.records c.args.at is.left) c.self.view_is is.here in
+    let hold : c.in-Some.hold ≡ hold_of now.base now.records now.attached is.left = is.is ∙ ap (λ (s : Kept). hold_of s.base s.records s.attached is.left) c.self.view_is in
+    asked now q.0 q.1 q.2 q.3 c.args.at is.left left c.args.lv c.args.id (has_agent c.args.id.agent c.as_slice-agent.ensures.name) (can_insert q.0 q.1 c.args.lv c.args.id q.4 (sym (c.has_room_for_character.ensures q.0 q.1 q.2 q.3) ∙ c.if-not-has_room_for_character.false)) c.in-Some.hold hold
 
 pub put-requires-clause-sound : goal.put-requires-clause-sound
 put-requires-clause-sound c = c.requires.3.children.sound
@@ -44,16 +43,16 @@ put-requires-clause-new c = let q = c.requires in new_target c.args.self.now q.0
 
 pub returns-then-not-has_room_for_character-clause-out_of_range : goal.returns-then-not-has_room_for_character-clause-out_of_range
 returns-then-not-has_room_for_character-clause-out_of_range c = λ b events prepared st len.
-    let gap = c.in-Some.ensures.some in
-    let left : IsLeft c.args.self.now.records c.args.at gap.left = subst (λ (s : Kept). IsLeft s.records c.args.at gap.left) c.self.view_is gap.here in
-    let within = left_in_range c.args.self.now b events prepared st c.args.at gap.left left c.args.lv c.args.id in
+    let is = c.in-Some.ensures.some in
+    let left : IsLeft c.args.self.now.records c.args.at is.left = subst (λ (s : Kept). IsLeft s.records c.args.at is.left) c.self.view_is is.here in
+    let within = left_in_range c.args.self.now b events prepared st c.args.at is.left left c.args.lv c.args.id in
     not_refused (Err OutOfMemory) refl len (length (visible (prepared_entries b events prepared))) (len < c.args.at) (λ e lt. omega (arith, e, lt, within))
 
 pub returns-in_err-at-clause-out_of_range : goal.returns-in_err-at-clause-out_of_range
 returns-in_err-at-clause-out_of_range c = λ b events prepared st len.
-    let gap = c.in-Some.ensures.some in
-    let left : IsLeft c.args.self.now.records c.args.at gap.left = subst (λ (s : Kept). IsLeft s.records c.args.at gap.left) c.self.view_is gap.here in
-    let within = left_in_range c.args.self.now b events prepared st c.args.at gap.left left c.args.lv c.args.id in
+    let is = c.in-Some.ensures.some in
+    let left : IsLeft c.args.self.now.records c.args.at is.left = subst (λ (s : Kept). IsLeft s.records c.args.at is.left) c.self.view_is is.here in
+    let within = left_in_range c.args.self.now b events prepared st c.args.at is.left left c.args.lv c.args.id in
     let p = err_from_is_err_and c.from_residual.result c.from_residual.ensures.1 in
     not_refused c.from_residual.result (p.1 ∙ ap Err p.2) len (length (visible (prepared_entries b events prepared))) (len < c.args.at) (λ e lt. omega (arith, e, lt, within))
 
@@ -66,9 +65,8 @@ found c = subst (λ (s : Kept). IsLeft s.records c.args.at (left_of c)) c.self.v
 puts : (c : In_ok-at) → let now = c.args.self.now in Puts now c.put.new.self c.args.lv c.args.id (hold_of now.base now.records now.attached (left_of c)) c.in_ok-at.at
 puts c =
     let now = c.args.self.now in
-    let gap = c.in-Some.ensures.some in
-    let hold : c.hold_of-hold.result ≡ hold_of now.base now.records now.attached gap.left =
-    c.hold_of-hold.ensures gap.left gap.node gap.next ∙ ap (λ (s : Kept). hold_of s.base s.records s.attached gap.left) c.self.view_is in
+    let is = c.in-Some.ensures.some in
+    let hold : c.in-Some.hold ≡ hold_of now.base now.records now.attached is.left = is.is ∙ ap (λ (s : Kept). hold_of s.base s.records s.attached is.left) c.self.view_is in
     subst (λ (h : Hold). Puts now c.put.new.self c.args.lv c.args.id h c.in_ok-at.at) hold c.in_ok-at.ensures.ok
 
 room : (c : In_ok-at) → (b : ℕ) (events : List (Applied ℕ)) (prepared : List ℕ) → StandsFor c.args.self.now b events prepared → MayInsert events c.args.lv c.args.id → CanInsert b events c.args.lv c.args.id

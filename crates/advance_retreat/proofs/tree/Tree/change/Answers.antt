@@ -10,7 +10,7 @@ shift-requires-clause-may c =
     let read = c.self.view_is in
     change_may t.characters.records c.change.new.self.records t.siblings (counted t.rights) c.args.node c.args.change c.self.invariant.rights
     (subst (λ (s : InTree). AreAttached [] s.attached) (sym read) c.requires.sound) (ap (λ (s : InTree). is_there s.attached c.args.node) read ∙ c.requires.there)
-    c.in_ok-change.ensures.ok c.knows-was.result c.knows-is.result c.knows-was.ensures c.knows-is.ensures
+    c.in_ok-known.ensures.ok c.in_ok-known.known.was c.in_ok-known.known.is c.in_ok-known.ensures.was c.in_ok-known.ensures.is
     (subst (λ (s : InTree). length s.records ≤ 2 ^ 25) (sym read) c.requires.few)
 
 pub invariant_of-self-2 : goal.invariant_of-self-2
@@ -20,6 +20,6 @@ invariant_of-self-2 c =
     record {
       rights = change_kept t.characters.records c.change.new.self.records t.siblings (counted t.rights) c.args.node c.args.change c.self.invariant.rights
           (subst (λ (s : InTree). AreAttached [] s.attached) (sym read) c.requires.sound) (ap (λ (s : InTree). is_there s.attached c.args.node) read ∙ c.requires.there)
-          c.in_ok-change.ensures.ok c.knows-was.result c.knows-is.result c.knows-was.ensures c.knows-is.ensures (counted c.shift.new.self) c.shift.ensures.shifts;
+          c.in_ok-known.ensures.ok c.in_ok-known.known.was c.in_ok-known.known.is c.in_ok-known.ensures.was c.in_ok-known.ensures.is (counted c.shift.new.self) c.shift.ensures.shifts;
       whole = c.shift.ensures.whole;
     }

@@ -1,0 +1,134 @@
+-- What advances and retreats of events that follow one another leave.
+use Rattle.std.proofs.Common.{◌≡◌, ℕ, zero, suc, ◌+◌, ◌-◌, ◌<◌, ◌≤◌, List, [], ◌∷◌, ◌++◌, map, reverse, Some, refl, sym, ap, ◌∙◌, subst, arith}
+use Rattle.std.specs.List.{range_with_len}
+use Rattle.std.proofs.lemmas.List.{reverse-append}
+use Rattle.ew_model.specs.declared.node.Node.TheVariants.{Event}
+use Rattle.ew_model.specs.Tree.{Applied}
+use Rattle.ew_model.specs.Records.{without}
+use Rattle.ew_model.specs.Moves.{after_advances, after_retreats}
+use Rattle.fugue_place.specs.Attachments.{node_eq}
+use Rattle.advance_retreat.specs.declared.change.Change.{Change}
+use Rattle.advance_retreat.specs.declared.change.Change.TheVariants.{Raise, Lower}
+use Rattle.advance_retreat.specs.Kept.{Kept, target_at}
+use Rattle.advance_retreat.specs.Replacing.{changed_among, is_event_in}
+use Rattle.advance_retreat.specs.Standing.{StandsFor}
+use Rattle.advance_retreat.specs.Conditions.{MayAdvanceEach, MayRetreatEach, Advanced, Retreated}
+use Rattle.advance_retreat.proofs.EventSpans.{none_between, none_among, in_turn, event_low, low_apart, event_high, high_apart}
+use Rattle.advance_retreat.proofs.Moving.{with_records, changed_state, advanced_by, retreated_by}
+
+-- POSITIONS
+pub range_joined : (from count more : ℕ) → range_with_len from (count + more) ≡ range_with_len from count ++ range_with_len (from + count) more
+range_joined from zero more =
+    let none : 0 + more ≡ more = omega arith in
+    let start : from ≡ from + 0 = omega arith in
+    λ i. range_with_len (start i) (none i)
+range_joined from (suc count) more =
+    let long : suc count + more ≡ suc (count + more) = omega arith in
+    let start : from + 1 + count ≡ from + suc count = omega arith in
+    ap (range_with_len from) long ∙ ap (λ ps. from ∷ ps) (range_joined (from + 1) count more ∙ ap (λ (n : ℕ). range_with_len (from + 1) count ++ range_with_len n more) start)
+
+pub range_parted : (low mid high : ℕ) → low ≤ mid → mid ≤ high → range_with_len low (high - low) ≡ range_with_len low (mid - low) ++ range_with_len mid (high - mid)
+range_parted low mid high le more =
+    let long : high - low ≡ (mid - low) + (high - mid) = omega (arith, le, more) in
+    let start : low + (mid - low) ≡ mid = omega (arith, le) in
+    ap (range_with_len low) long ∙ range_joined low (mid - low) (high - mid) ∙ ap (λ (n : ℕ). range_with_len low (mid - low) ++ range_with_len n (high - mid)) start
+
+pub range_first : (low high : ℕ) → low < high → range_with_len low (high - low) ≡ low ∷ range_with_len (low + 1) (high - (low + 1))
+range_first low high lt = let long : high - low ≡ suc (high - (low + 1)) = omega (arith, lt) in ap (range_with_len low) long
+
+pub falling_parted : (low mid high : ℕ) → low ≤ mid → mid ≤ high → reverse (range_with_len low (high - low)) ≡ reverse (range_with_len mid (high - mid)) ++ reverse (range_with_len low (mid - low))
+falling_parted low mid high le more = ap reverse (range_parted low mid high le more) ∙ reverse-append (range_with_len low (mid - low)) (range_with_len mid (high - mid))
+
+falling_more : (from n : ℕ) → reverse (range_with_len from (suc n)) ≡ (from + n) ∷ reverse (range_with_len from n)
+falling_more from n =
+    let more : suc n ≡ n + 1 = omega arith in
+    ap (λ (k : ℕ). reverse (range_with_len from k)) more ∙ ap reverse (range_joined from n 1) ∙ reverse-append (range_with_len from n) ((from + n) ∷ [])
+
+pub falling_first : (low last high : ℕ) → low ≤ last → last + 1 ≡ high → reverse (range_with_len low (high - low)) ≡ last ∷ reverse (range_with_len low (last - low))
+falling_first low last high le next =
+    let long : high - low ≡ suc (last - low) = omega (arith, le, next) in
+    let on : low + (last - low) ≡ last = omega (arith, le) in
+    ap (λ (n : ℕ). reverse (range_with_len low n)) long ∙ falling_more low (last - low) ∙ ap (λ (n : ℕ). n ∷ reverse (range_with_len low (last - low))) on
+
+-- the characters of the events at these positions are changed
+abbrev pub changed_span : Kept → ℕ → ℕ → Change → Kept
+changed_span s low high change = with_records s (map (changed_among (is_event_in low high) change) s.records)
+
+same_records : (s : Kept) (low high : ℕ) (change : Change) → high ≤ low → changed_span s low high change ≡ s
+same_records s low high change le = ap (with_records s) (none_among change (is_event_in low high) (none_between low high le) s.records)
+
+abbrev pub AreTold : Kept → ℕ → ℕ → Type 0
+AreTold s low high = (n : ℕ) → low ≤ n → n < high → target_at s.targets n ≡ Some (Event n)
+
+module _ (b : ℕ) (events : List (Applied ℕ)) where
+  -- ADVANCES
+  advance_all : (n low high : ℕ) (s : Kept) (prepared rest : List ℕ) → low + n ≡ high → StandsFor s b events prepared → AreTold s low high → MayAdvanceEach events prepared (range_with_len low n ++ rest)
+      → Advanced (changed_span s low high Raise) b events prepared (range_with_len low n ++ rest) rest
+  advance_all zero low high s prepared rest long st told may =
+      subst (λ (t : Kept). Advanced t b events prepared rest rest) (sym (same_records s low high Raise (omega (arith, long)))) (record { now = prepared; stands = st; may = may; same = refl })
+  advance_all (suc n) low high s prepared rest long st told may =
+      let one = changed_state s (Event low) Raise in
+      let stands : StandsFor one b events (low ∷ prepared) = advanced_by s b events prepared st low (Event low) (told low (omega arith) (omega (arith, long))) may.0.0 may.0.1 in
+      let later = advance_all n (low + 1) high one (low ∷ prepared) rest (omega (arith, long)) stands (λ k le lt. told k (omega (arith, le)) lt) may.1 in
+      let records = in_turn Raise (is_event_in low high) (λ v. node_eq v (Event low)) (is_event_in (low + 1) high) (event_low low high (omega (arith, long))) (low_apart low high) s.records in
+      subst (λ (t : Kept). Advanced t b events prepared (low ∷ (range_with_len (low + 1) n ++ rest)) rest) (ap (with_records s) records)
+      (record { now = later.now; stands = later.stands; may = later.may; same = later.same })
+
+  pub advance_run : (s : Kept) (prepared : List ℕ) (low mid high : ℕ) → low ≤ mid → mid ≤ high → StandsFor s b events prepared → AreTold s low mid → MayAdvanceEach events prepared (range_with_len low (high - low))
+      → Advanced (changed_span s low mid Raise) b events prepared (range_with_len low (high - low)) (range_with_len mid (high - mid))
+  advance_run s prepared low mid high le more st told may =
+      let parts = range_parted low mid high le more in
+      subst (λ (ps : List ℕ). Advanced (changed_span s low mid Raise) b events prepared ps (range_with_len mid (high - mid))) (sym parts)
+      (advance_all (mid - low) low mid s prepared (range_with_len mid (high - mid)) (omega (arith, le)) st told (subst (MayAdvanceEach events prepared) parts may))
+
+  pub advance_one : (t : Kept) (prepared : List ℕ) (low high : ℕ) → low < high → MayAdvanceEach events prepared (range_with_len low (high - low)) → StandsFor t b events (low ∷ prepared)
+      → Advanced t b events prepared (range_with_len low (high - low)) (range_with_len (low + 1) (high - (low + 1)))
+  advance_one t prepared low high lt may st =
+      let first = range_first low high lt in
+      subst (λ (ps : List ℕ). Advanced t b events prepared ps (range_with_len (low + 1) (high - (low + 1)))) (sym first)
+      (record { now = low ∷ prepared; stands = st; may = (subst (MayAdvanceEach events prepared) first may).1; same = refl })
+
+  pub advanced_end : (s : Kept) (prepared : List ℕ) (low high : ℕ) (all : List ℕ) → Advanced s b events prepared all (range_with_len low (high - low)) → high ≤ low → StandsFor s b events (after_advances prepared all)
+  advanced_end s prepared low high all a le =
+      let none : 0 ≡ high - low = omega (arith, le) in
+      subst (StandsFor s b events) (ap (λ (n : ℕ). after_advances a.now (range_with_len low n)) none ∙ a.same) a.stands
+
+  -- RETREATS
+  retreat_all : (n low : ℕ) (s : Kept) (prepared rest : List ℕ) → StandsFor s b events prepared → AreTold s low (low + n) → MayRetreatEach events prepared (reverse (range_with_len low n) ++ rest)
+      → Retreated (changed_span s low (low + n) Lower) b events prepared (reverse (range_with_len low n) ++ rest) rest
+  retreat_all zero low s prepared rest st told may =
+      subst (λ (t : Kept). Retreated t b events prepared rest rest) (sym (same_records s low (low + 0) Lower (omega arith))) (record { now = prepared; stands = st; may = may; same = refl })
+  retreat_all (suc n) low s prepared rest st told may =
+      let last = low + n in
+      let next : low + suc n ≡ last + 1 = omega arith in
+      let falls : reverse (range_with_len low (suc n)) ++ rest ≡ last ∷ (reverse (range_with_len low n) ++ rest) = ap (λ (ps : List ℕ). ps ++ rest) (falling_more low n) in
+      let allowed = subst (MayRetreatEach events prepared) falls may in
+      let one = changed_state s (Event last) Lower in
+      let stands : StandsFor one b events (without last prepared) = retreated_by s b events prepared st last (Event last) (told last (omega arith) (omega arith)) allowed.0.0 allowed.0.1 in
+      let later = retreat_all n low one (without last prepared) rest stands (λ k le lt. told k le (omega (arith, lt))) allowed.1 in
+      let records = in_turn Lower (is_event_in low (last + 1)) (λ v. node_eq v (Event last)) (is_event_in low last) (event_high low last (omega arith)) (high_apart low last) s.records in
+      subst (λ (ps : List ℕ). Retreated (changed_span s low (low + suc n) Lower) b events prepared ps rest) (sym falls)
+      (subst (λ (k : ℕ). Retreated (changed_span s low k Lower) b events prepared (last ∷ (reverse (range_with_len low n) ++ rest)) rest) (sym next)
+      (subst (λ (t : Kept). Retreated t b events prepared (last ∷ (reverse (range_with_len low n) ++ rest)) rest) (ap (with_records s) records)
+      (record { now = later.now; stands = later.stands; may = later.may; same = later.same })))
+
+  pub retreat_run : (s : Kept) (prepared : List ℕ) (low mid high : ℕ) → low ≤ mid → mid ≤ high → StandsFor s b events prepared → AreTold s mid high → MayRetreatEach events prepared (reverse (range_with_len low (high - low)))
+      → Retreated (changed_span s mid high Lower) b events prepared (reverse (range_with_len low (high - low))) (reverse (range_with_len low (mid - low)))
+  retreat_run s prepared low mid high le more st told may =
+      let parts = falling_parted low mid high le more in
+      let on : mid + (high - mid) ≡ high = omega (arith, more) in
+      subst (λ (ps : List ℕ). Retreated (changed_span s mid high Lower) b events prepared ps (reverse (range_with_len low (mid - low)))) (sym parts)
+      (subst (λ (k : ℕ). Retreated (changed_span s mid k Lower) b events prepared (reverse (range_with_len mid (high - mid)) ++ reverse (range_with_len low (mid - low))) (reverse (range_with_len low (mid - low)))) on
+      (retreat_all (high - mid) mid s prepared (reverse (range_with_len low (mid - low))) st (λ k l h. told k l (omega (arith, h, on))) (subst (MayRetreatEach events prepared) parts may)))
+
+  pub retreat_one : (t : Kept) (prepared : List ℕ) (low last high : ℕ) → low ≤ last → last + 1 ≡ high → MayRetreatEach events prepared (reverse (range_with_len low (high - low))) → StandsFor t b events (without last prepared)
+      → Retreated t b events prepared (reverse (range_with_len low (high - low))) (reverse (range_with_len low (last - low)))
+  retreat_one t prepared low last high le next may st =
+      let first = falling_first low last high le next in
+      subst (λ (ps : List ℕ). Retreated t b events prepared ps (reverse (range_with_len low (last - low)))) (sym first)
+      (record { now = without last prepared; stands = st; may = (subst (MayRetreatEach events prepared) first may).1; same = refl })
+
+  pub retreated_end : (s : Kept) (prepared : List ℕ) (low high : ℕ) (all : List ℕ) → Retreated s b events prepared all (reverse (range_with_len low (high - low))) → high ≤ low → StandsFor s b events (after_retreats prepared all)
+  retreated_end s prepared low high all a le =
+      let none : 0 ≡ high - low = omega (arith, le) in
+      subst (StandsFor s b events) (ap (λ (n : ℕ). after_retreats a.now (reverse (range_with_len low n))) none ∙ a.same) a.stands

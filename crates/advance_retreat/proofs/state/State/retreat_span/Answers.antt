@@ -1,0 +1,47 @@
+use Rattle.std.proofs.Common.{ℕ, List, ◌∙◌, refl, subst, sym, arith}
+use Rattle.advance_retreat.specs.Kept.{Kept}
+use Rattle.advance_retreat.specs.Standing.{StandsFor}
+use Rattle.advance_retreat.proofs.Entered.{on_err}
+use Rattle.advance_retreat.proofs.SpanMoves.{retreated_end}
+use Rattle.advance_retreat.proofs.state.State.retreat_span.Goals as goal
+
+pub loop-at-init : goal.loop-at-init
+loop-at-init g c = record {
+  low = c.requires.order;
+  high = omega arith;
+  stands = λ b events prepared st may. record { now = prepared; stands = st; may = may; same = refl };
+  lost = refl;
+  steps = refl;
+}
+
+pub retreat_some-requires-clause-may : goal.retreat_some-requires-clause-may
+retreat_some-requires-clause-may g c =
+    let q = c.requires.may in
+    let a = c.loop-at.invariant.stands q.0 q.1 q.2 q.3 q.4 in
+    (q.0, q.1, a.now, a.stands, a.may)
+
+pub loop-at-preserved : goal.loop-at-preserved
+loop-at-preserved g c =
+    let low = c.in_ok-at.ensures.low in
+    let high = c.in_ok-at.ensures.high in
+    record {
+      low = omega (arith, low, c.loop-at.invariant.low);
+      high = omega (arith, high, c.loop-at.invariant.high);
+      stands = λ b events prepared st may.
+          let a = c.loop-at.invariant.stands b events prepared st may in
+          let d = c.in_ok-at.ensures.ok b events a.now a.stands a.may in
+          record { now = d.now; stands = d.stands; may = d.may; same = d.same ∙ a.same };
+      lost = c.retreat_some.ensures.lost ∙ c.loop-at.invariant.lost;
+      steps = let one = c.in_ok-at.ensures.steps in let so = c.loop-at.invariant.steps in omega (arith, one, so);
+    }
+
+pub returns-in_err-at-clause-err : goal.returns-in_err-at-clause-err
+returns-in_err-at-clause-err g c = λ b events prepared st may.
+    let a = c.loop-at.invariant.stands b events prepared st may in
+    let stands = subst (λ (s : Kept). StandsFor s b events a.now) (sym c.in_err-at.ensures.err) a.stands in
+    on_err c.from_residual.result ((later : List ℕ) × StandsFor c.retreat_some.new.self b events later) (a.now, stands)
+
+pub returns-clause-ok : goal.returns-clause-ok
+returns-clause-ok g c = λ b events prepared st may.
+    let a = c.loop-at.invariant.stands b events prepared st may in
+    retreated_end b events c.loop-at.self prepared c.args.from c.loop-at.at _ a (omega (arith, c.loop-at-test.false))
