@@ -7,13 +7,14 @@ use Rattle.std.proofs.lemmas.Map.Made.{is_member-filter}
 use Rattle.ew_model.specs.Tree.{Applied}
 use Rattle.ew_model.specs.Records.{holds, without, IsClosed}
 use Rattle.ew_model.specs.Moves.{LookBack, Falling, Rising, AreAlone, Moves, MayRetreatAll, MayAdvanceAll, after_retreats}
-use Rattle.ew_model.proofs.EntryLaws.{all_joined}
+use Rattle.ew_model.proofs.EntryLaws.{all_joined, filter_none}
 use Rattle.ew_model.proofs.SortingLaws.{all_from, all_filter}
 use Rattle.ew_model.proofs.RisingLists.{among_named}
 use Rattle.ew_model.proofs.PositionSides.{any_reversed}
 use Rattle.ew_model.proofs.MoveLaws.{moves_arrive}
 use Rattle.advance_retreat.specs.Standing.{is_applied}
-use Rattle.transform.specs.Moving.{MayRetreatEach, MayAdvanceEach, alone}
+use Rattle.advance_retreat.specs.Conditions.{MayRetreatEach, MayAdvanceEach}
+use Rattle.transform.specs.Moving.{alone}
 
 -- ORDER
 kept_rising : (b : Bool) (x : ℕ) (xs : List ℕ) → AllByRecursion (λ y. x < y) xs → Rising xs → Rising (cond b (x ∷ xs) xs)
@@ -45,6 +46,10 @@ alone_falls xs ys h = (reverse_falling (alone xs ys) (filter_rising (λ m. not (
 
 alone_rises : (xs ys : List ℕ) → Rising xs → Rising (alone xs ys) × AreAlone (alone xs ys) xs ys
 alone_rises xs ys h = (filter_rising (λ m. not (holds ys m)) xs h, holds_alone xs ys)
+
+-- no position is in a list alone beside the list itself
+pub none_alone : (xs : List ℕ) → alone xs xs ≡ []
+none_alone xs = filter_none (λ n. not (holds xs n)) xs (all_from (λ n. not (holds xs n) ≡ false) xs (λ n m. ap not (among_named xs n m)))
 
 -- THE MOVES
 -- The moves from one version to another, where both are closed: what the one has alone is taken out from the highest position

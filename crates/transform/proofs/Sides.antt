@@ -66,3 +66,9 @@ out_is history n last e admitted next within at = λ i. alone (known_last histor
 pub into_is : (history : List Event) (n last : ℕ) (e : Event) → IsAdmitted history → last + 1 ≡ n → n < length history → slice_get history n ≡ Some e
     → known_alone (parent_positions history) (parents_at (parent_positions history) n) (last ∷ []) ≡ alone (over_since (take n history) 0 e) (prepared_since (take n history) 0)
 into_is history n last e admitted next within at = λ i. alone (known_over history n e admitted at i) (known_last history n last admitted next within i)
+
+-- where the one parent of the event is the last one before it, it was made over what is prepared
+pub over_last : (history : List Event) (n last : ℕ) (e : Event) → IsAdmitted history → last + 1 ≡ n → n < length history → slice_get history n ≡ Some e
+    → parents_at (parent_positions history) n ≡ last ∷ [] → over_since (take n history) 0 e ≡ prepared_since (take n history) 0
+over_last history n last e admitted next within at parents =
+    sym (known_over history n e admitted at) ∙ ap (known_positions (parent_positions history)) parents ∙ known_last history n last admitted next within

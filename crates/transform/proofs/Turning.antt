@@ -18,15 +18,16 @@ use Rattle.ew_model.proofs.PositionNumbers.{positions_rising}
 use Rattle.ew_model.proofs.RisingLists.{Rise}
 use Rattle.ew_model.proofs.WalkRuns.{walks_are_runs}
 use Rattle.advance_retreat.specs.Kept.{Kept}
-use Rattle.advance_retreat.specs.Standing.{StandsFor, is_applied}
+use Rattle.advance_retreat.specs.Standing.{is_applied}
 use Rattle.event_graph.specs.Keeping.{IsAdmitted}
 use Rattle.event_graph.proofs.Tails.{all_first}
-use Rattle.transform.specs.Moving.{MayRetreatEach, MayAdvanceEach, alone}
+use Rattle.advance_retreat.specs.Conditions.{MayRetreatEach, MayAdvanceEach}
+use Rattle.transform.specs.Moving.{alone}
 use Rattle.transform.specs.Reaching.{Reached, StandsAt, prepared_since, over_since}
 use Rattle.transform.proofs.AtPlaces.{knows_at, laid_front, prepared_below}
 use Rattle.transform.proofs.Counting.{turn_touches}
 use Rattle.transform.proofs.CutFronts.{take_front}
-use Rattle.transform.proofs.Differences.{moves_between, retreats_may, advances_may}
+use Rattle.transform.proofs.Differences.{moves_between, none_alone, retreats_may, advances_may}
 use Rattle.transform.proofs.Sides.{length_front, take_next}
 use Rattle.transform.proofs.Sinces.{alone_since, position_between}
 use Rattle.transform.proofs.Standings.{stands_alike}
@@ -42,6 +43,12 @@ downs_of front cut e = reverse (alone (prepared_since front cut) (over_since fro
 
 abbrev pub ups_of : List Event → ℕ → Event → List ℕ
 ups_of front cut e = alone (over_since front cut e) (prepared_since front cut)
+
+no_downs : (front : List Event) (e : Event) → over_since front 0 e ≡ prepared_since front 0 → downs_of front 0 e ≡ []
+no_downs front e same = ap (λ (ps : List ℕ). reverse (alone (prepared_since front 0) ps)) same ∙ ap reverse (none_alone (prepared_since front 0))
+
+no_ups : (front : List Event) (e : Event) → over_since front 0 e ≡ prepared_since front 0 → ups_of front 0 e ≡ []
+no_ups front e same = ap (λ (ps : List ℕ). alone ps (prepared_since front 0)) same ∙ none_alone (prepared_since front 0)
 
 module _ (history : List Event) (cut n : ℕ) (e : Event) (state : Kept) (admitted : IsAdmitted history) (sound : AreSound history) (at : slice_get history n ≡ Some e) (reached : Reached history cut n state) where
   abbrev pub front : List Event
@@ -114,6 +121,10 @@ module _ (history : List Event) (cut n : ℕ) (e : Event) (state : Kept) (admitt
       arrived later (subst (λ (ps : List ℕ). StandsAt history cut n (after_advances (after_retreats before ps) (ups_of front cut e)) later) (is ∙ downs_are)
       (subst (λ (qs : List ℕ). StandsAt history cut n (after_advances (after_retreats before downs) qs) later) (are ∙ ups_are) stands))
 
+  -- nothing is moved where the event was made over what is prepared
+  pub arrived_already : over_since front 0 e ≡ prepared_since front 0 → StandsAt history cut n over state
+  arrived_already same = moves_arrive [] [] state (sym (no_downs front e same)) (sym (no_ups front e same)) reached.stands
+
 -- what the moves and the apply cost
 pub cost : (history : List Event) (n from : ℕ) (e : Event) → IsAdmitted history → slice_get history n ≡ Some e → from < n
     → touches (take (n + 1) history) from ≡ touches (take n history) from + (length (downs_of (take n history) 0 e) + length (ups_of (take n history) 0 e) + 1)
@@ -123,3 +134,12 @@ cost history n from e admitted at some =
     let turn = turn_touches front from e (laid_front history admitted n) (omega (arith, some, length_front history n e at)) in
     let long = length-reverse (alone (prepared_since front 0) (over_since front 0 e)) in
     omega (arith, whole, turn, long)
+
+-- the apply alone, where nothing is moved
+pub cost_unmoved : (history : List Event) (n from : ℕ) (e : Event) → IsAdmitted history → slice_get history n ≡ Some e → from < n
+    → over_since (take n history) 0 e ≡ prepared_since (take n history) 0 → touches (take n history) from + 1 ≡ touches (take (n + 1) history) from
+cost_unmoved history n from e admitted at some same =
+    let whole = cost history n from e admitted at some in
+    let downs = ap (length {A = ℕ}) (no_downs (take n history) e same) in
+    let ups = ap (length {A = ℕ}) (no_ups (take n history) e same) in
+    omega (arith, whole, downs, ups)

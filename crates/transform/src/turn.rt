@@ -1,7 +1,8 @@
 //! One turn of the walk: the moves, and the apply.
 
-ghost use Rattle.std.specs.Prelude.{◌≡◌, ℕ, ◌+◌, ◌<◌, ◌≤◌, ◌∷◌, [], length, take, slice_get, Some, None, IfOk, OnOk};
+ghost use Rattle.std.specs.Prelude.{◌≡◌, ◌↔◌, ℕ, ◌+◌, ◌-◌, ◌<◌, ◌≤◌, ◌∷◌, [], length, take, slice_get, Some, None, IsTrue, IfOk, OnOk};
 ghost use Rattle.ew_model.specs.declared.event.Event.{Event};
+ghost use Rattle.ew_model.specs.Positions.{parents_at, parent_positions};
 ghost use Rattle.ew_model.specs.Touches.{touches};
 ghost use Rattle.ancestors.specs.Spans.{positions_of};
 ghost use Rattle.transform.specs.Moving.{alone};
@@ -9,7 +10,7 @@ ghost use Rattle.transform.specs.Reaching.{Reached, ReadyAt, StandsAt, TurnedTo,
 
 use crate::apply::{Turn, apply};
 use crate::cut::pass_cut;
-use crate::moves::{advance_all, falling, retreat_all};
+use crate::moves::{advance_all, retreat_all};
 use advance_retreat::State;
 use ancestors::Spans;
 use event_graph::Graph;
@@ -35,7 +36,7 @@ pub fn take_turn<L: Ledger>(
     ensures steps { (from : ℕ) → from ≤ lv → WalkedTo graph.now from lv line.old state.old → OnOk result (steps.new + touches (take lv graph.now) from ≡ steps.old + touches (take (lv + 1) graph.now) from) }
     ensures most { (from : ℕ) → from ≤ lv → WalkedTo graph.now from lv line.old state.old → steps.new + touches (take lv graph.now) from ≤ steps.old + touches (take (lv + 1) graph.now) from }
 {
-    match reach(alloc, graph, state, *line, lv, steps)? {
+    match reach(graph, state, *line, lv, steps)? {
         Some(len) => pass_cut(alloc, graph, state, line, lv, len, steps),
         None => apply(graph, state, lv, steps),
     }
@@ -44,7 +45,6 @@ pub fn take_turn<L: Ledger>(
 /// Prepares the ancestors of the event at a position. Where these are all events before it, and each later event knows them
 /// too, answers the length of their text.
 fn reach<L: Ledger>(
-    alloc: Global,
     graph: &Graph,
     state: &mut State,
     line: Option<u32>,
@@ -62,7 +62,7 @@ fn reach<L: Ledger>(
     if line.is_some() {
         return Ok(line);
     }
-    move_to(alloc, graph, state, lv, steps)?;
+    prepare(graph, state, lv, steps)?;
     if graph.is_cut(lv) {
         Ok(Some(state.prepared_len()))
     } else {
@@ -70,9 +70,42 @@ fn reach<L: Ledger>(
     }
 }
 
+/// Prepares the ancestors of the event at a position. Where its one parent is the event before it, they are prepared already.
+fn prepare<L: Ledger>(
+    graph: &Graph,
+    state: &mut State,
+    lv: u32,
+    steps: &mut Steps<L>,
+) -> Result<(), NoMem>
+    requires within { lv < length graph.now }
+    requires reached { (cut : ℕ) × Reached graph.now cut lv state.old }
+    ensures moved { (cut : ℕ) (e : Event) → Reached graph.now cut lv state.old → slice_get graph.now lv ≡ Some e → OnOk result (StandsAt graph.now cut lv (over_since (take lv graph.now) cut e) state.new) }
+    ensures steps { (from : ℕ) → from < lv → OnOk result (steps.new + touches (take lv graph.now) from + 1 ≡ steps.old + touches (take (lv + 1) graph.now) from) }
+    ensures most { (from : ℕ) → from < lv → steps.new + touches (take lv graph.now) from + 1 ≤ steps.old + touches (take (lv + 1) graph.now) from }
+{
+    let _count = graph.count();
+    if follows(graph, lv) {
+        Ok(())
+    } else {
+        move_to(graph, state, lv, steps)
+    }
+}
+
+/// Whether the one parent of the event at a position is the event before it.
+fn follows(graph: &Graph, lv: u32) -> bool
+    requires some { 0 < lv }
+    requires within { lv < length graph.now }
+    ensures { IsTrue result ↔ (parents_at (parent_positions graph.now) lv ≡ (lv - 1) ∷ []) }
+{
+    if graph.chain_start(lv) < lv {
+        return true;
+    }
+    let parents = graph.parents_of(lv);
+    parents.as_slice() == [lv - 1].as_slice()
+}
+
 /// Prepares the ancestors of the event at a position.
 fn move_to<L: Ledger>(
-    alloc: Global,
     graph: &Graph,
     state: &mut State,
     lv: u32,
@@ -86,11 +119,8 @@ fn move_to<L: Ledger>(
 {
     let _count = graph.count();
     let (out, into) = differences(graph, lv)?;
-    let downs = falling(alloc, &out)?;
-    let mut ups = falling(alloc, &into)?;
-    ups.reverse();
-    retreat_all(state, downs.as_slice(), steps)?;
-    advance_all(state, ups.as_slice(), steps)?;
+    retreat_all(state, &out, steps)?;
+    advance_all(state, &into, steps)?;
     Ok(())
 }
 

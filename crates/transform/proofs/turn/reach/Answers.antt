@@ -6,8 +6,8 @@ use Rattle.transform.specs.Reaching.{over_since}
 use Rattle.transform.proofs.Loops.{not_in_line, ready_at_cut, ready_between, ready_in_line, steps_in_line}
 use Rattle.transform.proofs.turn.reach.Goals as goal
 
-pub move_to-requires-clause-reached : goal.move_to-requires-clause-reached
-move_to-requires-clause-reached g c =
+pub prepare-requires-clause-reached : goal.prepare-requires-clause-reached
+prepare-requires-clause-reached g c =
     (latest_cut c.args.graph.now (c.args.lv - 1), (not_in_line c.args.graph.now c.requires.walked.0 c.args.lv c.args.line c.args.state.now (sym c.is_some.ensures ∙ c.if-is_some.false) c.requires.walked.2).1)
 
 pub returns-then-is_some-clause-ready : goal.returns-then-is_some-clause-ready
@@ -23,20 +23,20 @@ returns-then-is_some-clause-most g c = λ from low walked.
     let found = element_there c.args.graph.now c.args.lv c.requires.within in
     omega (arith, steps_in_line c.args.graph.now from c.args.lv c.args.line found.0 c.args.state.now c.count-count.ensures.admitted found.1 (sym c.is_some.ensures ∙ c.if-is_some.true) low walked)
 
-pub returns-in_err-move_to-clause-most : goal.returns-in_err-move_to-clause-most
-returns-in_err-move_to-clause-most g c = λ from low walked. c.move_to.ensures.most from (not_in_line c.args.graph.now from c.args.lv c.args.line c.args.state.now (sym c.is_some.ensures ∙ c.if-is_some.false) walked).0
+pub returns-in_err-prepare-clause-most : goal.returns-in_err-prepare-clause-most
+returns-in_err-prepare-clause-most g c = λ from low walked. c.prepare.ensures.most from (not_in_line c.args.graph.now from c.args.lv c.args.line c.args.state.now (sym c.is_some.ensures ∙ c.if-is_some.false) walked).0
 
 pub returns-then-is_cut-clause-steps : goal.returns-then-is_cut-clause-steps
-returns-then-is_cut-clause-steps g c = λ from low walked. c.in_ok-move_to.ensures.steps from (not_in_line c.args.graph.now from c.args.lv c.args.line c.args.state.now (sym c.is_some.ensures ∙ c.if-is_some.false) walked).0
+returns-then-is_cut-clause-steps g c = λ from low walked. c.in_ok-prepare.ensures.steps from (not_in_line c.args.graph.now from c.args.lv c.args.line c.args.state.now (sym c.is_some.ensures ∙ c.if-is_some.false) walked).0
 
 pub returns-then-is_cut-clause-most : goal.returns-then-is_cut-clause-most
-returns-then-is_cut-clause-most g c = λ from low walked. c.move_to.ensures.most from (not_in_line c.args.graph.now from c.args.lv c.args.line c.args.state.now (sym c.is_some.ensures ∙ c.if-is_some.false) walked).0
+returns-then-is_cut-clause-most g c = λ from low walked. c.prepare.ensures.most from (not_in_line c.args.graph.now from c.args.lv c.args.line c.args.state.now (sym c.is_some.ensures ∙ c.if-is_some.false) walked).0
 
 pub returns-else-is_cut-clause-steps : goal.returns-else-is_cut-clause-steps
-returns-else-is_cut-clause-steps g c = λ from low walked. c.in_ok-move_to.ensures.steps from (not_in_line c.args.graph.now from c.args.lv c.args.line c.args.state.now (sym c.is_some.ensures ∙ c.if-is_some.false) walked).0
+returns-else-is_cut-clause-steps g c = λ from low walked. c.in_ok-prepare.ensures.steps from (not_in_line c.args.graph.now from c.args.lv c.args.line c.args.state.now (sym c.is_some.ensures ∙ c.if-is_some.false) walked).0
 
 pub returns-else-is_cut-clause-most : goal.returns-else-is_cut-clause-most
-returns-else-is_cut-clause-most g c = λ from low walked. c.move_to.ensures.most from (not_in_line c.args.graph.now from c.args.lv c.args.line c.args.state.now (sym c.is_some.ensures ∙ c.if-is_some.false) walked).0
+returns-else-is_cut-clause-most g c = λ from low walked. c.prepare.ensures.most from (not_in_line c.args.graph.now from c.args.lv c.args.line c.args.state.now (sym c.is_some.ensures ∙ c.if-is_some.false) walked).0
 
 pub returns-then-is_cut-clause-ready : goal.returns-then-is_cut-clause-ready
 returns-then-is_cut-clause-ready g c = λ from walked.
@@ -47,8 +47,8 @@ returns-then-is_cut-clause-ready g c = λ from walked.
     let found = element_there now lv c.requires.within in
     let e = found.0 in
     let reached = (not_in_line now from lv c.args.line c.args.state.now (sym c.is_some.ensures ∙ c.if-is_some.false) walked).1 in
-    let moved = c.in_ok-move_to.ensures.moved cut e reached found.1 in
-    ready_at_cut now cut lv c.prepared_len.result e c.args.state.now c.move_to.new.state c.count-count.ensures.admitted c.count-count.ensures.sound found.1 (subst (λ b. b ≡ true) c.is_cut.ensures c.if-is_cut.true) reached moved
+    let moved = c.in_ok-prepare.ensures.moved cut e reached found.1 in
+    ready_at_cut now cut lv c.prepared_len.result e c.args.state.now c.prepare.new.state c.count-count.ensures.admitted c.count-count.ensures.sound found.1 (subst (λ b. b ≡ true) c.is_cut.ensures c.if-is_cut.true) reached moved
     (c.prepared_len.ensures (base_at now cut) (walked_from front cut) (over_since front cut e) moved)
 
 pub returns-else-is_cut-clause-ready : goal.returns-else-is_cut-clause-ready
@@ -58,7 +58,7 @@ returns-else-is_cut-clause-ready g c = λ from walked.
     let cut = latest_cut now (lv - 1) in
     let found = element_there now lv c.requires.within in
     let reached = (not_in_line now from lv c.args.line c.args.state.now (sym c.is_some.ensures ∙ c.if-is_some.false) walked).1 in
-    ready_between now lv found.0 c.args.state.now c.move_to.new.state found.1 (subst (λ b. b ≡ false) c.is_cut.ensures c.if-is_cut.false) reached (c.in_ok-move_to.ensures.moved cut found.0 reached found.1)
+    ready_between now lv found.0 c.args.state.now c.prepare.new.state found.1 (subst (λ b. b ≡ false) c.is_cut.ensures c.if-is_cut.false) reached (c.in_ok-prepare.ensures.moved cut found.0 reached found.1)
 
 pub returns-else-is_cut-clause-line : goal.returns-else-is_cut-clause-line
 returns-else-is_cut-clause-line g c = λ none. none_from_is_some c.args.line (sym c.is_some.ensures ∙ c.if-is_some.false)
