@@ -1,4 +1,5 @@
 pub mod Apart
+pub mod Consistent
 pub mod Found
 pub mod ParentIds
 pub mod Shared

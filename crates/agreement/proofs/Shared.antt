@@ -28,7 +28,7 @@ place_among [] e m = absurd m
 place_among (f ∷ history) e m =
     ⊎_elim (λ same. (0, omega arith, ap Some (sym same))) (λ k. let more = place_among history e k in let within = more.1 in (suc more.0, omega (arith, within), more.2)) m
 
-same_made : {X : Type 0} (make : Event → X) (history : List Event) (place : ℕ) (e : Event) (x : X) → slice_get history place ≡ Some e → slice_get (map make history) place ≡ Some x → x ≡ make e
+pub same_made : {X : Type 0} (make : Event → X) (history : List Event) (place : ℕ) (e : Event) (x : X) → slice_get history place ≡ Some e → slice_get (map make history) place ≡ Some x → x ≡ make e
 same_made make history place e x at told = let both : Some x ≡ Some (make e) = sym told ∙ made_get make history place e at in cc
 
 -- Where the id at a position is found in the other history ..
@@ -70,6 +70,18 @@ module _ (one other : List Event) (p q : ℕ) (x : Id) (within : p < length one)
       let one : g ≡ e.0 = cc in
       let two : h ≡ f.0 = cc in
       ap (λ (w : Event). w.parents) (one ∙ (shared_equal shared ∙ sym two))
+
+-- the id at a position
+pub told : (history : List Event) (p : ℕ) → p < length history → (x : Id) × (slice_get (ids_of history) p ≡ Some x)
+told history p within = let e = element_there history p within in (e.0.id, made_get (λ (g : Event). g.id) history p e.0 e.1)
+
+-- it is found where it was looked for
+pub found_told : (one other : List Event) (p q : ℕ) (x : Id) → slice_get (ids_of one) p ≡ Some x → position (id_eq x) (ids_of other) ≡ Some q
+    → (y : Id) → slice_get (ids_of one) p ≡ Some y → position (id_eq y) (ids_of other) ≡ Some q
+found_told one other p q x at found y there =
+    let both : Some x ≡ Some y = sym at ∙ there in
+    let same : x ≡ y = cc in
+    subst (λ z. position (id_eq z) (ids_of other) ≡ Some q) same found
 
 -- an event whose id isn't found isn't shared
 pub none_shared : (one other : List Event) (p : ℕ) (x : Id) → p < length one → slice_get (ids_of one) p ≡ Some x → position (id_eq x) (ids_of other) ≡ None → IsShared one p other → ⊥

@@ -1,14 +1,16 @@
 //! The events of one graph, looked up in another. Nothing here takes memory.
 
-ghost use Rattle.std.specs.Prelude.{◌≡◌, ◌↔◌, ◌<◌, IsTrue, length};
+ghost use Rattle.std.specs.Prelude.{◌≡◌, ◌↔◌, ◌<◌, ◌++◌, IsTrue, Some, length, position, slice_get};
 ghost use Rattle.std.specs.List.{All};
 ghost use Rattle.ew_model.specs.declared.event.Event.{Event};
+ghost use Rattle.ew_model.specs.declared.id.Id.{Id};
 ghost use Rattle.ew_model.specs.Ancestors.{ids_of};
+ghost use Rattle.ew_model.specs.ArrivalLaw.{OneEach};
 ghost use Rattle.ew_model.specs.Cuts.{are_among};
-ghost use Rattle.ew_model.specs.Ids.{is_among};
+ghost use Rattle.ew_model.specs.Ids.{id_eq, is_among};
 ghost use Rattle.ew_model.specs.Sets.{Among, SameElements};
 ghost use Rattle.event_graph.specs.Keeping.{IsAdmitted, id_of};
-ghost use Rattle.agreement.specs.Sharing.{HaveSameParents, IsShared, ids_at};
+ghost use Rattle.agreement.specs.Sharing.{Fits, HaveSameParents, IsShared, ids_at};
 
 use event_graph::Graph;
 use frontier::Parentage;
@@ -33,6 +35,19 @@ fn holds_all(b: &Graph, a: &Graph) -> bool
     true
 }
 
+/// Whether the two graphs hold one event for each id: no event of the one has the id of another event of the other.
+pub fn are_consistent(a: &Graph, b: &Graph) -> bool
+    ensures { IsTrue result ↔ OneEach (a.now ++ b.now) }
+{
+    let _count = b.count();
+    for position in 0..a.count() {
+        if !fits(a, position, b) {
+            return false;
+        }
+    }
+    true
+}
+
 /// Whether the event of `a` at a position is among those of `b`.
 fn is_shared(a: &Graph, lv: u32, b: &Graph) -> bool
     requires within { lv < length a.now }
@@ -43,6 +58,31 @@ fn is_shared(a: &Graph, lv: u32, b: &Graph) -> bool
     let Some(other) = b.find(&a.id_at(lv)) else {
         return false;
     };
+    is_same(a, lv, b, other)
+}
+
+/// Whether the event of `a` at a position is among those of `b`, where `b` holds its id.
+fn fits(a: &Graph, lv: u32, b: &Graph) -> bool
+    requires within { lv < length a.now }
+    requires admitted_a { IsAdmitted a.now }
+    requires admitted_b { IsAdmitted b.now }
+    ensures { IsTrue result ↔ Fits a.now lv b.now }
+{
+    match b.find(&a.id_at(lv)) {
+        Some(other) => is_same(a, lv, b, other),
+        None => true,
+    }
+}
+
+/// Whether the event of `a` at the one position is that of `b` with its id, which stands at the other.
+fn is_same(a: &Graph, lv: u32, b: &Graph, other: u32) -> bool
+    requires within_a { lv < length a.now }
+    requires within_b { other < length b.now }
+    requires admitted_a { IsAdmitted a.now }
+    requires admitted_b { IsAdmitted b.now }
+    requires found { (x : Id) → slice_get (ids_of a.now) lv ≡ Some x → position (id_eq x) (ids_of b.now) ≡ Some other }
+    ensures { IsTrue result ↔ IsShared a.now lv b.now }
+{
     a.op_at(lv).same(&b.op_at(other)) && have_same_parents(a, lv, b, other)
 }
 

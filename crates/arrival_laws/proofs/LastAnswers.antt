@@ -1,12 +1,16 @@
 -- Each event has one last answer, or waits, or is still to come.
-use Rattle.std.proofs.Common.{◌≡◌, ℕ, zero, suc, Bool, true, false, not, cond, List, [], ◌∷◌, ◌++◌, map, filter, Option, Some, None, inl, inr, refl, sym, ap, ◌∙◌, subst, append_assoc}
+use Rattle.std.proofs.Common.{◌≡◌, ℕ, zero, suc, Bool, true, false, not, cond, List, [], ◌∷◌, ◌++◌, map, filter, Option, Some, None, inl, inr, length, count_by, ◌+◌, ◌≤◌, arith, refl, sym, ap, ◌∙◌, subst, append_assoc}
 use Rattle.std.specs.List.Sorted.{IsPermutation}
-use Rattle.std.proofs.lemmas.List.{append-nil}
-use Rattle.std.proofs.lemmas.List.Sorted.{IsPermutation-refl, IsPermutation-cons, IsPermutation-middle, IsPermutation-append_left, IsPermutation-trans}
+use Rattle.std.proofs.lemmas.List.{append-nil, length-append, length-map}
+use Rattle.std.proofs.lemmas.List.Sums.{length-filter, sum_by-cons}
+use Rattle.std.proofs.lemmas.List.Sorted.{IsPermutation-refl, IsPermutation-cons, IsPermutation-middle, IsPermutation-append_left, IsPermutation-trans, length_permutation}
 use Rattle.ew_model.specs.declared.event.Event.{Event}
 use Rattle.ew_model.specs.Limits.{LimitNumbers}
-use Rattle.ew_model.specs.Arrival.{Desk, Answer, Judgement, Outcome, next_judgement, judgements, with_answer, desk_of}
+use Rattle.ew_model.specs.Arrival.{Desk, Answer, Judgement, Outcome, next_judgement, judgements, with_answer, desk_of, arrive, most_judgements}
+use Rattle.ew_model.specs.Verdicts.{Ruling}
+use Rattle.ew_model.specs.Verdicts.Ruling.{Unknown}
 use Rattle.ew_model.proofs.RoundLaws.{then}
+use Rattle.history_words.specs.Tallies.{is_repeat, repeats_in}
 use Rattle.arrival_laws.specs.Accounts.{is_told_to_wait, answered_at_last, HasOneLastAnswer, EachHasOneLastAnswer}
 use Rattle.arrival_laws.proofs.Turns.{TakesComing, TakesWaiting, takes_one, told_alone}
 
@@ -69,3 +73,31 @@ last_from limits b (suc n) d =
 -- The law of last answers.
 pub each_has_one_last_answer : EachHasOneLastAnswer
 each_has_one_last_answer limits held waiting events n = last_from limits true n (desk_of held waiting events)
+
+-- a repeat is a last answer
+repeats_last : (r : Ruling) → cond (is_repeat r) 1 0 ≤ cond (not (is_told_to_wait r)) 1 0
+repeats_last (Unknown p) = omega arith
+repeats_last r = omega arith
+
+repeats_counted : (answers : List Answer) → repeats_in answers ≤ count_by (λ (a : Answer). not (is_told_to_wait a.ruling)) answers
+repeats_counted [] = omega arith
+repeats_counted (a ∷ answers) =
+    let one = sum_by-cons (λ (x : Answer). cond (is_repeat x.ruling) 1 0) a answers in
+    let other = sum_by-cons (λ (x : Answer). cond (not (is_told_to_wait x.ruling)) 1 0) a answers in
+    let more = repeats_counted answers in
+    let this = repeats_last a.ruling in
+    omega (arith, one, other, more, this)
+
+-- so there are no more of them than events that waited and came
+pub few_repeats : (limits : LimitNumbers) (held waiting events : List Event) → repeats_in (arrive limits held waiting events).answers ≤ length waiting + length events
+unfolding arrive
+few_repeats limits held waiting events =
+    let o = arrive limits held waiting events in
+    let all = each_has_one_last_answer limits held waiting events (most_judgements (desk_of held waiting events)) in
+    let long = length_permutation (waiting ++ events) (answered_at_last o.answers ++ (o.desk.waiting ++ o.desk.coming)) all in
+    let behind = length-append (answered_at_last o.answers) (o.desk.waiting ++ o.desk.coming) in
+    let sum = length-append waiting events in
+    let last = length-map (filter (λ (a : Answer). not (is_told_to_wait a.ruling)) o.answers) (λ (a : Answer). a.event) in
+    let count = length-filter (λ (a : Answer). not (is_told_to_wait a.ruling)) o.answers in
+    let most = repeats_counted o.answers in
+    omega (arith, long, behind, sum, last, count, most)

@@ -1,6 +1,8 @@
 mod Turns
 mod Accounts
-mod LastAnswers
+pub mod LastAnswers
 pub mod Thinning
+mod Pairs
 pub mod Repeats
+pub mod Answered
 pub mod Settling

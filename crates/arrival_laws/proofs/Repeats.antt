@@ -3,15 +3,14 @@ use Rattle.std.proofs.Common.{◌≡◌, ℕ, zero, suc, ◌+◌, ◌<◌, ◌�
 use Rattle.std.specs.Option.{option_map_or}
 use Rattle.std.proofs.lemmas.Bool.{false≢true}
 use Rattle.ew_model.specs.declared.event.Event.{Event}
-use Rattle.ew_model.specs.Arrival.{Desk, Judgement, Outcome, next_judgement, judgements, judged, most_judgements, desk_of, arrive}
+use Rattle.ew_model.specs.Arrival.{Desk, Judgement, next_judgement, judgements, judged, most_judgements, desk_of, arrive}
 use Rattle.ew_model.specs.Cuts.{latest_cut}
 use Rattle.ew_model.specs.Limits.{LimitNumbers}
 use Rattle.ew_model.specs.Rounds.{is_out_of_range, after_out_of_range, round_touches, rounds_touches, most_touches}
 use Rattle.ew_model.specs.Touches.{touches}
 use Rattle.ew_model.proofs.ArrivalLaws.{next_less, judgements_end}
-use Rattle.ew_model.proofs.JoinedJudgements.{none_made}
-use Rattle.ew_model.proofs.RoundLaws.{then}
 use Rattle.arrival_laws.specs.Repeats.{HeldEventsChangeNothing, without_held}
+use Rattle.arrival_laws.proofs.Pairs.{in_pairs}
 use Rattle.arrival_laws.proofs.Thinning.{Ends, Goes, IsCalm, Step, step, thinned}
 
 -- the same events are held at both desks, and the same wait
@@ -19,59 +18,11 @@ record SameDesk (a c : Desk) : Type 0 where
   held : a.held ≡ c.held
   waiting : a.waiting ≡ c.waiting
 
-same_by : (a b c d : Desk) → a ≡ b → SameDesk b c → d ≡ c → SameDesk a d
-same_by a b c d first same last = record {
-  held = ap (λ (e : Desk). e.held) first ∙ same.held ∙ sym (ap (λ (e : Desk). e.held) last);
-  waiting = ap (λ (e : Desk). e.waiting) first ∙ same.waiting ∙ sym (ap (λ (e : Desk). e.waiting) last);
-}
-
 -- Enough judgements leave the same at both desks.
-module _ (limits : LimitNumbers) (b : Bool) (old : List Event) where
-  ended : (n m : ℕ) (d : Desk) → Ends limits b old d → SameDesk (judgements limits b n d).desk (judgements limits b m (thinned old d)).desk
-  ended n m d ends =
-      let here = ap (λ (o : Outcome). o.desk) (none_made limits b n d ends.here) in
-      let there = ap (λ (o : Outcome). o.desk) (none_made limits b m (thinned old d) ends.there) in
-      same_by (judgements limits b n d).desk d (thinned old d) (judgements limits b m (thinned old d)).desk here (record { held = refl; waiting = refl }) there
-
-  -- where nothing is left to judge at the one
-  at_end : (m : ℕ) (d : Desk) → next_judgement limits b d ≡ None → Step limits b old d
-      → SameDesk (judgements limits b 0 d).desk (judgements limits b m (thinned old d)).desk
-  at_end m d none (inl ends) = ended 0 m d ends
-  at_end m d none (inr (inl skips)) = let h = skips.here in let no : ⊥ = cc in absurd no
-  at_end m d none (inr (inr goes)) = let h = goes.here in let no : ⊥ = cc in absurd no
-
-  -- where the same is judged at both
-  both : (n m : ℕ) (d : Desk) → (goes : Goes limits b old d) → most_judgements (thinned old d) ≤ m
-      → ((k : ℕ) → most_judgements (thinned old goes.judgement.desk) ≤ k → SameDesk (judgements limits b n goes.judgement.desk).desk (judgements limits b k (thinned old goes.judgement.desk)).desk)
-      → SameDesk (judgements limits b (suc n) d).desk (judgements limits b m (thinned old d)).desk
-  both n zero d goes few f = let less = next_less limits b (thinned old d) _ goes.there in absurd (omega (arith, few, less))
-  both n (suc m) d goes few f =
-      let less = next_less limits b (thinned old d) _ goes.there in
-      let a = goes.judgement.desk in
-      let here = ap (λ (o : Option Judgement). (then limits b n d o).desk) goes.here in
-      let there = ap (λ (o : Option Judgement). (then limits b m (thinned old d) o).desk) goes.there in
-      same_by (judgements limits b (suc n) d).desk (judgements limits b n a).desk (judgements limits b m (thinned old a)).desk (judgements limits b (suc m) (thinned old d)).desk
-      here (f m (omega (arith, few, less))) there
-
-  one_more : (n m : ℕ) (d : Desk) → Step limits b old d → most_judgements d ≤ suc n → most_judgements (thinned old d) ≤ m
-      → ((a : Desk) (k : ℕ) → IsCalm old a → most_judgements a ≤ n → most_judgements (thinned old a) ≤ k → SameDesk (judgements limits b n a).desk (judgements limits b k (thinned old a)).desk)
-      → SameDesk (judgements limits b (suc n) d).desk (judgements limits b m (thinned old d)).desk
-  one_more n m d (inl ends) few fewer f = ended (suc n) m d ends
-  one_more n m d (inr (inl skips)) few fewer f =
-      let j = skips.judgement in
-      let less = next_less limits b d j skips.here in
-      let here = ap (λ (o : Option Judgement). (then limits b n d o).desk) skips.here in
-      let same = f j.desk m skips.calm (omega (arith, few, less)) (subst (λ (a : Desk). most_judgements a ≤ m) (sym skips.same) fewer) in
-      let rest = subst (λ (a : Desk). SameDesk (judgements limits b n j.desk).desk (judgements limits b m a).desk) skips.same same in
-      same_by (judgements limits b (suc n) d).desk (judgements limits b n j.desk).desk (judgements limits b m (thinned old d)).desk (judgements limits b m (thinned old d)).desk here rest refl
-  one_more n m d (inr (inr goes)) few fewer f =
-      let less = next_less limits b d goes.judgement goes.here in
-      both n m d goes fewer (λ k small. f goes.judgement.desk k goes.calm (omega (arith, few, less)) small)
-
-  same_desks : (n m : ℕ) (d : Desk) → IsCalm old d → most_judgements d ≤ n → most_judgements (thinned old d) ≤ m
-      → SameDesk (judgements limits b n d).desk (judgements limits b m (thinned old d)).desk
-  same_desks zero m d calm few fewer = at_end m d (judgements_end limits b zero d few) (step limits b old d calm)
-  same_desks (suc n) m d calm few fewer = one_more n m d (step limits b old d calm) few fewer (λ a k. same_desks n k a)
+same_desks : (limits : LimitNumbers) (b : Bool) (old : List Event) (n m : ℕ) (d : Desk) → IsCalm old d → most_judgements d ≤ n → most_judgements (thinned old d) ≤ m
+    → SameDesk (judgements limits b n d).desk (judgements limits b m (thinned old d)).desk
+same_desks limits b old =
+    in_pairs limits b old (λ d o p. SameDesk o.desk p.desk) (λ d calm ends. record { held = refl; waiting = refl }) (λ d skips o p same. same) (λ d goes o p same. same)
 
 -- The first answers OutOfRange leave desks that are alike again.
 abbrev SameOut : List Event → Desk → Option Desk → Option Desk → Type 0
@@ -198,7 +149,7 @@ module _ (limits : LimitNumbers) (old : List Event) where
       omega (arith, first, there.1, later)
 
 -- nothing is held by the empty history
-none_left_out : (events : List Event) → without_held [] events ≡ events
+pub none_left_out : (events : List Event) → without_held [] events ≡ events
 none_left_out [] = refl
 none_left_out (e ∷ events) = ap (λ (w : List Event). e ∷ w) (none_left_out events)
 

@@ -2,7 +2,7 @@
 #![tactic(auto)]
 
 ghost use Rattle.arrival_laws.specs.Accounts.{EachHasOneLastAnswer, JudgementsAccountForAll};
-ghost use Rattle.arrival_laws.specs.Repeats.{HeldEventsChangeNothing};
+ghost use Rattle.arrival_laws.specs.Repeats.{HeldEventsAreRepeats, HeldEventsChangeNothing};
 
 /// The events answered Good, in order, stand behind the old history. Each received event was judged once as it came, in order, or
 /// is still to come. Each that waited, or was told to, was judged once after that, with another answer, or still waits. There are
@@ -20,4 +20,10 @@ pub fn law_last_answers()
 /// waiting, as receiving all, and takes as many touches at most.
 pub fn law_held()
     ensures { HeldEventsChangeNothing }
+{}
+
+/// Where there is one event for each id, and no waiting event is ready, those events that are left out then are repeats: the others
+/// are answered as they would be, and there are as many repeats fewer.
+pub fn law_repeats()
+    ensures { HeldEventsAreRepeats }
 {}

@@ -1,5 +1,5 @@
 //! The command that merges another file into a file.
-ghost use Rattle.std.specs.Prelude.{◌≡◌, ◌≢◌, ◌<◌, ◌≤◌, ◌+◌, ◌^◌, [], ◌∷◌, find, length, IfOk, IfSome};
+ghost use Rattle.std.specs.Prelude.{◌≡◌, ◌≢◌, ◌≤◌, ◌+◌, [], ◌∷◌, find, IfOk, IfSome};
 ghost use Rattle.std.specs.List.{list_any};
 ghost use Rattle.std.specs.Option.{option_copied};
 ghost use Rattle.merge_plans.specs.Merging.{took_reply, LoadsAll};
@@ -15,9 +15,8 @@ ghost use Rattle.opened_files.specs.Views.{IsCommandPlan, LostBy, MissesBy, Shel
 ghost use Rattle.command_table.specs.Reads.{LoadsFront, loads_behind};
 ghost use Rattle.ew_outside.specs.Counts.{next};
 
+use crate::taking::take;
 use command_texts::texts::{clash_text, received_text, too_many_events_text};
-use ew_model::NoMem;
-use ew_model::event::Event;
 use ew_model::id::Id;
 use ew_model::limits::Limits;
 use ew_model::steps::Steps;
@@ -102,16 +101,7 @@ fn took_plan<'a>(
     received_plan(alloc, name, replica, took)
 }
 
-/// The events of a replica that isn't needed any more.
-fn events_of(replica: Replica) -> Result<Vec<Event>, NoMem>
-    ensures events { IfOk result (λ v. v.items ≡ replica.held) }
-    ensures few { IfOk result (λ v. length v.items < 2 ^ 32) }
-{
-    let _count = replica.count();
-    replica.events()
-}
-
-/// Receives the events of another replica.
+/// Receives the events of another replica, and tells what became of them.
 fn receive<'a, L: Ledger>(
     alloc: Global,
     name: &'a str,
@@ -127,10 +117,8 @@ fn receive<'a, L: Ledger>(
     ensures found { IfOk result (λ p. status_of p ≢ 3) }
     ensures most { steps.new ≤ steps.old + most_touches limits.now replica.old.held [] other.held }
 {
-    match replica.receive(events_of(other)?, steps) {
-        Ok(took) => took_plan(alloc, name, limits, replica, &took),
-        Err(_) => Err(AllocError),
-    }
+    let took = take(replica, other, steps)?;
+    took_plan(alloc, name, limits, replica, &took)
 }
 
 /// Opens another file, and receives its events.
