@@ -14,6 +14,7 @@ use Rattle.ew_model.specs.Ids.{id_eq, name_eq, ids_ascend}
 use Rattle.ew_model.specs.Sound.{AreSound}
 use Rattle.ew_model.specs.File.{four_bytes, name_bytes, with_agent, agents_of, op_bytes, record_bytes, file_content, file_of, are_writable_after, IsWritable}
 use Rattle.ew_model.specs.Limits.{most_file_bytes}
+use Rattle.ew_model.proofs.EntryLaws.{all_joined}
 use Rattle.ew_model.proofs.FileEvents.{agents_few_from}
 use Rattle.peer_frames.proofs.ShortNames.{name_short}
 
@@ -29,13 +30,9 @@ names_length : (agents : List (List ℕ)) → AllByRecursion (λ name. length na
 names_length [] h = omega arith
 names_length (name ∷ agents) h = omega (arith, length-append (name_bytes name) (flat_map name_bytes agents), h.0, names_length agents h.1)
 
-all_push : (P : List ℕ → Type 0) (xs : List (List ℕ)) (x : List ℕ) → AllByRecursion P xs → P x → AllByRecursion P (xs ++ x ∷ [])
-all_push P [] x h p = (p, tt)
-all_push P (y ∷ xs) x h p = (h.0, all_push P xs x h.1 p)
-
 agent_short : (b : Bool) (agents : List (List ℕ)) (name : List ℕ) → AllByRecursion (λ a. length a ≤ 32) agents → length name ≤ 32 → AllByRecursion (λ a. length a ≤ 32) (if b then agents else agents ++ name ∷ [])
 agent_short true agents name h p = h
-agent_short false agents name h p = all_push (λ a. length a ≤ 32) agents name h p
+agent_short false agents name h p = all_joined (λ a. length a ≤ 32) agents (name ∷ []) h (p, tt)
 
 agents_short : (agents : List (List ℕ)) (events : List Event) → AllByRecursion (λ a. length a ≤ 32) agents → AreSound events → AllByRecursion (λ a. length a ≤ 32) (fold with_agent agents events)
 agents_short agents [] h s = h

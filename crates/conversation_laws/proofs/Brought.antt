@@ -13,6 +13,7 @@ use Rattle.ew_model.specs.Limits.{LimitNumbers, AreLimits, most_file_bytes}
 use Rattle.ew_model.specs.Sets.{Among}
 use Rattle.ew_model.specs.Sound.{IsSound, AreSound}
 use Rattle.ew_model.specs.Verdicts.{IsGood, IsGoodAfter}
+use Rattle.ew_model.proofs.EntryLaws.{all_joined}
 use Rattle.ew_model.proofs.FirstBadLaws.{good_has_no_bad}
 use Rattle.ew_model.proofs.IdLaws.{names_equal}
 use Rattle.ew_model.proofs.SetLaws.{among_joined, among_filter, joined_left, joined_right}
@@ -25,7 +26,7 @@ use Rattle.peer_frames.specs.declared.frame.Frame.{Frame}
 use Rattle.peer_frames.specs.declared.frame.Frame.TheVariants.{Have, Events, Done, Bye}
 use Rattle.peer_frames.specs.Laws.{IsTaken}
 use Rattle.peer_frames.specs.Spelling.{frame_bytes}
-use Rattle.peer_frames.proofs.Written.{all_pushed}
+use Rattle.peer_exchange.proofs.Ascending.{summary_sound}
 use Rattle.peer_exchange.specs.Answering.{event_frames}
 use Rattle.peer_exchange.specs.Laws.{unheld}
 use Rattle.peer_exchange.specs.Pieces.{frame_room, pieces}
@@ -44,7 +45,7 @@ use Rattle.replica.proofs.Beginnings.{good_from_none_bad}
 use Rattle.conversation_laws.specs.Conversations.{CanBeOne, ConversationsBring, IsBrought, IsConversation}
 use Rattle.conversation_laws.proofs.GoodBehind.{good_behind, good_joined}
 use Rattle.conversation_laws.proofs.Received.{IsTalked, talked}
-use Rattle.conversation_laws.proofs.Spoken.{framed, just, summary_sound}
+use Rattle.conversation_laws.proofs.Spoken.{framed, just}
 use Rattle.command_table.proofs.Pasts.{same_events}
 
 -- ---- files
@@ -171,7 +172,7 @@ brought limits mine theirs one other events others input reading asked answered 
     let parts = pieces (frame_room limits) lacking in
     let frames : List Frame = map Events parts ++ Done ∷ Bye ∷ [] in
     let frames_are : replies limits others counts ++ Bye ∷ [] ≡ frames = append_assoc (map Events parts) (Done ∷ []) (Bye ∷ []) in
-    let taken = all_pushed (IsTaken limits) (replies limits others counts) Bye (sent_taken limits lacking numbers sound (missing_few others counts also)) (bye_taken limits) in
+    let taken = all_joined (IsTaken limits) (replies limits others counts) (Bye ∷ []) (sent_taken limits lacking numbers sound (missing_few others counts also)) (bye_taken limits, tt) in
     let bytes_are : answered.out ++ frame_bytes Bye ≡ bytes_of frames =
     ap (λ (a : Answer). a.out ++ frame_bytes Bye) answered_is
     ∙ ap (λ (b : List ℕ). bytes_of (replies limits others counts) ++ b) (sym (append-nil (frame_bytes Bye)))

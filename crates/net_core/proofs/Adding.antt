@@ -1,5 +1,5 @@
 -- Only a peer's local edits add events of its agent.
-use Rattle.std.proofs.Common.{◌≡◌, ℕ, true, false, ◌⊎◌, inl, inr, ⊎_elim, List, [], ◌∷◌, ◌++◌, cond, filter, map, Option, Some, None, refl, sym, ap, ◌∙◌, subst, append-nil, append_assoc}
+use Rattle.std.proofs.Common.{◌≡◌, ℕ, true, false, ◌⊎◌, inl, inr, ⊎_elim, List, [], ◌∷◌, ◌++◌, cond, filter, map, Option, Some, None, refl, sym, ap, ◌∙◌, subst, append-nil}
 use Rattle.std.specs.List.{AllByRecursion, slice_get}
 use Rattle.std.specs.Option.{option_map_or}
 use Rattle.std.proofs.lemmas.Bool.{cases_Bool, cond-false, false≢true}
@@ -21,6 +21,7 @@ use Rattle.ew_model.proofs.SetLaws.{joined_left, joined_right}
 use Rattle.ew_model.proofs.SortingLaws.{all_at}
 use Rattle.net_words.specs.declared.step.NetStep.{NetStep}
 use Rattle.net_words.specs.declared.step.NetStep.TheVariants as step
+use Rattle.replica.proofs.Fronts.{good_behind}
 use Rattle.peer_exchange.specs.Answering.{answer_to, event_frames, question}
 use Rattle.peer_frames.specs.declared.frame.Frame.{Frame}
 use Rattle.peer_frames.specs.declared.frame.Frame.TheVariants.{Have, Events, Done, Took, Clash, Bye}
@@ -33,15 +34,11 @@ use Rattle.net_core.proofs.Deliveries.{went}
 use Rattle.net_core.proofs.Editing.{edited_state, named_so, replica_of}
 use Rattle.net_core.proofs.Following.{peer_did}
 use Rattle.net_core.proofs.Lawful.{packet_left, peers_left}
-use Rattle.net_core.proofs.Packets.{got_among}
+use Rattle.ew_model.proofs.OperationLaws.{got}
 use Rattle.net_core.proofs.Puts.{found_put, put_elsewhere, put_here, put_in}
 use Rattle.net_core.proofs.Reaching.{HasHomes, IsHomely, IsSent, homely, still_there}
 
 -- an event stands once in a good history
-good_back : (before xs ys : List Event) → IsGoodAfter before (xs ++ ys) → IsGoodAfter (before ++ xs) ys
-good_back before [] ys h = subst (λ b. IsGoodAfter b ys) (sym (append-nil before)) h
-good_back before (x ∷ xs) ys h = subst (λ b. IsGoodAfter b ys) (append_assoc before (x ∷ []) xs) (good_back (before ++ x ∷ []) xs ys h.1)
-
 not_twice : (before later : List Event) (e : Event) → IsGoodAfter before later → Among e before → Among e later → ⊥
 not_twice before [] e h m k = k
 not_twice before (x ∷ later) e h m (inl q) = false≢true (sym (next_from_good before x h.0).new ∙ ap (λ (z : Event). is_held before z.id) (sym q) ∙ held_of before e m)
@@ -67,7 +64,7 @@ module _ (network : Network) (p : Peer) (h : IsHomely network) (found : peer_of 
       → ((e : Event) → Among e p.replica.held → Among e held) → made_by p.name (held ++ more) ≡ made_by p.name held
   unfolding IsGood
   none_added held more good homes inside =
-      let none = none_made p.name more (λ e m own. not_twice held more e (good_back [] held more good)
+      let none = none_made p.name more (λ e m own. not_twice held more e (good_behind [] held more good)
       (inside e (own_known e (all_at (IsHome network.peers) (held ++ more) e homes (joined_right held more e m)) own)) m) in
       filter-append (λ (e : Event). name_eq e.id.agent p.name) held more ∙ ap (λ es. made_by p.name held ++ es) none ∙ append-nil (made_by p.name held)
 
@@ -160,7 +157,7 @@ module _ (network new : Network) (s : NetStep) (p q : Peer) (h : IsHomely networ
 
   packet_adds : (n : ℕ) (o : Option Packet) → slice_get network.packets n ≡ o
       → network_left (option_map_or (deliver_step network) o (Refused (NoPacket n))) ≡ Some new → AddsNone
-  packet_adds n (Some k) is left = deliver_adds k (got_among network.packets n k is) left
+  packet_adds n (Some k) is left = deliver_adds k (got network.packets n k is) left
   packet_adds n None is left = let no : ⊥ = cc in absurd no
 
   restart_adds : (name : List ℕ) → network_left (with_peer network name (restart_outcome network)) ≡ Some new → AddsNone

@@ -8,6 +8,7 @@ use Rattle.ew_model.specs.ArrivalLaw.{OneEach}
 use Rattle.ew_model.specs.Events.{event_eq}
 use Rattle.ew_model.specs.Limits.{AreLimits}
 use Rattle.ew_model.specs.Sets.{Among}
+use Rattle.ew_model.proofs.ListParts.{element_there}
 use Rattle.ew_model.proofs.SameEvents.{event_among}
 use Rattle.ew_model.proofs.SetLaws.{among_filter, among_joined, filter_among}
 use Rattle.ew_model.proofs.SortingLaws.{all_at, all_from}
@@ -26,10 +27,10 @@ use Rattle.net_core.proofs.Editing.{replica_of}
 use Rattle.net_core.proofs.Following.{Follows, IsGrown, peer_did, step_follows, steps_follow, then_follows}
 use Rattle.net_core.proofs.Homes.{one_home}
 use Rattle.net_core.proofs.Lawful.{all_arrive, home_later, made_by_answer, packet_at, packet_left}
-use Rattle.net_core.proofs.Packets.{got_among}
+use Rattle.ew_model.proofs.OperationLaws.{got}
 use Rattle.net_core.proofs.Reaching.{IsHomely, IsSent, homely}
 use Rattle.net_core.proofs.Sending.{unheld_ordered}
-use Rattle.net_core.proofs.Steps.{ask_is, got}
+use Rattle.net_core.proofs.Steps.{ask_is}
 
 -- of a history, what the other one holds and what it lacks are all
 held_or_not : (history other : List Event) (e : Event) → Among e history → Among e other ⊎ Among e (unheld history other)
@@ -50,10 +51,10 @@ answers_arrive network asked between made later new sender receiver steps p reac
     let to_asked = step_follows network asked (step.Ask sender receiver) h asked_is in
     let to_between = steps_follow asked between steps to_asked.homely between_is in
     let whole_between = then_follows network asked between to_asked to_between in
-    let g0 = got between.packets (length network.packets) (few network asked between sender receiver a asked_packets to_between) in
+    let g0 = element_there between.packets (length network.packets) (few network asked between sender receiver a asked_packets to_between) in
     let packet0 = packet_at asked between network.packets k0 g0.0 (ap (λ (n : Network). n.packets) asked_packets) to_between g0.1 in
     let at0 : slice_get between.packets (length network.packets) ≡ Some k0 = g0.1 ∙ ap Some packet0 in
-    let sent0 = all_at (IsSent between.peers) between.packets k0 to_between.homely.packets (got_among between.packets (length network.packets) k0 at0) in
+    let sent0 = all_at (IsSent between.peers) between.packets k0 to_between.homely.packets (got between.packets (length network.packets) k0 at0) in
     let made_packets = made_by_answer between made k0 p counts (length network.packets) to_between.homely sent0 at0 refl p_is made_is in
     let k1 : Packet = record { sender = receiver; receiver = sender; frames = event_frames p.replica.limits (missing p.replica.held counts) ++ frame.Done ∷ [] } in
     let to_made = step_follows between made (step.Deliver (length network.packets)) to_between.homely made_is in
@@ -69,7 +70,7 @@ answers_arrive network asked between made later new sender receiver steps p reac
     (whole_between.grown sender a first.1) to_between.homely f mf) (home_of between receiver sender p a own.held
     (whole_between.grown sender a first.1) to_between.homely g mg) same in
     let lacks : missing p.replica.held counts ≡ unheld p.replica.held a.replica.held = missing_are_unheld p.replica.held a.replica.held asker.kept.orderly.good one in
-    let sent1 = all_at (IsSent later.peers) later.packets d.packet to_later.homely.packets (got_among later.packets (length between.packets) d.packet d.packet_is) in
+    let sent1 = all_at (IsSent later.peers) later.packets d.packet to_later.homely.packets (got later.packets (length between.packets) d.packet d.packet_is) in
     let grown = all.grown sender a first.1 in
     let receiver_name : d.packet.receiver ≡ sender = ap (λ (x : Packet). x.receiver) packet1 in
     let same_peer : Some grown.now ≡ Some d.receiver = sym grown.there ∙ ap (peer_of later) (sym receiver_name) ∙ d.receiver_is in

@@ -1,7 +1,8 @@
 -- What all judgements leave of events that were good where they were made.
 use Rattle.std.proofs.Common.{◌≡◌, ℕ, zero, suc, Bool, true, false, cond, ◌⊎◌, inl, inr, ⊎_elim, List, [], ◌∷◌, ◌++◌, find, Option, Some, None, refl, sym, ap, ◌∙◌, subst}
-use Rattle.std.specs.List.{AllByRecursion}
+use Rattle.std.specs.List.{AllByRecursion, position_or_len}
 use Rattle.std.proofs.lemmas.Bool.{cases_Bool, cond-false, cond-true, false≢true}
+use Rattle.std.proofs.lemmas.List.Folds.{find_at}
 use Rattle.ew_model.specs.declared.event.Event.{Event}
 use Rattle.ew_model.specs.Arrival.{Answer, Desk, Judgement, Outcome, arrive, at_the_pool, desk_after, desk_of, is_ready, judge_coming, judge_ready, judgement_of, judgements, most_judgements, next_judgement, with_answer, without_ready}
 use Rattle.ew_model.specs.ArrivalLaw.{NoneReady}
@@ -13,19 +14,20 @@ use Rattle.ew_model.specs.Verdicts.{Ruling, first_row, id_rows, later_rows}
 use Rattle.ew_model.specs.Verdicts.Ruling.{Repeat, Unknown, PoolFull, GraphFull, Good}
 use Rattle.ew_model.proofs.ArrivalLaws.{is_unknown, ready_found}
 use Rattle.ew_model.proofs.KeptLaws.{kept_next}
+use Rattle.ew_model.proofs.OperationLaws.{got}
 use Rattle.ew_model.proofs.RoundLaws.{then}
 use Rattle.ew_model.proofs.SetLaws.{among_joined}
 use Rattle.ew_model.proofs.VersionLaws.{find_none}
 use Rattle.net_core.specs.Laws.{IsRoomRefusal}
 use Rattle.net_core.proofs.Arriving.{IsFrom, IsTurn, by_way}
-use Rattle.net_core.proofs.Awaiting.{find_among}
 use Rattle.net_core.proofs.Elsewhere.{WasGood}
 use Rattle.net_core.proofs.Judging.{Way, coming_way, ready_way}
 
-coming_same : (r : Ruling) (e : Event) (d : Desk) → (desk_after r e d).coming ≡ d.coming
-coming_same Good e d = refl
-coming_same (Unknown p) e d = refl
-coming_same r e d = refl
+-- what is to come stays
+still_coming : (r : Ruling) (e : Event) (d : Desk) → d.coming ≡ (desk_after r e d).coming
+still_coming Good e d = refl
+still_coming (Unknown p) e d = refl
+still_coming r e d = refl
 
 -- the ready event that is found first, and the others
 less_waits : (held waiting : List Event) (z : Event) → Among z (without_ready held waiting) → Among z waiting
@@ -57,7 +59,7 @@ module _ (U : Event → Type 0) (one : (f g : Event) → U f → U g → id_eq f
       let rest : Desk = record { held = d.held; waiting = d.waiting; coming = coming; is_settling = true } in
       let given : U x = from.of_coming x (subst (Among x) (sym c) (inl refl)) in
       let same : judgement_of limits rest x first ≡ j = cc in
-      let takes : d.coming ≡ x ∷ (desk_after r x rest).coming = c ∙ ap (λ (w : List Event). x ∷ w) (sym (coming_same r x rest)) in
+      let takes : d.coming ≡ x ∷ (desk_after r x rest).coming = c ∙ ap (λ (w : List Event). x ∷ w) (still_coming r x rest) in
       let way = coming_way U one was limits d.held from.of_held from.kept.good d.waiting from.of_waiting x given in
       subst (λ (i : Judgement). IsOrderly i.desk.held i.desk.waiting → IsTurn U d i) same
       (λ k. by_way U d rest x given from refl refl (λ z m. m) (λ z m. inr m) (λ z m. subst (Among z) (sym c) (inr m)) r
@@ -76,13 +78,13 @@ module _ (U : Event → Type 0) (one : (f g : Event) → U f → U g → id_eq f
       let ready = (ready_found d.held d.waiting x found).0 in
       let first = first_row (later_rows limits true d.held x) in
       let r = at_the_pool limits less first in
-      let given : U x = from.of_waiting x (find_among (is_ready d.held) d.waiting x found) in
+      let given : U x = from.of_waiting x (got d.waiting (position_or_len (is_ready d.held) d.waiting) x (sym (find_at (is_ready d.held) d.waiting) ∙ found)) in
       let same : judgement_of limits rest x first ≡ j = cc in
       subst (λ (i : Judgement). IsOrderly i.desk.held i.desk.waiting → IsTurn U d i) same
       (λ k. by_way U d rest x given from refl refl (less_waits d.held d.waiting) (others_wait d.held d.waiting x found) (λ z m. m) r
       (inr (⊎_elim (λ q. inl (ap (at_the_pool limits less) q)) (λ q. inr (inl (ap (at_the_pool limits less) q)))
       (ready_way U one was limits d.held from.of_held from.kept.good x given ready)))
-      (inr (sym (coming_same r x rest), ready)) k)
+      (inr (still_coming r x rest, ready)) k)
       kept
 
   -- The next judgement.

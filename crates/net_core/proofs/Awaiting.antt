@@ -1,7 +1,7 @@
 -- No peer awaits an event of its own agent: such events stand in its own history.
-use Rattle.std.proofs.Common.{◌≡◌, ℕ, Bool, true, false, not, ◌&&◌, ◌⊎◌, inl, inr, ⊎_elim, List, [], ◌∷◌, Option, Some, None, refl, sym, ap, subst, ◌∙◌}
-use Rattle.std.specs.List.{AllByRecursion, find, list_any}
-use Rattle.std.proofs.lemmas.Bool.{and_parts, cases_Bool, cond-true, cond-false, false_from_ne_true, false≢true}
+use Rattle.std.proofs.Common.{◌≡◌, ℕ, Bool, true, false, not, ◌&&◌, ◌⊎◌, ⊎_elim, List, ◌∷◌, Option, Some, None, refl, sym, ap, subst, ◌∙◌}
+use Rattle.std.specs.List.{AllByRecursion, list_any}
+use Rattle.std.proofs.lemmas.Bool.{and_parts, false_from_ne_true, false≢true}
 use Rattle.ew_model.specs.declared.event.Event.{Event}
 use Rattle.ew_model.specs.declared.id.Id.{Id}
 use Rattle.ew_model.specs.Ancestors.{is_held}
@@ -16,15 +16,7 @@ use Rattle.ew_model.proofs.RulingLaws.{good_parents}
 use Rattle.ew_model.proofs.SortingLaws.{all_at}
 use Rattle.net_core.specs.Keeping.{IsHome, IsReplica}
 use Rattle.net_core.specs.Machine.{Peer, peer_among}
-
--- what is found is among them
-pub find_among : {X : Type 0} (test : X → Bool) (xs : List X) (x : X) → find test xs ≡ Some x → Among x xs
-find_among test [] x found = absurd cc
-find_among test (y ∷ xs) x found = by (cases_Bool (test y)) (λ next. find_among test xs x next)
-  where
-    by : (test y ≡ true) ⊎ (test y ≡ false) → (find test xs ≡ Some x → Among x xs) → Among x (y ∷ xs)
-    by (inl here) more = let taken : Some y ≡ Some x = sym (cond-true _ _ _ here) ∙ found in inl cc
-    by (inr other) more = inr (more (sym (cond-false _ _ _ other) ∙ found))
+use Rattle.net_core.proofs.Puts.{peer_there}
 
 neither_held : (b : Bool) → not b ≡ true → b ≡ true → ⊥
 neither_held true h k = false≢true h
@@ -46,7 +38,7 @@ module _ (limits : LimitNumbers) (peers : List Peer) (all : AllByRecursion (λ (
   -- so are the parents of its agent that an event with a home has
   parent_held : (w : Event) (x : Id) → IsHome peers w → is_among w.parents x ≡ true → name_eq x.agent agent ≡ true → is_held p.replica.held x ≡ true
   parent_held w x h parent own =
-      let home = replica_at h.home (find_among (λ (q : Peer). name_eq q.name w.id.agent) peers h.home h.found) in
+      let home = replica_at h.home (peer_there peers w.id.agent h.home h.found) in
       let f = event_of h.home.replica.held x (good_parents h.home.replica.held home.kept.orderly.good w h.held x parent) in
       let same : x ≡ f.0.id = (is_same_id x f.0.id).0 f.2 in
       let f_home = all_at (IsHome peers) h.home.replica.held f.0 home.held f.1 in
@@ -66,7 +58,7 @@ module _ (limits : LimitNumbers) (peers : List Peer) (all : AllByRecursion (λ (
     where
       fails : is_awaited p.replica.held p.replica.waiting agent ≡ true → ⊥
       fails told =
-          let own = replica_at p (find_among (λ (q : Peer). name_eq q.name agent) peers p here) in
+          let own = replica_at p (peer_there peers agent p here) in
           let w = found_by (λ (w : Event). list_any (λ (x : Id). name_eq x.agent agent && not (is_held p.replica.held x)) (w.id ∷ w.parents)) p.replica.waiting told in
           let x = found_by (λ (x : Id). name_eq x.agent agent && not (is_held p.replica.held x)) (w.0.id ∷ w.0.parents) w.2 in
           nothing_awaited w.0 x.0 (all_at (IsHome peers) p.replica.waiting w.0 own.waiting w.1) x.1 x.2

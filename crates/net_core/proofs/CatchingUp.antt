@@ -34,18 +34,15 @@ abbrev IsCaught : Desk → Event → Type 0
 IsCaught d e = Among e d.held ⊎ (Among e d.waiting × (is_ready d.held e ≡ true))
 
 -- nothing is left to judge
-none_coming : (limits : LimitNumbers) (d : Desk) (coming : List Event) → judge_coming limits true d coming ≡ None → coming ≡ []
-none_coming limits d [] h = refl
-none_coming limits d (x ∷ coming) h = let no : ⊥ = cc in absurd no
-
-none_ready : (limits : LimitNumbers) (d : Desk) (o : Option Event) → judge_ready limits true d o ≡ None → (o ≡ None) × (d.coming ≡ [])
-none_ready limits d None h = (refl, none_coming limits d d.coming h)
-none_ready limits d (Some x) h = let no : ⊥ = cc in absurd no
+both_none : (limits : LimitNumbers) (d : Desk) (o : Option Event) (coming : List Event) → d.coming ≡ coming → judge_ready limits true d o ≡ None → (o ≡ None) × (d.coming ≡ [])
+both_none limits d None [] is h = (refl, is)
+both_none limits d None (x ∷ coming) is h = let none : judge_coming limits true d (x ∷ coming) ≡ None = ap (judge_coming limits true d) (sym is) ∙ h in absurd cc
+both_none limits d (Some x) coming is h = absurd cc
 
 none_left : (limits : LimitNumbers) (d : Desk) → next_judgement limits true d ≡ None → (d.coming ≡ []) × (d.is_settling ≡ true → NoneReady d.held d.waiting)
 unfolding next_judgement
 none_left limits d h =
-    let parts = none_ready limits d (cond d.is_settling (find (is_ready d.held) d.waiting) None) h in
+    let parts = both_none limits d (cond d.is_settling (find (is_ready d.held) d.waiting) None) d.coming refl h in
     (parts.1, λ settling. find_none (is_ready d.held) d.waiting (sym (cond-true _ _ _ settling) ∙ parts.0))
 
 -- the known events are held where none that waits is ready

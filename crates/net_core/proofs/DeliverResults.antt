@@ -21,7 +21,8 @@ use Rattle.net_core.specs.Machine.{Network, Packet, Peer, StepOutcome, deliver_s
 use Rattle.net_core.specs.Machine.Refusal.{NoPacket, NoPeer}
 use Rattle.net_core.specs.Machine.StepOutcome.{Refused, Stepped}
 use Rattle.net_core.proofs.Editing.{replica_of}
-use Rattle.net_core.proofs.Packets.{deliver_is, delivered_homely, frames_apart, frames_taken, got_among, left_all, left_homely, left_none, left_some, no_packet, replies_are, with_some}
+use Rattle.ew_model.proofs.OperationLaws.{got}
+use Rattle.net_core.proofs.Packets.{deliver_is, delivered_homely, frames_apart, frames_taken, left_all, left_homely, left_none, left_some, no_packet, replies_are, with_some}
 use Rattle.net_core.proofs.Reaching.{AreTaken, IsHomely, IsSent, both_packet, fit, homely}
 use Rattle.net_core.proofs.Steps.{no_peer}
 use Rattle.net_core.proofs.Writes.{here, refused_so, seen, there, with_written, written, written_reached}
@@ -41,7 +42,7 @@ handed_at S n k packets same at = ap (λ ps. slice_get ps n) (sym same) ∙ at
 memory_told : (S : Network) (h : IsReached S) (n : ℕ) (k : Packet) → slice_get S.packets n ≡ Some k → StepsTo S (step.Deliver n) S (Err fault.OutOfMemory)
 memory_told S h n k at =
     let all = homely S h in
-    let sent = all_at (IsSent S.peers) S.packets k all.packets (got_among S.packets n k at) in
+    let sent = all_at (IsSent S.peers) S.packets k all.packets (got S.packets n k at) in
     let place = found_place _ S.peers sent.receiver sent.receiver_is in
     subst (λ (o : Option Packet). IsLeftAt S o S) (sym at) (left_none S k sent.receiver all sent sent.receiver_is place.0 place.1)
 
@@ -73,10 +74,10 @@ module _ (N S : Network) (view : N ≡ S) (h : IsReached N) (n : ℕ) (k : Packe
   is = there N S view h k.receiver place found
 
   sent : IsSent S.peers k
-  sent = all_at (IsSent S.peers) S.packets k all.packets (got_among S.packets n k at)
+  sent = all_at (IsSent S.peers) S.packets k all.packets (got S.packets n k at)
 
   taken : AreTaken S.limits k
-  taken = all_at (AreTaken S.limits) S.packets k (fit S (seen N S view h k.receiver place found)).taken (got_among S.packets n k at)
+  taken = all_at (AreTaken S.limits) S.packets k (fit S (seen N S view h k.receiver place found)).taken (got S.packets n k at)
 
   -- memory is wanting
   pub told_left : (new : Network) (f : NetFault) (result : Result (Vec ℕ) NetFault) → result ≡ Err f → f ≡ fault.OutOfMemory → IsLeftAt S (Some k) new

@@ -13,6 +13,7 @@ use Rattle.ew_model.specs.Sets.{Among}
 use Rattle.ew_model.specs.Verdicts.{IsGood, Ruling}
 use Rattle.ew_model.specs.Verdicts as verdicts
 use Rattle.ew_model.specs.Verdicts.Ruling.{Repeat, SelfParent, TooManyParents, ParentsUnsorted, Unknown, PoolFull, NotReduced, Skipped, GraphFull, OutOfRange, Good}
+use Rattle.ew_model.proofs.EntryLaws.{all_joined}
 use Rattle.ew_model.proofs.LimitsKept.{arrivals_keep, judgements_keep_limits}
 use Rattle.ew_model.proofs.SortingLaws.{all_at, all_filter, all_from}
 use Rattle.event_graph.proofs.Tails.{all_first}
@@ -33,10 +34,6 @@ use Rattle.net_core.proofs.Arrivals.{AreTurns, arrival, turns}
 use Rattle.net_core.proofs.Arriving.{IsFrom}
 use Rattle.net_core.proofs.Homes.{one_home, was_home}
 use Rattle.net_core.proofs.Reaching.{HasHomes}
-
-pub all_joined : {X : Type 0} (P : X → Type 0) (xs ys : List X) → AllByRecursion P xs → AllByRecursion P ys → AllByRecursion P (xs ++ ys)
-all_joined P [] ys h k = k
-all_joined P (x ∷ xs) ys h k = (h.0, all_joined P xs ys h.1 k)
 
 pub all_before : {X : Type 0} (P : X → Type 0) (xs ys : List X) → AllByRecursion P (xs ++ ys) → AllByRecursion P xs
 all_before P [] ys h = tt

@@ -18,9 +18,10 @@ use Rattle.net_core.specs.Keeping.{IsHome, IsReplica}
 use Rattle.net_core.specs.Machine.{Network, Peer, StepOutcome, edit_outcome, edit_step, net_step, peer_among, peer_of, printed_line, put_replica, restart_outcome, with_peer}
 use Rattle.net_core.specs.Machine.Refusal.{NoEdit}
 use Rattle.net_core.specs.Machine.StepOutcome.{Stepped, Refused}
-use Rattle.net_core.proofs.Awaiting.{find_among, none_awaited, replica_at}
-use Rattle.net_core.proofs.Deliveries.{Went, all_joined}
-use Rattle.net_core.proofs.Puts.{found_named, found_put, put_here, put_in, set_is_put}
+use Rattle.net_core.proofs.Awaiting.{none_awaited, replica_at}
+use Rattle.ew_model.proofs.EntryLaws.{all_joined}
+use Rattle.net_core.proofs.Deliveries.{Went}
+use Rattle.net_core.proofs.Puts.{found_named, found_put, peer_there, put_here, put_in, set_is_put}
 use Rattle.net_core.proofs.Reaching.{IsHomely, all_on, home_after, put_homely, still_replica}
 use Rattle.net_core.proofs.Steps.{at_peer, no_peer}
 
@@ -43,7 +44,7 @@ found_own network who p found = ap (peer_among network.peers) (named_so network 
 
 pub replica_of : (network : Network) (who : List ℕ) (p : Peer) → IsHomely network → peer_of network who ≡ Some p → IsReplica network.limits network.peers p.replica
 replica_of network who p h found =
-    all_at (λ (x : Peer). IsReplica network.limits network.peers x.replica) network.peers p h.peers (find_among _ network.peers p found)
+    all_at (λ (x : Peer). IsReplica network.limits network.peers x.replica) network.peers p h.peers (peer_there network.peers who p found)
 
 -- it awaits nothing of its own
 pub awaits_none : (network : Network) (who : List ℕ) (p : Peer) → IsHomely network → peer_of network who ≡ Some p

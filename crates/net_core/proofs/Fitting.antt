@@ -1,15 +1,15 @@
 -- At every moment of every script readers take the frames of all packets, and events stand where they were made.
-use Rattle.std.proofs.Common.{◌≡◌, ℕ, zero, suc, ◌+◌, ◌<◌, ◌≤◌, ◌^◌, true, false, ◌⊎◌, inl, inr, ⊎_elim, List, [], ◌∷◌, ◌++◌, length, map, take, drop, count_by, filter, Option, Some, None, refl, sym, ap, ◌∙◌, subst, append-nil, arith}
+use Rattle.std.proofs.Common.{◌≡◌, ℕ, zero, suc, ◌+◌, ◌<◌, ◌≤◌, ◌^◌, true, false, ◌⊎◌, inl, inr, ⊎_elim, List, [], ◌∷◌, ◌++◌, length, map, take, drop, count_by, Option, Some, None, refl, sym, ap, ◌∙◌, subst, append-nil, arith}
 use Rattle.std.specs.List.{AllByRecursion, slice_get}
 use Rattle.std.specs.Option.{option_and_then, option_map_or}
 use Rattle.std.proofs.lemmas.Bool.{cases_Bool}
 use Rattle.std.proofs.lemmas.List.{length-append}
-use Rattle.std.proofs.lemmas.List.Sums.{count_by-le-length, length-filter}
+use Rattle.std.proofs.lemmas.List.Sums.{count_by-le-length}
 use Rattle.ew_model.specs.declared.event.Event.{Event}
 use Rattle.ew_model.specs.declared.id.Id.{Id}
 use Rattle.ew_model.specs.Arrival.{Answer, arrive}
 use Rattle.ew_model.specs.Edits as edits
-use Rattle.ew_model.specs.Edits.{Edit, EditRefusal, count_of, edit_refusal, events_of_edit}
+use Rattle.ew_model.specs.Edits.{Edit, EditRefusal, edit_refusal, events_of_edit}
 use Rattle.ew_model.specs.Ids.{name_eq}
 use Rattle.ew_model.specs.Kept.{ReplicaState}
 use Rattle.ew_model.specs.Limits.{AreLimits, LimitNumbers}
@@ -17,22 +17,21 @@ use Rattle.ew_model.specs.Names.{is_name}
 use Rattle.ew_model.specs.Sets.{Among}
 use Rattle.ew_model.specs.Sound.{AreSound, IsSound}
 use Rattle.ew_model.specs.Verdicts.{IsGood, is_verdict_good}
-use Rattle.ew_model.proofs.IdLaws.{name_exact}
+use Rattle.ew_model.proofs.EntryLaws.{all_joined}
 use Rattle.ew_model.proofs.LimitsKept.{arrivals_keep}
-use Rattle.ew_model.proofs.SetLaws.{among_filter, among_map}
-use Rattle.ew_model.proofs.SortingLaws.{all_at, all_from}
+use Rattle.ew_model.proofs.SortingLaws.{all_at}
 use Rattle.event_graph.proofs.Tails.{all_first}
 use Rattle.event_graph.specs.Missing.{missing}
-use Rattle.event_graph.specs.Summary.{summary_of}
 use Rattle.history_words.specs.Tallies.{accepted_in, is_repeat, refused_in, repeats_in}
 use Rattle.net_words.specs.NetScripts.{IsSoundStep}
 use Rattle.net_words.specs.declared.step.NetStep.{NetStep}
 use Rattle.net_words.specs.declared.step.NetStep.TheVariants as step
-use Rattle.peer_exchange.proofs.Ascending.{summary_some}
+use Rattle.peer_exchange.proofs.Ascending.{summary_sound}
 use Rattle.peer_exchange.proofs.Lengths.{all_drop, bye_taken, missing_few, missing_sound, question_taken, sent_taken, took_taken}
+use Rattle.peer_exchange.proofs.Refused.{refused_each}
 use Rattle.peer_exchange.specs.Answering.{answer_to, event_frames, frame_for, question, took_of}
 use Rattle.peer_frames.specs.Laws.{IsTaken}
-use Rattle.peer_frames.specs.Spelling.{IsSoundCount, event_bytes, events_body, id_bytes}
+use Rattle.peer_frames.specs.Spelling.{event_bytes, events_body, id_bytes}
 use Rattle.ew_model.specs.File.{four_bytes, op_bytes}
 use Rattle.peer_frames.specs.declared.frame.Frame.{Frame}
 use Rattle.peer_frames.specs.declared.frame.Frame.TheVariants.{Have, Events, Done, Took, Clash, Bye}
@@ -42,16 +41,15 @@ use Rattle.net_core.specs.Laws.{NetsAreReached, after_steps, network_left}
 use Rattle.net_core.specs.Machine.{Network, Packet, Peer, StepOutcome, deliver_step, delivery_of, edit_outcome, empty_network, net_step, peer_of, peer_step, piece_of, print_before, put_replica, restart_outcome, with_packet, with_peer, with_replies}
 use Rattle.net_core.specs.Machine.Refusal.{NoPacket}
 use Rattle.net_core.specs.Machine.StepOutcome.{Refused}
-use Rattle.net_core.proofs.Awaiting.{find_among}
 use Rattle.net_core.proofs.Counting.{adds_one}
-use Rattle.net_core.proofs.Deliveries.{all_before, all_joined, few_parents, no_clashes, room_in, went, went_all}
+use Rattle.net_core.proofs.Deliveries.{all_before, few_parents, no_clashes, room_in, went, went_all}
 use Rattle.net_core.proofs.Editing.{named_so, replica_of}
 use Rattle.net_core.proofs.Following.{Follows, peer_did, step_follows}
-use Rattle.net_core.proofs.Packets.{got_among}
-use Rattle.net_core.proofs.Puts.{put_elsewhere, put_here, put_in}
-use Rattle.net_core.proofs.Reaching.{AreTaken, HasHomes, IsHomely, IsSent, all_on, all_push, reached}
+use Rattle.ew_model.proofs.OperationLaws.{got}
+use Rattle.net_core.proofs.Puts.{peer_there, put_elsewhere, put_here, put_in}
+use Rattle.net_core.proofs.Reaching.{AreTaken, HasHomes, IsHomely, IsSent, all_on, reached}
 use Rattle.net_core.proofs.Sounding.{CanWrite, made_sound}
-use Rattle.net_core.proofs.Told.{few_refused, few_told, no_first_clash}
+use Rattle.net_core.proofs.Told.{few_told, no_first_clash}
 
 -- the name and the events of a peer are such as the types can hold
 pub record IsSoundPeer (p : Peer) : Type 0 where
@@ -65,7 +63,7 @@ pub record IsSoundNet (network : Network) : Type 0 where
   pub packets : AllByRecursion (AreTaken network.limits) network.packets
 
 sound_home : (peers : List Peer) → AllByRecursion IsSoundPeer peers → (e : Event) → IsHome peers e → IsSound e
-sound_home peers sound e h = all_at IsSound h.home.replica.held e (all_at IsSoundPeer peers h.home sound (find_among _ peers h.home h.found)).held h.held
+sound_home peers sound e h = all_at IsSound h.home.replica.held e (all_at IsSoundPeer peers h.home sound (peer_there peers _ h.home h.found)).held h.held
 
 sound_replica : (limits : LimitNumbers) (peers : List Peer) (r : ReplicaState) → AllByRecursion IsSoundPeer peers → IsReplica limits peers r
     → AreSound r.held × AreSound r.waiting
@@ -79,27 +77,6 @@ put_sound name r (p ∷ peers) held waiting h = (at (cases_Bool (name_eq p.name 
     at : (name_eq p.name name ≡ true) ⊎ (name_eq p.name name ≡ false) → IsSoundPeer (put_in name r p)
     at (inl here) = subst IsSoundPeer (sym (put_here name r p here)) (record { name = h.0.name; held = held; waiting = waiting })
     at (inr other) = subst IsSoundPeer (sym (put_elsewhere name r p other)) h.0
-
--- the counts of a summary
-some_in : (xs : List Event) → 0 < length xs → (e : Event) × Among e xs
-some_in [] h = absurd (omega (arith, h))
-some_in (e ∷ xs) h = (e, inl refl)
-
-summary_sound : (history : List Event) → AreSound history → length history < 2 ^ 32 → AllByRecursion IsSoundCount (summary_of history)
-summary_sound history sound few = all_from IsSoundCount (summary_of history) at
-  where
-    at : (c : List ℕ × ℕ) → Among c (summary_of history) → IsSoundCount c
-    at c m =
-        let from = among_map (λ (agent : List ℕ). (agent, count_of history agent)) _ c m in
-        let some : 0 < c.1 = all_at (λ (x : List ℕ × ℕ). 0 < x.1) (summary_of history) c (summary_some history) m in
-        let count : c.1 ≡ count_of history from.0 = ap (λ (x : List ℕ × ℕ). x.1) from.2 in
-        let own = λ (e : Event). name_eq e.id.agent from.0 in
-        let many = length-filter own history in
-        let e = some_in (filter own history) (omega (arith, many, some, count)) in
-        let there = among_filter own history e.0 e.1 in
-        let name : c.0 ≡ e.0.id.agent = ap (λ (x : List ℕ × ℕ). x.0) from.2 ∙ sym (name_exact e.0.id.agent from.0 there.1) in
-        let most = count_by-le-length own history in
-        record { agent = subst (λ n. is_name n ≡ true) (sym name) (all_at IsSound history e.0 sound there.0).id.agent; count = omega (arith, count, most, few) }
 
 -- how many events a frame may have
 event_some : (e : Event) → 1 ≤ length (event_bytes e)
@@ -145,7 +122,7 @@ module _ (network : Network) (are : AreLimits network.limits) (h : IsHomely netw
       let all : length o.answers < 2 ^ 32 = omega (arith, many, body, are.short_body, own.kept.few_wait, limits.few_waiting) in
       let accepted = count_by-le-length (λ (a : Answer). is_verdict_good a.ruling) o.answers in
       let repeats = count_by-le-length (λ (a : Answer). is_repeat a.ruling) o.answers in
-      let refusals = few_refused o.answers in (
+      let refusals = refused_each o.answers in (
         subst (λ clash. IsTaken r.limits (frame_for (took_of o) clash)) (sym none) (
             took_taken r.limits (accepted_in o.answers) (length o.desk.waiting) (repeats_in o.answers) (length (refused_in o.answers)) limits
             (omega (arith, accepted, all)) (omega (arith, kept.few_wait, limits.few_waiting)) (omega (arith, repeats, all)) (omega (arith, refusals, all))),
@@ -173,7 +150,7 @@ module _ (network new : Network) (are : AreLimits network.limits) (h : IsHomely 
   peer_sound : (name : List ℕ) (o : Option Peer) → is_name name ≡ true → network_left (peer_step network name o) ≡ Some new → IsSoundNet new
   peer_sound name (Some p) can left = let no : ⊥ = cc in absurd no
   peer_sound name None can left = went_sound _ (record {
-    peers = all_push IsSoundPeer network.peers _ sound.peers (record { name = can; held = tt; waiting = tt });
+    peers = all_joined IsSoundPeer network.peers _ sound.peers (record { name = can; held = tt; waiting = tt }, tt);
     packets = sound.packets;
   }) left
 
@@ -186,13 +163,13 @@ module _ (network new : Network) (are : AreLimits network.limits) (h : IsHomely 
   edit_sound who e p can found (Some why) is left = let no : ⊥ = cc in absurd no
   edit_sound who e p can found None is left =
       let own = replica_of network who p h found in
-      let peer = all_at IsSoundPeer network.peers p sound.peers (find_among _ network.peers p found) in
+      let peer = all_at IsSoundPeer network.peers p sound.peers (peer_there network.peers who p found) in
       let made = made_sound p.replica.limits p.replica.held p.replica.waiting p.name e (subst AreLimits (sym own.same) are) own.kept peer.held peer.name can is in
       went_sound _ (put_net p _ (all_joined IsSound p.replica.held (events_of_edit p.replica.held p.name e) peer.held made) peer.waiting) left
 
   sent_sound : (other : Network) → IsSoundNet other → (k : Packet) → AreTaken other.limits k → IsSoundNet
       (record { limits = other.limits; peers = other.peers; packets = other.packets ++ k ∷ [] })
-  sent_sound other s k taken = record { peers = s.peers; packets = all_push (AreTaken other.limits) other.packets k s.packets taken }
+  sent_sound other s k taken = record { peers = s.peers; packets = all_joined (AreTaken other.limits) other.packets (k ∷ []) s.packets (taken, tt) }
 
   packet_sound : (sender receiver : List ℕ) (made : ReplicaState → List Frame)
       → ((p : Peer) → IsReplica network.limits network.peers p.replica → AreSound p.replica.held → AreLimits p.replica.limits → AllByRecursion
@@ -202,7 +179,7 @@ module _ (network new : Network) (are : AreLimits network.limits) (h : IsHomely 
       let p = peer_did network sender (λ p. with_peer network receiver (λ q. with_packet network sender receiver (made p.replica))) new left in
       let q = peer_did network receiver (λ q. with_packet network sender receiver (made p.0.replica)) new p.2 in
       let own = replica_of network sender p.0 h p.1 in
-      let peer = all_at IsSoundPeer network.peers p.0 sound.peers (find_among _ network.peers p.0 p.1) in
+      let peer = all_at IsSoundPeer network.peers p.0 sound.peers (peer_there network.peers sender p.0 p.1) in
       let frames = subst (λ (limits : LimitNumbers). AllByRecursion (IsTaken limits) (made p.0.replica)) own.same
       (taken p.0 own peer.held (subst AreLimits (sym own.same) are)) in
       went_sound _ (sent_sound network sound _ frames) q.2
@@ -229,13 +206,13 @@ module _ (network new : Network) (are : AreLimits network.limits) (h : IsHomely 
 
   packet_did : (n : ℕ) (o : Option Packet) → slice_get network.packets n ≡ o
       → network_left (option_map_or (deliver_step network) o (Refused (NoPacket n))) ≡ Some new → IsSoundNet new
-  packet_did n (Some k) is left = deliver_sound k (got_among network.packets n k is) left
+  packet_did n (Some k) is left = deliver_sound k (got network.packets n k is) left
   packet_did n None is left = let no : ⊥ = cc in absurd no
 
   restart_sound : (name : List ℕ) → network_left (with_peer network name (restart_outcome network)) ≡ Some new → IsSoundNet new
   restart_sound name left =
       let did = peer_did network name (restart_outcome network) new left in
-      let peer = all_at IsSoundPeer network.peers did.0 sound.peers (find_among _ network.peers did.0 did.1) in
+      let peer = all_at IsSoundPeer network.peers did.0 sound.peers (peer_there network.peers name did.0 did.1) in
       went_sound _ (put_net did.0 _ peer.held tt) did.2
 
   step_sound : (s : NetStep) → IsSoundStep s → network_left (net_step network s) ≡ Some new → IsSoundNet new

@@ -26,7 +26,8 @@ use Rattle.net_core.specs.Machine.Refusal.{NoPeer, NoPacket}
 use Rattle.net_core.specs.Machine.StepOutcome.{Stepped, Refused}
 use Rattle.net_core.proofs.Deliveries.{Went, homes_in_frames, went_all}
 use Rattle.net_core.proofs.Editing.{edited_homely, edited_state, grows, named_so, replica_of, restarted, restarted_homely, went_homely}
-use Rattle.net_core.proofs.Packets.{got_among, replies_are, sent_between}
+use Rattle.ew_model.proofs.OperationLaws.{got}
+use Rattle.net_core.proofs.Packets.{replies_are, sent_between}
 use Rattle.net_core.proofs.Puts.{found_named, found_put, put_elsewhere, put_here, put_in}
 use Rattle.net_core.proofs.Reaching.{HasHomes, IsHomely, IsSent, one_more_peer, one_more_sent, still_there}
 
@@ -156,7 +157,7 @@ module _ (network new : Network) (h : IsHomely network) where
 
   packet_did : (n : ℕ) (o : Option Packet) → slice_get network.packets n ≡ o
       → network_left (option_map_or (deliver_step network) o (Refused (NoPacket n))) ≡ Some new → Follows network new
-  packet_did n (Some k) is left = deliver_follows k (got_among network.packets n k is) left
+  packet_did n (Some k) is left = deliver_follows k (got network.packets n k is) left
   packet_did n None is left = let no : ⊥ = cc in absurd no
 
   restart_follows : (name : List ℕ) → network_left (with_peer network name (restart_outcome network)) ≡ Some new → Follows network new

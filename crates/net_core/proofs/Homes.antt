@@ -6,20 +6,19 @@ use Rattle.ew_model.specs.declared.event.Event.{Event}
 use Rattle.ew_model.specs.Ids.{id_eq}
 use Rattle.ew_model.specs.Limits.{LimitNumbers}
 use Rattle.ew_model.specs.Sets.{Among}
-use Rattle.ew_model.specs.Ids.{name_eq}
 use Rattle.ew_model.proofs.GoodLaws.{good_laid_out}
 use Rattle.ew_model.proofs.IdLaws.{is_same_id}
 use Rattle.ew_model.proofs.SortingLaws.{all_at}
 use Rattle.ew_model.proofs.SubgraphLaws.{one_event}
 use Rattle.net_core.specs.Keeping.{IsHome, IsReplica}
 use Rattle.net_core.specs.Machine.{Peer, peer_among}
-use Rattle.net_core.proofs.Awaiting.{find_among}
 use Rattle.net_core.proofs.Elsewhere.{WasGood, was_good}
+use Rattle.net_core.proofs.Puts.{peer_there}
 
 module _ (limits : LimitNumbers) (peers : List Peer) (all : AllByRecursion (λ (p : Peer). IsReplica limits peers p.replica) peers) where
   home_replica : (e : Event) → (h : IsHome peers e) → IsReplica limits peers h.home.replica
   home_replica e h =
-      all_at (λ (p : Peer). IsReplica limits peers p.replica) peers h.home all (find_among (λ (q : Peer). name_eq q.name e.id.agent) peers h.home h.found)
+      all_at (λ (p : Peer). IsReplica limits peers p.replica) peers h.home all (peer_there peers e.id.agent h.home h.found)
 
   pub one_home : (f g : Event) → IsHome peers f → IsHome peers g → id_eq f.id g.id ≡ true → f ≡ g
   one_home f g hf hg same =

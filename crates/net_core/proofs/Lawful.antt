@@ -30,7 +30,8 @@ use Rattle.net_core.proofs.Deliveries.{room_in_all}
 use Rattle.net_core.proofs.Editing.{replica_of}
 use Rattle.net_core.proofs.Following.{Follows, IsGrown, peer_did, step_follows, steps_follow, then_follows}
 use Rattle.net_core.proofs.Homes.{one_home}
-use Rattle.net_core.proofs.Packets.{deliver_is, got_among, with_some}
+use Rattle.ew_model.proofs.OperationLaws.{got}
+use Rattle.net_core.proofs.Packets.{deliver_is, with_some}
 use Rattle.net_core.proofs.Puts.{found_named, found_put, put_here, put_in}
 use Rattle.net_core.proofs.Reaching.{HasHomes, IsHomely, IsSent, homely}
 use Rattle.net_core.proofs.Steps.{push_is}
@@ -121,7 +122,7 @@ pushes_arrive network made later new sender receiver p reached sound left found 
     let packet = packet_at made later network.packets k d.packet (ap (λ (n : Network). n.packets) is) follows d.packet_is in
     let own = replica_of network sender p h found in
     let limits = own.same ∙ sym all.limits in
-    let sent = all_at (IsSent later.peers) later.packets d.packet follows.homely.packets (got_among later.packets (length network.packets) d.packet d.packet_is) in
+    let sent = all_at (IsSent later.peers) later.packets d.packet follows.homely.packets (got later.packets (length network.packets) d.packet d.packet_is) in
     let homes = all_from (IsHome later.peers) p.replica.held (home_later network later sender p (all.grown sender p found) follows.homely) in
     all_arrive later new (length network.packets) d.packet d.receiver d.holds p.replica.held [] [] follows.homely (subst AreLimits (sym all.limits) reached.limits)
     d.packet_is sent d.receiver_is d.new_is d.holds_is

@@ -1,16 +1,14 @@
 -- Packets in a network, and their delivery.
-use Rattle.std.proofs.Common.{◌≡◌, ℕ, zero, suc, ◌<◌, ◌⊎◌, inl, inr, ⊎_elim, List, [], ◌∷◌, ◌++◌, map, set, length, Option, Some, None, refl, sym, ap, ◌∙◌, subst, append-nil}
+use Rattle.std.proofs.Common.{◌≡◌, ℕ, zero, suc, ◌<◌, ◌⊎◌, inr, ⊎_elim, List, [], ◌∷◌, ◌++◌, map, set, length, Option, Some, None, refl, sym, ap, ◌∙◌, subst, append-nil}
 use Rattle.std.specs.List.{AllByRecursion, slice_get}
 use Rattle.std.specs.Option.{option_map_or}
 use Rattle.ew_model.specs.declared.event.Event.{Event}
 use Rattle.ew_model.specs.Kept.{ReplicaState}
 use Rattle.ew_model.specs.Limits.{LimitNumbers}
-use Rattle.ew_model.specs.Sets.{Among}
 use Rattle.ew_model.proofs.SortingLaws.{all_at}
 use Rattle.net_words.specs.declared.step.NetStep.TheVariants as step
 use Rattle.peer_exchange.specs.Answering.{IsLeftBy, answer_to}
 use Rattle.peer_frames.specs.declared.frame.Frame.{Frame}
-use Rattle.peer_frames.specs.declared.frame.Frame.TheVariants.{Have, Events, Done, Took, Clash, Bye}
 use Rattle.peer_frames.specs.Laws.{IsTaken}
 use Rattle.net_core.specs.Answers.{IsLeftAt, IsLeftIn}
 use Rattle.net_core.specs.Laws.{NoneClashes}
@@ -21,18 +19,13 @@ use Rattle.net_core.proofs.Deliveries.{Went, homes_in_replies, left_in_went, non
 use Rattle.net_core.proofs.Editing.{grows, named_so, replica_of, went_homely}
 use Rattle.net_core.proofs.Puts.{found_named, found_put, put_in, set_is_put}
 use Rattle.net_core.proofs.Reaching.{AreTaken, HasHomes, IsHomely, IsSent, all_on, home_after}
+use Rattle.net_core.proofs.Receiving.{left_before}
 use Rattle.net_core.proofs.Steps.{at_peer}
 
 -- frames between two peers
 pub sent_between : (network : Network) (sender receiver : List ℕ) (p q : Peer) (frames : List Frame) → peer_of network sender ≡ Some p → peer_of network receiver ≡ Some q
     → AllByRecursion (HasHomes network.peers) frames → IsSent network.peers (record { sender = sender; receiver = receiver; frames = frames })
 sent_between network sender receiver p q frames found there homes = record { sender = p; sender_is = found; receiver = q; receiver_is = there; frames = homes }
-
--- an element at a place is one of all
-pub got_among : {X : Type 0} (xs : List X) (i : ℕ) (x : X) → slice_get xs i ≡ Some x → Among x xs
-got_among [] i x at = let no : ⊥ = cc in absurd no
-got_among (y ∷ xs) zero x at = let same : y ≡ x = cc in inl (sym same)
-got_among (y ∷ xs) (suc i) x at = inr (got_among xs i x at)
 
 -- a write of what is there
 set_same : {X : Type 0} (xs : List X) (i : ℕ) (x : X) → slice_get xs i ≡ Some x → set xs i x ≡ xs
@@ -47,16 +40,7 @@ put_same network name p i h at found =
     ap (λ (peers : List Peer). record { limits = network.limits; peers = peers; packets = network.packets })
     (sym (set_is_put network.peers i p name p.replica h.apart at (found_named name p network.peers found)) ∙ set_same network.peers i p at)
 
--- nothing or all of the frames is received
-start_left : (r : ReplicaState) (frames : List Frame) → IsLeftIn r frames r
-start_left r [] = refl
-start_left r (Events events ∷ frames) = inl (inl refl)
-start_left r (Have counts ∷ frames) = inl refl
-start_left r (Done ∷ frames) = inl refl
-start_left r (Took a b c d ∷ frames) = inl refl
-start_left r (Clash x ∷ frames) = inl refl
-start_left r (Bye ∷ frames) = inl refl
-
+-- all of the frames are received
 all_left : (name : List ℕ) (r : ReplicaState) (frames : List Frame) → IsLeftIn r frames (delivery_of name r frames).replica
 all_left name r [] = refl
 all_left name r (f ∷ frames) = inr (all_left name (answer_to r f).state frames)
@@ -89,7 +73,7 @@ module _ (network : Network) (k : Packet) (p : Peer) (h : IsHomely network) (pac
 
   -- where memory is wanting
   pub left_none : (i : ℕ) → slice_get network.peers i ≡ Some p → IsLeftAt network (Some k) network
-  left_none i at = (p, p.replica, found, start_left p.replica k.frames, sym (put_same network k.receiver p i h at found))
+  left_none i at = (p, p.replica, found, left_before p.replica k.frames, sym (put_same network k.receiver p i h at found))
 
   pub left_some : (r : ReplicaState) → IsLeftIn p.replica k.frames r → IsLeftAt network (Some k) (put_replica network p.name r)
   left_some r left = (p, r, found, left, ap (λ name. put_replica network name r) (named_so network k.receiver p found))

@@ -1,12 +1,14 @@
 -- A replica is put in place of another: which peers are left as they were, and what stands where it was made still does.
-use Rattle.std.proofs.Common.{◌≡◌, ℕ, zero, suc, Bool, true, false, ◌||◌, ◌⊎◌, inl, inr, List, [], ◌∷◌, map, set, if◌then◌else◌, Option, Some, None, refl, sym, ap, subst, ◌∙◌}
-use Rattle.std.specs.List.{AllByRecursion, find, list_any, slice_get}
-use Rattle.std.proofs.lemmas.Bool.{both_ways, cases_Bool, cond-true, cond-false, false≢true}
+use Rattle.std.proofs.Common.{◌≡◌, ℕ, zero, suc, true, false, ◌||◌, ◌⊎◌, inl, inr, List, [], ◌∷◌, map, set, if◌then◌else◌, Option, Some, None, refl, sym, ap, subst, ◌∙◌}
+use Rattle.std.specs.List.{AllByRecursion, find, list_any, position_or_len, slice_get}
+use Rattle.std.proofs.lemmas.Bool.{both_ways, cases_Bool, cond-true, cond-false, or_parts}
+use Rattle.std.proofs.lemmas.List.Folds.{find_at}
 use Rattle.ew_model.specs.declared.event.Event.{Event}
 use Rattle.ew_model.specs.Ids.{name_eq}
 use Rattle.ew_model.specs.Kept.{ReplicaState}
 use Rattle.ew_model.specs.Sets.{Among}
 use Rattle.ew_model.proofs.IdLaws.{name_exact, names_equal}
+use Rattle.ew_model.proofs.OperationLaws.{got}
 use Rattle.net_core.specs.Keeping.{AreNamedApart, IsHome}
 use Rattle.net_core.specs.Machine.{Peer, peer_among}
 
@@ -20,9 +22,9 @@ put_here name r p here = cond-true _ _ _ here
 pub put_elsewhere : (name : List ℕ) (r : ReplicaState) (p : Peer) → name_eq p.name name ≡ false → put_in name r p ≡ p
 put_elsewhere name r p other = cond-false _ _ _ other
 
-pub neither : (a b : Bool) → (a || b) ≡ false → (a ≡ false) × (b ≡ false)
-neither true b h = absurd (false≢true (sym h))
-neither false b h = (refl, h)
+-- the peer of a name is one of all
+pub peer_there : (peers : List Peer) (name : List ℕ) (p : Peer) → peer_among peers name ≡ Some p → Among p peers
+peer_there peers name p found = got peers (position_or_len (λ (q : Peer). name_eq q.name name) peers) p (sym (find_at (λ (q : Peer). name_eq q.name name) peers) ∙ found)
 
 -- of two peers with equal names both have the name, or neither
 same_test : (a b name : List ℕ) → name_eq a b ≡ true → name_eq a name ≡ name_eq b name
@@ -33,7 +35,7 @@ all_left : (name own : List ℕ) (r : ReplicaState) (peers : List Peer) → name
     → map (put_in name r) peers ≡ peers
 all_left name own r [] here none = refl
 all_left name own r (q ∷ peers) here none =
-    let parts = neither (name_eq q.name own) (list_any (λ (p : Peer). name_eq p.name own) peers) none in
+    let parts = or_parts (name_eq q.name own) (list_any (λ (p : Peer). name_eq p.name own) peers) none in
     let other : name_eq q.name name ≡ false =
     names_equal.symm q.name name ∙ sym (same_test own name q.name here) ∙ names_equal.symm own q.name ∙ parts.0 in
     λ i. put_elsewhere name r q other i ∷ all_left name own r peers here parts.1 i
@@ -43,8 +45,8 @@ any_at : (own : List ℕ) (peers : List Peer) (i : ℕ) (p : Peer) → slice_get
     → list_any (λ (q : Peer). name_eq q.name own) peers ≡ false → name_eq p.name own ≡ false
 any_at own [] i p at none = absurd cc
 any_at own (q ∷ peers) zero p at none =
-    let same : q ≡ p = cc in ap (λ (x : Peer). name_eq x.name own) (sym same) ∙ (neither (name_eq q.name own) (list_any (λ (x : Peer). name_eq x.name own) peers) none).0
-any_at own (q ∷ peers) (suc i) p at none = any_at own peers i p at (neither (name_eq q.name own) (list_any (λ (x : Peer). name_eq x.name own) peers) none).1
+    let same : q ≡ p = cc in ap (λ (x : Peer). name_eq x.name own) (sym same) ∙ (or_parts (name_eq q.name own) (list_any (λ (x : Peer). name_eq x.name own) peers) none).0
+any_at own (q ∷ peers) (suc i) p at none = any_at own peers i p at (or_parts (name_eq q.name own) (list_any (λ (x : Peer). name_eq x.name own) peers) none).1
 
 -- a write at the place of the peer of a name puts the replica
 pub set_is_put : (peers : List Peer) (i : ℕ) (p : Peer) (name : List ℕ) (r : ReplicaState) → AreNamedApart peers → slice_get peers i ≡ Some p → name_eq p.name name ≡ true

@@ -2,7 +2,7 @@
 use Rattle.std.proofs.Common.{◌≡◌, ℕ, ◌<◌, ◌^◌, ◌⊎◌, inl, inr, true, false, ◌||◌, List, [], ◌∷◌, ◌++◌, length, map, Option, Some, None, refl, sym, ap, subst, ◌∙◌, arith}
 use Rattle.std.specs.List.{AllByRecursion, list_any}
 use Rattle.std.specs.Option.{option_or}
-use Rattle.std.proofs.lemmas.Bool.{cases_Bool, cond-true, cond-false}
+use Rattle.std.proofs.lemmas.Bool.{cases_Bool, cond-true, cond-false, or_parts}
 use Rattle.std.proofs.lemmas.List.Folds.{find-append}
 use Rattle.ew_model.specs.declared.event.Event.{Event}
 use Rattle.ew_model.specs.Ids.{name_eq}
@@ -10,22 +10,18 @@ use Rattle.ew_model.specs.Kept.{ReplicaState}
 use Rattle.ew_model.specs.Limits.{AreLimits, LimitNumbers}
 use Rattle.ew_model.specs.Sets.{Among}
 use Rattle.ew_model.specs.Verdicts.{IsGood}
+use Rattle.ew_model.proofs.EntryLaws.{all_joined}
 use Rattle.ew_model.proofs.IdLaws.{names_equal}
 use Rattle.peer_frames.specs.declared.frame.Frame.{Frame}
 use Rattle.peer_frames.specs.Laws.{IsTaken}
 use Rattle.net_core.specs.Keeping.{AreNamedApart, IsFrame, IsHome, IsPacket, IsReached, IsReplica, events_in}
 use Rattle.net_core.specs.Machine.{Network, Packet, Peer, peer_among}
-use Rattle.net_core.proofs.Puts.{found_put, neither, put_apart, put_elsewhere, put_here, put_in, still_home}
+use Rattle.net_core.proofs.Puts.{found_put, put_apart, put_elsewhere, put_here, put_in, still_home}
 
 -- what each element passes on
 pub all_on : {X : Type 0} {P Q : X → Type 0} → ((x : X) → P x → Q x) → (xs : List X) → AllByRecursion P xs → AllByRecursion Q xs
 all_on on [] h = tt
 all_on on (x ∷ xs) h = (on x h.0, all_on on xs h.1)
-
--- one more at the end
-pub all_push : {X : Type 0} (P : X → Type 0) (xs : List X) (x : X) → AllByRecursion P xs → P x → AllByRecursion P (xs ++ x ∷ [])
-all_push P [] x h p = (p, tt)
-all_push P (y ∷ xs) x h p = (h.0, all_push P xs x h.1 p)
 
 -- the events of a frame stand where they were made
 abbrev pub HasHomes : List Peer → Frame → Type 0
@@ -110,7 +106,7 @@ module _ (limits : LimitNumbers) (peers others : List Peer) (home : (e : Event) 
 -- one more packet
 pub one_more_sent : (network : Network) (k : Packet) → IsHomely network → IsSent network.peers k
     → IsHomely (record { limits = network.limits; peers = network.peers; packets = network.packets ++ k ∷ [] })
-one_more_sent network k h sent = record { apart = h.apart; peers = h.peers; packets = all_push (IsSent network.peers) network.packets k h.packets sent }
+one_more_sent network k h sent = record { apart = h.apart; peers = h.peers; packets = all_joined (IsSent network.peers) network.packets (k ∷ []) h.packets (sent, tt) }
 
 pub one_more_packet : (network : Network) (k : Packet) → IsReached network → IsPacket network.limits network.peers k → length (network.packets ++ k ∷ []) < 2 ^ 32
     → IsReached (record { limits = network.limits; peers = network.peers; packets = network.packets ++ k ∷ [] })
@@ -119,8 +115,7 @@ one_more_packet network k h packet few =
       limits = h.limits;
       apart = h.apart;
       peers = h.peers;
-      packets = all_push
-          (IsPacket network.limits network.peers) network.packets k h.packets packet;
+      packets = all_joined (IsPacket network.limits network.peers) network.packets (k ∷ []) h.packets (packet, tt);
       few = few;
     }
 
@@ -182,7 +177,7 @@ none_there : (name : List ℕ) (q : Peer) (peers : List Peer) → name_eq q.name
     → list_any (λ (x : Peer). name_eq x.name name) (peers ++ q ∷ []) ≡ false
 none_there name q [] other none = ap (λ b. b || false) other
 none_there name q (p ∷ peers) other none =
-    let parts = neither (name_eq p.name name) (list_any (λ (x : Peer). name_eq x.name name) peers) none in
+    let parts = or_parts (name_eq p.name name) (list_any (λ (x : Peer). name_eq x.name name) peers) none in
     λ i. parts.0 i || none_there name q peers other parts.1 i
 
 apart_push : (peers : List Peer) (q : Peer) → AreNamedApart peers → peer_among peers q.name ≡ None → AreNamedApart (peers ++ q ∷ [])
@@ -221,7 +216,7 @@ one_more_peer network name h none =
     (network.peers ++ q ∷ []) home p.replica r) network.peers h.peers in
     record {
       apart = apart_push network.peers q h.apart none;
-      peers = all_push (λ (p : Peer). IsReplica network.limits (network.peers ++ q ∷ []) p.replica) network.peers q peers
-          (new_replica network.limits name (network.peers ++ q ∷ []));
+      peers = all_joined (λ (p : Peer). IsReplica network.limits (network.peers ++ q ∷ []) p.replica) network.peers (q ∷ []) peers
+          (new_replica network.limits name (network.peers ++ q ∷ []), tt);
       packets = all_on (packet_there network.limits network.peers q) network.packets h.packets;
     }

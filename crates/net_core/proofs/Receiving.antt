@@ -66,7 +66,7 @@ left_by (Took a b c d) r = refl
 left_by (Clash x) r = refl
 left_by Bye r = refl
 
-left_before : (r : ReplicaState) (frames : List Frame) → IsLeftIn r frames r
+pub left_before : (r : ReplicaState) (frames : List Frame) → IsLeftIn r frames r
 left_before r [] = refl
 left_before r (f ∷ frames) = inl (left_by f r)
 

@@ -1,5 +1,5 @@
 -- What a step comes to, and how it is refused.
-use Rattle.std.proofs.Common.{◌≡◌, ℕ, zero, suc, ◌<◌, List, [], ◌∷◌, ◌++◌, length, Option, Some, None, refl, sym, ap, ◌∙◌, subst, arith}
+use Rattle.std.proofs.Common.{◌≡◌, ℕ, ◌<◌, List, [], ◌∷◌, ◌++◌, length, Option, Some, None, refl, sym, ap, ◌∙◌, subst}
 use Rattle.std.specs.List.{slice_get}
 use Rattle.std.specs.Prelude.{Err, decimal, codes}
 use Rattle.std.specs.Option.{option_map_or}
@@ -7,6 +7,7 @@ use Rattle.ew_model.specs.Edits as edits
 use Rattle.ew_model.specs.Kept.{ReplicaState}
 use Rattle.ew_model.specs.Scripts.{escaped_text}
 use Rattle.ew_model.specs.Texts.{text_of}
+use Rattle.ew_model.proofs.ListParts.{element_there}
 use Rattle.net_words.specs.declared.step.NetStep.{NetStep}
 use Rattle.net_words.specs.declared.step.NetStep.TheVariants as step
 use Rattle.peer_exchange.specs.Answering.{event_frames, question}
@@ -18,16 +19,10 @@ use Rattle.net_core.specs.Machine.{Network, Packet, Peer, Refusal, StepOutcome, 
 use Rattle.net_core.specs.Machine.Refusal.{NoPeer, PeerTwice, NoPacket}
 use Rattle.net_core.specs.Machine.StepOutcome.{Stepped, Refused}
 
--- the element at a place
-pub got : {X : Type 0} (xs : List X) (i : ℕ) → i < length xs → (x : X) × (slice_get xs i ≡ Some x)
-got [] i h = absurd (omega (arith, h))
-got (x ∷ xs) zero h = (x, refl)
-got (x ∷ xs) (suc i) h = got xs i (omega (arith, h))
-
 -- the peer at the place that was found
 pub peer_at : (network : Network) (name : List ℕ) (i : ℕ) → i < length network.peers → peer_of network name ≡ slice_get network.peers i
     → (p : Peer) × (slice_get network.peers i ≡ Some p) × (peer_of network name ≡ Some p)
-peer_at network name i h found = let p = got network.peers i h in (p.0, p.1, found ∙ p.1)
+peer_at network name i h found = let p = element_there network.peers i h in (p.0, p.1, found ∙ p.1)
 
 pub no_peer : (network : Network) (name : List ℕ) (act : Peer → StepOutcome) → peer_of network name ≡ None → with_peer network name act ≡ Refused (NoPeer name)
 no_peer network name act none = ap (λ (o : Option Peer). option_map_or act o (Refused (NoPeer name))) none

@@ -2,7 +2,6 @@
 use Rattle.std.proofs.Common.{◌≡◌, ℕ, zero, suc, ◌+◌, ◌≤◌, true, false, Bool, inl, inr, List, [], ◌∷◌, ◌++◌, find, length, Option, Some, None, refl, sym, ap, ◌∙◌, subst, option_map, arith}
 use Rattle.std.specs.List.{AllByRecursion}
 use Rattle.std.proofs.lemmas.Bool.{false≢true}
-use Rattle.std.proofs.lemmas.List.{length-append}
 use Rattle.ew_model.specs.declared.event.Event.{Event}
 use Rattle.ew_model.specs.declared.id.Id.{Id}
 use Rattle.ew_model.specs.declared.verdict.Refusal.{Refusal}
@@ -43,30 +42,7 @@ none_found (a ∷ answers) h = by_ruling a.event a.ruling (refused_in answers) h
 pub no_first_clash : (answers : List Answer) → AllByRecursion (λ (a : Answer). is_clash a.ruling ≡ false) answers → first_clash (refused_in answers) ≡ None
 no_first_clash answers h = ap (option_map (λ (r : Id × Refusal). r.0)) (none_found answers h)
 
--- no more is refused than was answered
-one_refused : (e : Event) (r : Ruling) → length (refused_by (record { event = e; ruling = r })) ≤ 1
-one_refused e verdicts.Ruling.Clash = omega arith
-one_refused e Repeat = omega arith
-one_refused e SelfParent = omega arith
-one_refused e TooManyParents = omega arith
-one_refused e ParentsUnsorted = omega arith
-one_refused e (Unknown p) = omega arith
-one_refused e PoolFull = omega arith
-one_refused e NotReduced = omega arith
-one_refused e Skipped = omega arith
-one_refused e GraphFull = omega arith
-one_refused e (OutOfRange len) = omega arith
-one_refused e Good = omega arith
-
-pub few_refused : (answers : List Answer) → length (refused_in answers) ≤ length answers
-few_refused [] = omega arith
-few_refused (a ∷ answers) =
-    let one = one_refused a.event a.ruling in
-    let more = few_refused answers in
-    let both = length-append (refused_by a) (refused_in answers) in
-    omega (arith, one, more, both)
-
--- and no more is answered than there are judgements
+-- no more is answered than there are judgements
 few_by : (limits : LimitNumbers) (n : ℕ) (d : Desk) (o : Option Judgement) → ((j : Judgement) → length (judgements limits true n j.desk).answers ≤ n)
     → length (then limits true n d o).answers ≤ suc n
 few_by limits n d None f = omega arith

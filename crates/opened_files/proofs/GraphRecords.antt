@@ -12,7 +12,7 @@ use Rattle.ew_model.specs.Ancestors.{ids_of, is_held}
 use Rattle.ew_model.specs.File.{four_bytes, op_bytes, agents_of, record_bytes, are_writable_after, IsWritable}
 use Rattle.ew_model.specs.Ids.{id_eq, name_eq}
 use Rattle.ew_model.proofs.FileEvents.{agents_push, ids_count}
-use Rattle.ew_model.proofs.FileLists.{some_is, found_there, place_of as place_at}
+use Rattle.ew_model.proofs.FileLists.{found_there, place_of as place_at}
 use Rattle.ew_model.proofs.FileRecords.{id_eq_exact}
 use Rattle.ew_model.proofs.KeptLaws.{held_joined}
 use Rattle.ew_model.proofs.ListParts.{take_next}
@@ -24,15 +24,10 @@ use Rattle.ew_model.specs.Positions.{parent_positions, parents_at}
 use Rattle.ew_model.specs.Sorting.{sort_by}
 use Rattle.ew_model.proofs.FileEvents.{writable_parts}
 use Rattle.event_graph.specs.Keeping.{IsAdmitted, id_of}
-use Rattle.agreement.proofs.ParentIds.{made_get, parents_told}
+use Rattle.event_graph.proofs.Counted.{event_there}
+use Rattle.agreement.proofs.ParentIds.{parents_told}
 use Rattle.opened_files.specs.Places.{place_of, places_of}
 use Rattle.event_file.proofs.Tables.{follows_at, agent_there, numbered_bytes}
-
--- the event with the id at a place
-event_with : (history : List Event) (lv : ℕ) (x : Id) → slice_get (ids_of history) lv ≡ Some x → (e : Event) × (slice_get history lv ≡ Some e) × (e.id ≡ x)
-event_with [] lv x h = let no : ⊥ = cc in absurd no
-event_with (e ∷ history) zero x h = (e, refl, let one : e.id ≡ x = cc in one)
-event_with (e ∷ history) (suc lv) x h = event_with history lv x h
 
 one_more : (n : ℕ) → suc n ≡ n + 1
 one_more n = omega arith
@@ -40,7 +35,7 @@ one_more n = omega arith
 -- the agents with that of the next event
 pub agents_next : (history : List Event) (lv : ℕ) (x : Id) → slice_get (ids_of history) lv ≡ Some x → with_name (agents_of (take lv history)) x.agent ≡ agents_of (take (lv + 1) history)
 agents_next history lv x h =
-    let y = event_with history lv x h in
+    let y = event_there history lv x h in
     let e = y.0 in
     ap (λ (z : Id). with_name (agents_of (take lv history)) z.agent) (sym y.2)
     ∙ sym (agents_push (take lv history) e)
@@ -88,16 +83,6 @@ record_by_places history e =
 pub records_next : (bytes : List ℕ) (history : List Event) (lv : ℕ) (e : Event) → slice_get history lv ≡ Some e → (bytes ++ flat_map (record_bytes history) (take lv history)) ++ record_bytes history e ≡ bytes ++ flat_map (record_bytes history) (take (lv + 1) history)
 records_next bytes history lv e h =
     flat_map_more (record_bytes history) bytes (take lv history) e ∙ ap (λ es. bytes ++ flat_map (record_bytes history) es) (sym (take_next history lv e h) ∙ ap (λ n. take n history) (one_more lv))
-
--- an event stands at each place
-pub event_there : (history : List Event) (lv : ℕ) → lv < length history → (e : Event) × (slice_get history lv ≡ Some e)
-event_there [] lv lt = absurd (omega arith)
-event_there (e ∷ history) zero lt = (e, refl)
-event_there (e ∷ history) (suc lv) lt = event_there history lv (omega arith)
-
--- what is told of the event at a place is its own
-pub told_is : {X : Type 0} (make : Event → X) (history : List Event) (lv : ℕ) (e : Event) (x : X) → slice_get history lv ≡ Some e → slice_get (map make history) lv ≡ Some x → x ≡ make e
-told_is make history lv e x at told = some_is x (make e) (sym told ∙ made_get make history lv e at)
 
 all_new : (before events : List Event) → are_writable_after before events ≡ true → AllNew id_eq (ids_of before) (ids_of events)
 all_new before [] h = tt

@@ -1,5 +1,5 @@
--- Names that ascend, and the names of a summary.
-use Rattle.std.proofs.Common.{◌≡◌, ℕ, ◌<◌, ◌≤◌, true, List, [], ◌∷◌, length, map, refl, ap, ◌∙◌, arith}
+-- Names that ascend, and the counts of a summary.
+use Rattle.std.proofs.Common.{◌≡◌, ℕ, ◌<◌, ◌≤◌, ◌^◌, true, List, [], ◌∷◌, length, map, refl, sym, ap, ◌∙◌, subst, arith}
 use Rattle.std.specs.List.{AllByRecursion, IsDistinct}
 use Rattle.std.specs.List.Sorted.{IsStrictlySortedBy}
 use Rattle.std.specs.Ordering.{is_lt, nat_cmp}
@@ -10,18 +10,26 @@ use Rattle.std.proofs.lemmas.Bool.{false≢true, and_parts, and_from}
 use Rattle.std.proofs.lemmas.Cmp.{nat_list_cmp_total}
 use Rattle.std.proofs.lemmas.List.{length-map}
 use Rattle.std.proofs.lemmas.List.Elements.{recursion_from_All}
+use Rattle.std.proofs.lemmas.List.Sums.{count_by-le-length}
 use Rattle.std.proofs.lemmas.Map.Keys.{IsDistinct-from_sorted}
+use Rattle.ew_model.specs.declared.id.Id.{Id}
 use Rattle.ew_model.specs.declared.event.Event.{Event}
 use Rattle.ew_model.specs.Ancestors.{ids_of}
 use Rattle.ew_model.specs.Edits as edits
 use Rattle.ew_model.specs.Ids.{name_eq}
+use Rattle.ew_model.specs.Names.{is_name}
+use Rattle.ew_model.specs.Sets.{Among}
 use Rattle.ew_model.specs.Sorting.{sort_by}
-use Rattle.ew_model.proofs.SortingLaws.{sort_sorted, length-sort}
+use Rattle.ew_model.specs.Sound.{AreSound, IsSound}
+use Rattle.ew_model.proofs.IdLaws.{name_exact, names_equal}
+use Rattle.ew_model.proofs.ListTests.{any_from, found_by}
+use Rattle.ew_model.proofs.SetLaws.{among_map}
+use Rattle.ew_model.proofs.SortingLaws.{all_at, all_from, length-sort, sort_among, sort_sorted}
 use Rattle.agent_ids.specs.Agents.{agents_of}
-use Rattle.agent_ids.proofs.Agents.{agents_few, agents_distinct}
+use Rattle.agent_ids.proofs.Agents.{agents_few, agents_distinct, is_agent}
 use Rattle.event_graph.specs.Summary.{summary_of}
 use Rattle.event_graph.proofs.Summing.{ties, all_some}
-use Rattle.peer_frames.specs.Spelling.{AgentCount, names_ascend}
+use Rattle.peer_frames.specs.Spelling.{AgentCount, IsSoundCount, names_ascend}
 
 less : (r : Ordering) → is_lt r ≡ true → r ≡ Less
 less Less h = refl
@@ -83,3 +91,25 @@ module _ (history : List Event) where
       let few = agents_few (ids_of history) in
       let ids = length-map history (λ (e : Event). e.id) in
       omega (arith, counts, sorted, few, ids)
+
+-- an agent that is listed is that of an event
+agent_sound : (history : List Event) (name : List ℕ) → AreSound history → Among name (agents_of (ids_of history)) → is_name name ≡ true
+agent_sound history name sound m =
+    let known = sym (is_agent (ids_of history) name) ∙ any_from (name_eq name) (agents_of (ids_of history)) name m (names_equal.refl name) in
+    let x = found_by (λ (y : Id). name_eq y.agent name) (ids_of history) known in
+    let e = among_map (λ (f : Event). f.id) history x.0 x.1 in
+    let same : e.0.id.agent ≡ name = ap (λ (y : Id). y.agent) (sym e.2) ∙ name_exact x.0.agent name x.2 in
+    ap is_name (sym same) ∙ (all_at IsSound history e.0 sound e.1).id.agent
+
+-- each count of a summary has a name, and a number of 32 bits
+pub summary_sound : (history : List Event) → AreSound history → length history < 2 ^ 32 → AllByRecursion IsSoundCount (summary_of history)
+summary_sound history sound few = all_from IsSoundCount (summary_of history) one
+  where
+    one : (c : AgentCount) → Among c (summary_of history) → IsSoundCount c
+    one c m =
+        let p = among_map (λ (agent : List ℕ). (agent, edits.count_of history agent)) (agents history) c m in
+        let most = count_by-le-length (λ (e : Event). name_eq e.id.agent p.0) history in
+        subst IsSoundCount (sym p.2) (record {
+          agent = agent_sound history p.0 sound (sort_among nat_list_cmp_total (agents_of (ids_of history)) p.0 p.1);
+          count = omega (arith, most, few);
+        })

@@ -33,7 +33,7 @@ refused_once a = at (refusal_in a.ruling)
     at None = omega arith
     at (Some reason) = omega arith
 
-refused_each : (answers : List Answer) → length (refused_in answers) ≤ length answers
+pub refused_each : (answers : List Answer) → length (refused_in answers) ≤ length answers
 refused_each [] = omega arith
 refused_each (a ∷ answers) =
     let one = refused_once a in

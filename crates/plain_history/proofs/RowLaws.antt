@@ -1,7 +1,7 @@
 -- The first of rows in parts.
-use Rattle.std.proofs.Common.{◌≡◌, ◌≤◌, ◌<◌, nat_le, Bool, true, false, List, [], ◌∷◌, ◌++◌, Option, Some, None, if◌then◌else◌, length, refl, sym, ap, ◌∙◌, append_assoc}
+use Rattle.std.proofs.Common.{◌≡◌, ◌≤◌, ◌<◌, nat_le, Bool, true, false, List, [], ◌∷◌, ◌++◌, Option, Some, None, if◌then◌else◌, length, refl, sym, ap, ◌∙◌, append-nil, append_assoc}
 use Rattle.std.specs.Bool.{then_some}
-use Rattle.std.specs.Option.{unwrap_or}
+use Rattle.std.specs.Option.{option_or, unwrap_or}
 use Rattle.ew_model.specs.declared.event.Event.{Event}
 use Rattle.ew_model.specs.Limits.{LimitNumbers}
 use Rattle.std.proofs.lemmas.Bool.{false≢true, le-leb, lt-leb}
@@ -15,20 +15,18 @@ first_row-append [] ys = refl
 first_row-append (None ∷ xs) ys = first_row-append xs ys
 first_row-append (Some r ∷ xs) ys = refl
 
-pub first_row-alone : (xs : List (Option Ruling)) → first_row xs ≡ unwrap_or (row_in xs) Good
-first_row-alone [] = refl
-first_row-alone (None ∷ xs) = first_row-alone xs
-first_row-alone (Some r ∷ xs) = refl
+-- the ruling is that of the row that was found
+pub ruling_found : (xs : List (Option Ruling)) (o : Option Ruling) → o ≡ row_in xs → unwrap_or o Good ≡ first_row xs
+ruling_found xs o e = ap (λ (r : Option Ruling). unwrap_or r Good) e ∙ sym (first_row-append xs []) ∙ ap first_row (append-nil xs)
 
-pub row_in-none : (xs ys : List (Option Ruling)) → None ≡ row_in xs → row_in (xs ++ ys) ≡ row_in ys
-row_in-none [] ys e = refl
-row_in-none (None ∷ xs) ys e = row_in-none xs ys e
-row_in-none (Some r ∷ xs) ys e = let no : ⊥ = cc in absurd no
+row_in-append : (xs ys : List (Option Ruling)) → row_in (xs ++ ys) ≡ option_or (row_in xs) (row_in ys)
+row_in-append [] ys = refl
+row_in-append (None ∷ xs) ys = row_in-append xs ys
+row_in-append (Some r ∷ xs) ys = refl
 
-pub row_in-some : (xs ys : List (Option Ruling)) (r : Ruling) → Some r ≡ row_in xs → row_in (xs ++ ys) ≡ Some r
-row_in-some [] ys r e = let no : ⊥ = cc in absurd no
-row_in-some (None ∷ xs) ys r e = row_in-some xs ys r e
-row_in-some (Some q ∷ xs) ys r e = sym e
+-- the row that is found of both parts
+pub row_found : (xs ys : List (Option Ruling)) (o : Option Ruling) → o ≡ row_in xs → row_in (xs ++ ys) ≡ option_or o (row_in ys)
+row_found xs ys o e = row_in-append xs ys ∙ ap (λ (r : Option Ruling). option_or r (row_in ys)) (sym e)
 
 -- the first row stands in the first part, or in the second
 pub first_row-some : (xs ys : List (Option Ruling)) (r : Ruling) → Some r ≡ row_in xs → first_row (xs ++ ys) ≡ r
@@ -67,4 +65,4 @@ pub first_row-free : (limits : LimitNumbers) (held : List Event) (rows : List (O
 unfolding size_rows
 first_row-free limits held rows h = size_free (nat_le limits.events (length held)) rows (lt-leb limits.events (length held) h)
 
-pub ruleset row_steps = (row_in-none, row_in-some, first_row-some, first_row-none, by_limits, first_row-full, first_row-free)
+pub ruleset row_steps = (row_found, first_row-some, first_row-none, by_limits, first_row-full, first_row-free)

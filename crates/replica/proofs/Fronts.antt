@@ -47,7 +47,7 @@ all_admitted : (held events : List Event) → IsGoodAfter held events → AreAdm
 all_admitted held [] h = tt
 all_admitted held (e ∷ events) h = (next_good held e h.0, all_admitted (held ++ e ∷ []) events h.1)
 
-good_behind : (before held events : List Event) → IsGoodAfter before (held ++ events) → IsGoodAfter (before ++ held) events
+pub good_behind : (before held events : List Event) → IsGoodAfter before (held ++ events) → IsGoodAfter (before ++ held) events
 good_behind before [] events h = subst (λ (l : List Event). IsGoodAfter l events) (sym (append-nil before)) h
 good_behind before (e ∷ held) events h = subst (λ (l : List Event). IsGoodAfter l events) (append_assoc before (e ∷ []) held) (good_behind (before ++ e ∷ []) held events h.1)
 

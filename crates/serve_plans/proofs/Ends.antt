@@ -4,11 +4,14 @@ use Rattle.std.specs.Global.{Vec}
 use Rattle.std.specs.List.{list_any}
 use Rattle.std.specs.Option.{option_map}
 use Rattle.std.specs.Io.KnownBytes.{Consumes}
+use Rattle.std.proofs.lemmas.Bool.{or_right}
 use Rattle.ew_model.specs.declared.id.Id.{Id}
 use Rattle.ew_model.specs.declared.event.Event.{Event}
 use Rattle.ew_model.specs.File.{file_of}
 use Rattle.ew_model.specs.Kept.{ReplicaState}
 use Rattle.ew_model.specs.Limits.{LimitNumbers}
+use Rattle.ew_model.proofs.ListTests.{any_from, found_by}
+use Rattle.ew_model.proofs.SetLaws.{joined_left}
 use Rattle.peer_frames.specs.declared.frame.Frame.{Frame}
 use Rattle.peer_frames.specs.declared.frame.Frame.TheVariants as frame
 use Rattle.peer_exchange.specs.Answering.{Answered, answer_to}
@@ -48,10 +51,6 @@ only_bye r (frame.Took accepted waiting repeats refused) h = absurd cc
 only_bye r (frame.Clash x) h = absurd cc
 only_bye r frame.Bye h = refl
 
-or_right : (a b : Bool) → b ≡ true → (a || b) ≡ true
-or_right true b h = refl
-or_right false b h = h
-
 found_bye : (r : ReplicaState) (f : Frame) (frames : List Frame) → ((exchanged (answer_to r f).state frames).end ≡ Some end.Bye → list_any is_bye frames ≡ true)
     → ((answer_to r f).end ≡ Some end.Bye) ⊎ ((exchanged (answer_to r f).state frames).end ≡ Some end.Bye) → list_any is_bye (f ∷ frames) ≡ true
 found_bye r f frames later (inl e) = ap (λ b. b || list_any is_bye frames) (only_bye r f e)
@@ -64,13 +63,8 @@ said_bye r (f ∷ frames) h =
     let a = answer_to r f in
     found_bye r f frames (λ e. said_bye a.state frames e) (ended_by a a.end (exchanged a.state frames) h)
 
-or_front : (b x y : Bool) → (x ≡ true → y ≡ true) → (b || x) ≡ true → (b || y) ≡ true
-or_front true x y h e = refl
-or_front false x y h e = h e
-
 any_front : (frames more : List Frame) → list_any is_bye frames ≡ true → list_any is_bye (frames ++ more) ≡ true
-any_front [] more h = absurd (let t : false ≡ true = h in cc)
-any_front (f ∷ frames) more h = or_front (is_bye f) (list_any is_bye frames) (list_any is_bye (frames ++ more)) (λ e. any_front frames more e) h
+any_front frames more h = let f = found_by is_bye frames h in any_from is_bye (frames ++ more) f.0 (joined_left frames more f.0 f.1) f.2
 
 -- ---- what is left
 

@@ -7,24 +7,10 @@ use Rattle.ew_model.specs.Records.{next_of, without}
 use Rattle.advance_retreat.specs.Kept.{Kept, with_lost}
 use Rattle.advance_retreat.specs.Standing.{StandsFor, is_applied}
 use Rattle.advance_retreat.specs.Conditions.{MayInsert, MayDelete, MayAdvanceTo, MayRetreatFrom}
+use Rattle.advance_retreat.proofs.Losses.{still_stands}
+use Rattle.ew_model.proofs.StateLaws.{holds_first}
 use Rattle.state_trials.specs.Calls.{Calls, UsesId, AreCalled, IsInLine}
-use Rattle.state_trials.proofs.Lines.{first_held, last_left, last_leaves, next_is_new, may_insert, used_by, after_apply, after_retreat, after_advance}
-
--- a state stands for the same, however many applies were lost
-lost_apart : (s : Kept) (n b : ℕ) (events : List (Applied ℕ)) (prepared : List ℕ) → StandsFor s b events prepared → StandsFor (with_lost s n) b events prepared
-lost_apart s n b events prepared st = record {
-  run = st.run;
-  closed = st.closed;
-  part = st.part;
-  placed = st.placed;
-  base = st.base;
-  records = st.records;
-  children = st.children;
-  targets = st.targets;
-  short_base = st.short_base;
-  short_history = st.short_history;
-  short_text = st.short_text;
-}
+use Rattle.state_trials.proofs.Lines.{last_left, last_leaves, next_is_new, may_insert, used_by, after_apply, after_retreat, after_advance}
 
 -- the calls with these positions
 abbrev with_turns : Calls → List ℕ → List ℕ → Calls
@@ -43,7 +29,7 @@ module _ (s : Kept) (c d : Calls) (n : ℕ) (line : IsInLine s c) where
     own = subst (λ (ns : List ℕ). IsInLine s (with_turns c ns c.out)) last line
 
     in_it : is_applied own.1 n
-    in_it = own.2.part n (first_held n d.prepared)
+    in_it = own.2.part n (holds_first n d.prepared)
 
     leaves : MayRetreatFrom own.1 (n ∷ d.prepared) n
     leaves = last_leaves own.1 own.3.over n d.prepared own.3.prepared.0 in_it
@@ -82,7 +68,7 @@ abbrev pub Inserts : Kept → ℕ → Id → Type 0
 Inserts s n id = (b : ℕ) × (events : List (Applied ℕ)) × (prepared : List ℕ) × StandsFor s b events prepared × MayInsert events n id
 
 pub refused : (s t : Kept) (c : Calls) (n : ℕ) → IsInLine s c → t ≡ with_lost s n → IsInLine t c
-refused s t c n line is = subst (λ (k : Kept). IsInLine k c) (sym is) (line.0, line.1, lost_apart s n line.0 line.1 c.prepared line.2, line.3)
+refused s t c n line is = subst (λ (k : Kept). IsInLine k c) (sym is) (line.0, line.1, still_stands s n line.0 line.1 c.prepared line.2, line.3)
 
 module _ (s : Kept) (c : Calls) (line : IsInLine s c) where
   may_delete : MayDelete line.1 c.next

@@ -2,7 +2,7 @@
 use Rattle.std.proofs.Common.{◌≡◌, ◌<◌, ◌≤◌, ◌+◌, ℕ, Bool, true, false, not, cond, ◌||◌, ⊎_elim, List, [], ◌∷◌, ◌++◌, nat_eq, refl, sym, subst, ◌∙◌, arith}
 use Rattle.std.specs.List.{list_any}
 use Rattle.std.specs.BTreeSet.{BTreeSet, contains}
-use Rattle.std.proofs.lemmas.Bool.{false≢true, false_from_ne_true, or_cases, or_left, or_right, eq-eqb, eqb-true}
+use Rattle.std.proofs.lemmas.Bool.{false≢true, false_from_ne_true, or_cases, or_parts, or_right, eq-eqb, eqb-true}
 use Rattle.ew_model.specs.declared.id.Id.{Id}
 use Rattle.ew_model.specs.Ids.{id_cmp, id_eq}
 use Rattle.ew_model.specs.Places.{Act}
@@ -12,12 +12,10 @@ use Rattle.ew_model.specs.Tree.{Applied}
 use Rattle.ew_model.specs.Records.{holds, inserts_as, next_of, without, IsClosed}
 use Rattle.ew_model.proofs.ListTests.{found_by}
 use Rattle.ew_model.proofs.SetLaws.{among_joined}
+use Rattle.ew_model.proofs.StateLaws.{holds_first}
 use Rattle.advance_retreat.specs.Standing.{is_applied}
 use Rattle.advance_retreat.specs.Conditions.{IsNewPosition, MayInsert, MayAdvanceTo, MayRetreatFrom}
 use Rattle.state_trials.specs.Calls.{Calls, UsesId, AreBelow, AreCalled}
-
-pub first_held : (n : ℕ) (ns : List ℕ) → holds (n ∷ ns) n ≡ true
-first_held n ns = or_left (nat_eq n n) (holds ns n) (eq-eqb n n refl)
 
 later_held : (n m : ℕ) (ns : List ℕ) → holds ns m ≡ true → holds (n ∷ ns) m ≡ true
 later_held n m ns h = or_right (nat_eq m n) (holds ns m) h
@@ -32,7 +30,7 @@ at_most n m ns low h =
 all_kept : (n : ℕ) (ns : List ℕ) → AreBelow n ns → without n ns ≡ ns
 all_kept n [] low = refl
 all_kept n (m ∷ ns) low =
-    let under = low m (first_held m ns) in
+    let under = low m (holds_first m ns) in
     let other : nat_eq m n ≡ false = false_from_ne_true (nat_eq m n) (λ e. let same : m ≡ n = eqb-true m n e in omega (arith, under, same)) in
     let rest : without n ns ≡ ns = all_kept n ns (λ k h. low k (later_held m k ns h)) in
     (λ i. cond (not (other i)) (m ∷ rest i) (rest i))
@@ -47,7 +45,7 @@ module _ (events : List (Applied ℕ)) (over : (a : Applied ℕ) → Among a eve
   last_leaves n ns low applied = (
     applied,
     record {
-      inside = first_held n ns;
+      inside = holds_first n ns;
       free = λ a m h. false_from_ne_true (holds a.over n) (λ k. let under = over a m n k in let most = at_most n a.name ns low h in omega (arith, under, most));
     },
   )
@@ -62,7 +60,7 @@ module _ (events : List (Applied ℕ)) (over : (a : Applied ℕ) → Among a eve
     applied,
     record {
       outside = not_held n ns low;
-      over = λ a m e k h. earlier_held n a.name k ns e (over a m k h) (closed a m (subst (λ (x : ℕ). holds (n ∷ ns) x ≡ true) (sym e) (first_held n ns)) k h);
+      over = λ a m e k h. earlier_held n a.name k ns e (over a m k h) (closed a m (subst (λ (x : ℕ). holds (n ∷ ns) x ≡ true) (sym e) (holds_first n ns)) k h);
     },
   )
 
@@ -78,13 +76,9 @@ next_is_new events next earlier =
 pub may_insert : (events : List (Applied ℕ)) (c : Calls) (x : Id) → AreCalled events c → contains id_cmp c.ids x ≡ false → MayInsert events c.next x
 may_insert events c x called free = record { position = next_is_new events c.next called.earlier; id = called.ids x free }
 
-neither : (b c : Bool) → (b || c) ≡ false → (b ≡ false) × (c ≡ false)
-neither true c e = absurd (false≢true (sym e))
-neither false c e = (refl, e)
-
 none_pushed : {X : Type 0} (p : X → Bool) (xs : List X) (x : X) → list_any p xs ≡ false → p x ≡ false → list_any p (xs ++ x ∷ []) ≡ false
 none_pushed p [] x e f = λ i. f i || false
-none_pushed p (y ∷ ys) x e f = let parts = neither (p y) (list_any p ys) e in (λ i. parts.0 i || none_pushed p ys x parts.1 f i)
+none_pushed p (y ∷ ys) x e f = let parts = or_parts (p y) (list_any p ys) e in (λ i. parts.0 i || none_pushed p ys x parts.1 f i)
 
 -- what is so after an event was applied, by what its act does to the ids
 module _ (events : List (Applied ℕ)) (c : Calls) (called : AreCalled events c) (part : (n : ℕ) → holds c.prepared n ≡ true → is_applied events n) where

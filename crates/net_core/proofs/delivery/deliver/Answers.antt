@@ -7,7 +7,7 @@ use Rattle.ew_model.specs.Limits.{LimitNumbers}
 use Rattle.peer_exchange.specs.Answering.{answer_to}
 use Rattle.peer_frames.specs.Laws.{IsTaken}
 use Rattle.net_core.specs.Answers.{IsLeftIn}
-use Rattle.net_core.proofs.Deliveries.{all_joined}
+use Rattle.ew_model.proofs.EntryLaws.{all_joined}
 use Rattle.net_core.proofs.Receiving.{IsReceiving, first_apart, left_at, next_received}
 use Rattle.net_core.proofs.delivery.deliver.Goals as goal
 

@@ -4,7 +4,8 @@ use Rattle.net_words.specs.declared.step.NetStep.TheVariants as step
 use Rattle.net_core.specs.declared.fault.NetFault.TheVariants as fault
 use Rattle.net_core.specs.Machine.{Network, Peer, peer_among}
 use Rattle.net_core.specs.Machine.Refusal.{PeerTwice}
-use Rattle.net_core.proofs.Steps.{got, refused, twice}
+use Rattle.ew_model.proofs.ListParts.{element_there}
+use Rattle.net_core.proofs.Steps.{refused, twice}
 use Rattle.net_core.proofs.net.Net.add.Goals as goal
 
 pub returns-in-Some : goal.returns-in-Some
@@ -13,7 +14,7 @@ returns-in-Some c =
     let name = c.args.name.now in
     let found = c.in-Some.ensures.found in
     let peers = c.deref.ensures.value ∙ ap (λ (n : Network). n.peers) c.self.view_is in
-    let p = got c.deref.result.now c.in-Some.field-0 found.0 in
+    let p = element_there c.deref.result.now c.in-Some.field-0 found.0 in
     refused now now (step.Peer name) (fault.PeerTwice name) (PeerTwice name) refl
     (twice now name p.0 (ap (λ (ps : List Peer). peer_among ps name) (sym peers) ∙ found.1 ∙ p.1)) refl
 
