@@ -21,12 +21,15 @@ use Rattle.ew_model.proofs.GapLaws.{eq_from}
 use Rattle.ew_model.proofs.OperationLaws.{got}
 use Rattle.ew_model.proofs.VersionLaws.{any_from, found_by}
 use Rattle.fugue_place.specs.declared.child.Attached.{Attached}
+use Rattle.fugue_place.specs.declared.children.Member.{Member}
 use Rattle.fugue_place.specs.declared.places.Places.{Places}
 use Rattle.fugue_place.specs.Attachments.{node_eq, is_attached}
+use Rattle.fugue_place.specs.Members.{child_of, children_of}
 use Rattle.fugue_place.specs.Places.{HasNodeAt, AreRising, is_above_newest, ArePlaces}
 use Rattle.fugue_place.specs.Spots.{node_cmp}
 use Rattle.fugue_place.proofs.LineLaws.{is_less}
 use Rattle.fugue_place.proofs.ListLaws.{place_of, place_more, place_new, place_cases}
+use Rattle.fugue_place.proofs.MemberLaws.{child_there, member_there}
 use Rattle.fugue_place.proofs.NodeLaws.{node_same, node_itself}
 use Rattle.fugue_place.proofs.SpotLaws.{node_exact, node_tied}
 
@@ -61,36 +64,39 @@ no_lower u v w e = at (node_cmp v w) refl
     at Greater f = let high : ordering_index (node_cmp v w) ≡ 2 = ap ordering_index f in let most = at_most (node_cmp u w) in omega arith
 
 -- CHILDREN THAT RISE
-module _ (children : List Attached) (v : Node) where
-  rising_by : AreRising children → IsNonDecreasingBy (λ (a : Attached). ordering_index (node_cmp a.node v)) children
+module _ (names : List (List ℕ)) (members : List Member) (v : Node) where
+  rising_by : AreRising (children_of names members) → IsNonDecreasingBy (λ (m : Member). ordering_index (node_cmp (Event m.event) v)) members
   rising_by rise =
-      IsNonDecreasingBy-from_all_adjacent (λ (a : Attached). ordering_index (node_cmp a.node v)) children (λ k d lt.
-      no_lower (get_or children k d).node (get_or children (k + 1) d).node v
-      (rise k (get_or children k d) (get_or children (k + 1) d) (slice_get-get_or children k d (omega arith)) (slice_get-get_or children (k + 1) d lt)))
+      IsNonDecreasingBy-from_all_adjacent (λ (m : Member). ordering_index (node_cmp (Event m.event) v)) members (λ k d lt.
+      no_lower (Event (get_or members k d).event) (Event (get_or members (k + 1) d).event) v
+      (rise k (child_of names (get_or members k d)) (child_of names (get_or members (k + 1) d)) (child_there names members k (get_or members k d) (slice_get-get_or members k d (omega arith)))
+      (child_there names members (k + 1) (get_or members (k + 1) d) (slice_get-get_or members (k + 1) d lt))))
 
   -- a search by halving ends at the node
-  halved_some : (k : ℕ) → k < length children → HoldsAt (λ (a : Attached). node_cmp a.node v ≡ Equal) children k → HasNodeAt children v k
+  halved_some : (k : ℕ) → k < length members → HoldsAt (λ (m : Member). node_cmp (Event m.event) v ≡ Equal) members k → HasNodeAt (children_of names members) v k
   halved_some k lt equal =
       ⊎_elim
-      (λ found. (found.0, found.2, node_exact found.0.node v (ap (λ (a : Attached). node_cmp a.node v) (sym found.3) ∙ equal found.0)))
+      (λ found. (child_of names found.0, child_there names members k found.0 found.2, node_exact (Event found.0.event) v (ap (λ (m : Member). node_cmp (Event m.event) v) (sym found.3) ∙ equal found.0)))
       (λ past. let high = past.0 in absurd (omega arith))
-      (slice_get_cases children k).1
+      (slice_get_cases members k).1
 
   -- or no child has it
-  halved_none : (i : ℕ) → IsPartitionPoint (λ (a : Attached). node_cmp a.node v ≡ Less) (λ (a : Attached). node_cmp a.node v ≡ Greater) children i → is_attached children v ≡ false
-  halved_none i parted = false_from_ne_true (is_attached children v) (λ e.
-      let found = found_by (λ (a : Attached). node_eq a.node v) children e in
-      let place = place_of children found.0 found.1 in
-      let lt : place.0 < length children = slice_get_within children place.0 found.0 place.1 in
-      let here : get_or children place.0 found.0 ≡ found.0 = get_or_from_slice_get children place.0 found.0 found.0 place.1 in
-      let equal : node_cmp found.0.node v ≡ Equal = ap (λ (u : Node). node_cmp u v) (node_same found.0.node v found.2) ∙ node_tied v in
+  halved_none : (i : ℕ) → IsPartitionPoint (λ (m : Member). node_cmp (Event m.event) v ≡ Less) (λ (m : Member). node_cmp (Event m.event) v ≡ Greater) members i → is_attached (children_of names members) v ≡ false
+  halved_none i parted = false_from_ne_true (is_attached (children_of names members) v) (λ e.
+      let found = found_by (λ (a : Attached). node_eq a.node v) (children_of names members) e in
+      let place = place_of (children_of names members) found.0 found.1 in
+      let kept = member_there names members place.0 found.0 place.1 in
+      let lt : place.0 < length members = slice_get_within members place.0 kept.0 kept.1 in
+      let here : get_or members place.0 kept.0 ≡ kept.0 = get_or_from_slice_get members place.0 kept.0 kept.0 kept.1 in
+      let is : Event kept.0.event ≡ v = ap (λ (a : Attached). a.node) kept.2 ∙ node_same found.0.node v found.2 in
+      let equal : node_cmp (Event kept.0.event) v ≡ Equal = ap (λ (u : Node). node_cmp u v) is ∙ node_tied v in
       ⊎_elim
-      (λ low. let less : node_cmp found.0.node v ≡ Less = ap (λ (a : Attached). node_cmp a.node v) (sym here) ∙ parted.0 place.0 found.0 (omega arith) low in let no : ⊥ = cc in absurd no)
-      (λ high. let greater : node_cmp found.0.node v ≡ Greater = ap (λ (a : Attached). node_cmp a.node v) (sym here) ∙ parted.1 place.0 found.0 high lt in let no : ⊥ = cc in absurd no)
+      (λ low. let less : node_cmp (Event kept.0.event) v ≡ Less = ap (λ (m : Member). node_cmp (Event m.event) v) (sym here) ∙ parted.0 place.0 kept.0 (omega arith) low in let no : ⊥ = cc in absurd no)
+      (λ high. let greater : node_cmp (Event kept.0.event) v ≡ Greater = ap (λ (m : Member). node_cmp (Event m.event) v) (sym here) ∙ parted.1 place.0 kept.0 high lt in let no : ⊥ = cc in absurd no)
       (cases_lt place.0 i))
 
-  pub halved : AreRising children → (found : Result ℕ ℕ) → IsSearchInRange found (length children) → IsBinarySearchResult (λ (a : Attached). node_cmp a.node v) children found
-      → IfSome (result_ok found) (HasNodeAt children v) × IfNone (result_ok found) (is_attached children v ≡ false)
+  pub halved : AreRising (children_of names members) → (found : Result ℕ ℕ) → IsSearchInRange found (length members) → IsBinarySearchResult (λ (m : Member). node_cmp (Event m.event) v) members found
+      → IfSome (result_ok found) (HasNodeAt (children_of names members) v) × IfNone (result_ok found) (is_attached (children_of names members) v ≡ false)
   halved rise (Ok k) lt equal = (halved_some k lt equal, tt)
   halved rise (Err i) le parted = (tt, halved_none i (parted (rising_by rise)))
 

@@ -9,6 +9,7 @@ pub mod KeptLaws
 pub mod LeaderLaws
 pub mod LineLaws
 pub mod ListLaws
+pub mod MemberLaws
 pub mod NeighbourLaws
 pub mod NodeLaws
 pub mod OutwardLaws

@@ -1,7 +1,7 @@
 -- Children attached one after another, and the paths that they have in the tree.
-use Rattle.std.specs.Prelude.{◌≡◌, ◌-◌, nat_eq, Bool, true, false, List, [], ◌∷◌, ◌++◌, length, slice_get, fold, if◌then◌else◌}
+use Rattle.std.specs.Prelude.{◌≡◌, ◌-◌, nat_eq, Bool, true, false, List, [], ◌∷◌, ◌++◌, length, Option, slice_get, fold, if◌then◌else◌}
 use Rattle.std.specs.List.{list_any}
-use Rattle.std.specs.Option.{option_map_or}
+use Rattle.std.specs.Option.{option_map, option_map_or}
 use Rattle.ew_model.specs.declared.id.Id.{Id}
 use Rattle.ew_model.specs.declared.node.Node.{Node}
 use Rattle.ew_model.specs.declared.node.Node.TheVariants.{Root, Base, Event}
@@ -40,6 +40,10 @@ is_event (Event i) = true
 -- the node is attached
 abbrev pub is_attached : List Attached → Node → Bool
 is_attached attached v = list_any (λ (a : Attached). node_eq a.node v) attached
+
+-- the node of the child that was attached last
+abbrev pub newest_node : List Attached → Option Node
+newest_node attached = option_map (λ (a : Attached). a.node) (slice_get attached (length attached - 1))
 
 -- the node is that of the child that was attached last
 abbrev pub is_newest : List Attached → Node → Bool

@@ -3,6 +3,7 @@ pub mod Chains
 pub mod Heirs
 pub mod Kept
 pub mod Lines
+pub mod Members
 pub mod Neighbours
 pub mod Places
 pub mod Spots

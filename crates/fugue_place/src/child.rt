@@ -1,9 +1,10 @@
 //! Children of the tree's nodes.
 
-ghost use Rattle.std.specs.Prelude.{◌≡◌, ◌<◌, length, slice_get, Some};
+ghost use Rattle.std.specs.Prelude.{◌≡◌};
 ghost use Rattle.fugue_place.specs.Attachments.{is_newest};
 ghost use Rattle.fugue_place.specs.Heirs.{is_heir};
 
+use crate::children::Children;
 use ew_model::id::Id;
 use ew_model::node::Node;
 
@@ -24,27 +25,19 @@ pub struct Attached {
     pub node: Node,
 }
 
-/// The child at a place.
-pub fn child_at(children: &[Attached], place: usize) -> Attached
-    requires { place < length children.now }
-    ensures { slice_get children.now place ≡ Some result }
-{
-    children[place]
-}
-
 /// Whether the node is that of the child that was attached last.
-pub fn is_newest(children: &[Attached], node: Node) -> bool
-    ensures { result ≡ is_newest children.now node }
+pub fn is_newest(children: &Children, node: Node) -> bool
+    ensures { result ≡ is_newest children.now.items node }
 {
-    match children.last() {
-        Some(child) => child.node == node,
+    match children.newest_node() {
+        Some(newest) => newest == node,
         None => false,
     }
 }
 
 /// Whether the child is an heir behind these: it hangs, on the right, on the one that was attached last.
-pub fn is_heir(children: &[Attached], child: &Attached) -> bool
-    ensures { result ≡ is_heir children.now child.now }
+pub fn is_heir(children: &Children, child: &Attached) -> bool
+    ensures { result ≡ is_heir children.now.items child.now }
 {
     is_newest(children, child.parent) && child.side == Side::Right
 }

@@ -8,31 +8,32 @@ ghost use Rattle.fugue_place.specs.Neighbours.{side_eq};
 ghost use Rattle.fugue_place.specs.Places.{ArePlaces};
 
 use crate::chains::Chains;
-use crate::child::{Attached, Side, child_at};
+use crate::child::{Attached, Side};
+use crate::children::Children;
 use crate::places::Places;
 use ew_model::id::Id;
 
 /// The place of the new child's parent, where that is a child of which the new one is the outermost child on the side. The
 /// chains lead outward there.
 pub fn leader_of(
-    children: &[Attached],
+    children: &Children,
     places: &Places,
     chains: &Chains,
     end: Side,
     child: &Attached,
 ) -> Option<usize>
-    requires attached { AreAttached [] children.now }
-    requires places { ArePlaces children.now places.now }
-    requires chains { LeadOutward end children.now chains.now }
-    ensures some { IfSome result (IsNewOutermost end children.now (follower chains.now.outer.items) child.now) }
-    ensures none { IfNone result (IsNoOutermost end children.now (follower chains.now.outer.items) child.now) }
+    requires attached { AreAttached [] children.now.items }
+    requires places { ArePlaces children.now.items places.now }
+    requires chains { LeadOutward end children.now.items chains.now }
+    ensures some { IfSome result (IsNewOutermost end children.now.items (follower chains.now.outer.items) child.now) }
+    ensures none { IfNone result (IsNoOutermost end children.now.items (follower chains.now.outer.items) child.now) }
 {
     if !is_side(child.side, end) {
         return None;
     }
     let at = places.find(children, child.parent)?;
     if let Some(k) = chains.follower(at) {
-        let rival = child_at(children, k as usize);
+        let rival = children.get(k as usize);
         if !is_further(end, &child.id, &rival.id) {
             return None;
         }

@@ -4,6 +4,7 @@
 
 mod chains;
 mod child;
+mod children;
 mod leaders;
 mod line;
 mod neighbour;

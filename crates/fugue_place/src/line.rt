@@ -10,7 +10,8 @@ ghost use Rattle.fugue_place.specs.Lines.{is_below, is_in_line, IsBest};
 ghost use Rattle.fugue_place.specs.Places.{ArePlaces};
 ghost use Rattle.fugue_place.specs.Spots.{spot_cmp, ahead_of, behind, IsIndex, IsFirstBetween, IsLastBetween, IsNoneBetween};
 
-use crate::child::{Attached, Side, child_at};
+use crate::child::{Attached, Side};
+use crate::children::Children;
 use crate::leaders::{is_further, is_side};
 use crate::places::Places;
 use crate::spot::{Rank, Spot};
@@ -73,16 +74,16 @@ impl Line {
 
 /// The place of the child in the line that stands outermost on the side `end`.
 pub fn outermost_child(
-    children: &[Attached],
+    children: &Children,
     spots: &BTreeMap<Spot, usize>,
     places: &Places,
     line: &Line,
     end: Side,
 ) -> Option<usize>
-    requires attached { AreAttached [] children.now }
-    requires indexed { IsIndex children.now (get spot_cmp spots.now) }
-    requires places { ArePlaces children.now places.now }
-    ensures { IsBest line.now end children.now (length children.now) result }
+    requires attached { AreAttached [] children.now.items }
+    requires indexed { IsIndex children.now.items (get spot_cmp spots.now) }
+    requires places { ArePlaces children.now.items places.now }
+    ensures { IsBest line.now end children.now.items (length children.now.items) result }
 {
     let other = outermost_of_others(spots, line, end);
     let Some(heir) = heir_in(children, places, line) else {
@@ -91,8 +92,8 @@ pub fn outermost_child(
     let Some(place) = other else {
         return Some(heir);
     };
-    let first = child_at(children, heir);
-    let second = child_at(children, place);
+    let first = children.get(heir);
+    let second = children.get(place);
     if is_further(end, &first.id, &second.id) {
         Some(heir)
     } else {
@@ -114,11 +115,11 @@ fn outermost_of_others(spots: &BTreeMap<Spot, usize>, line: &Line, end: Side) ->
 }
 
 /// The place of the heir in the line, if there is one: it stands right behind the parent.
-fn heir_in(children: &[Attached], places: &Places, line: &Line) -> Option<usize>
-    requires attached { AreAttached [] children.now }
-    requires places { ArePlaces children.now places.now }
-    ensures some { IfSome result (IsHeirIn line.now children.now) }
-    ensures none { IfNone result (HasNoHeir line.now children.now) }
+fn heir_in(children: &Children, places: &Places, line: &Line) -> Option<usize>
+    requires attached { AreAttached [] children.now.items }
+    requires places { ArePlaces children.now.items places.now }
+    ensures some { IfSome result (IsHeirIn line.now children.now.items) }
+    ensures none { IfNone result (HasNoHeir line.now children.now.items) }
 {
     if !is_side(line.side, Side::Right) {
         return None;
@@ -128,7 +129,7 @@ fn heir_in(children: &[Attached], places: &Places, line: &Line) -> Option<usize>
     if place == count {
         return None;
     }
-    let child = child_at(children, place);
+    let child = children.get(place);
     if line.has(&child) { Some(place) } else { None }
 }
 

@@ -2,9 +2,10 @@
 
 ghost use Rattle.std.specs.Prelude.{◌≡◌, true, false, [], ◌∷◌, ◌++◌, IfSome, IfNone, OnOk, OnErr};
 ghost use Rattle.fugue_place.specs.Attachments.{is_attached};
-ghost use Rattle.fugue_place.specs.Places.{HasNodeAt, AreRising, ArePlaces, is_above_newest};
+ghost use Rattle.fugue_place.specs.Places.{HasNodeAt, ArePlaces, is_above_newest};
 
 use crate::child::{Attached, is_newest};
+use crate::children::Children;
 use ew_model::NoMem;
 use ew_model::node::Node;
 use std::alloc::Global;
@@ -32,53 +33,43 @@ impl Places {
     }
 
     /// The place of the child with this node, if there is one.
-    pub fn find(&self, children: &[Attached], node: Node) -> Option<usize>
-        requires { ArePlaces children.now self.now }
-        ensures some { IfSome result (HasNodeAt children.now node) }
-        ensures none { IfNone result (is_attached children.now node ≡ false) }
+    pub fn find(&self, children: &Children, node: Node) -> Option<usize>
+        requires { ArePlaces children.now.items self.now }
+        ensures some { IfSome result (HasNodeAt children.now.items node) }
+        ensures none { IfNone result (is_attached children.now.items node ≡ false) }
     {
         if is_newest(children, node) {
             return Some(children.len() - 1);
         }
-        if let Some(place) = place_by_halving(&children[..self.rising], node) {
+        if let Some(place) = children.place_by_halving(self.rising, node) {
             return Some(place);
         }
         self.others.get(&node).copied()
     }
 
     /// Keeps the place of one more child behind these.
-    pub fn add(&mut self, children: &[Attached], child: &Attached) -> Result<(), NoMem>
-        requires places { ArePlaces children.now self.old }
-        requires new { is_attached children.now child.now.node ≡ false }
-        ensures ok { OnOk result (ArePlaces (children.now ++ child.now ∷ []) self.new) }
-        ensures err { OnErr result (ArePlaces children.now self.new) }
+    pub fn add(&mut self, children: &Children, child: &Attached) -> Result<(), NoMem>
+        requires places { ArePlaces children.now.items self.old }
+        requires new { is_attached children.now.items child.now.node ≡ false }
+        ensures ok { OnOk result (ArePlaces (children.now.items ++ child.now ∷ []) self.new) }
+        ensures err { OnErr result (ArePlaces children.now.items self.new) }
     {
-        if self.rising == children.len() && is_above_newest(children, child.node) {
+        let count = children.len();
+        if self.rising == count && is_above_newest(children, child.node) {
             self.rising += 1;
         } else {
-            self.others.insert(child.node, children.len())?;
+            self.others.insert(child.node, count)?;
         }
         Ok(())
     }
 }
 
-/// The place of the child with this node among children whose nodes rise.
-fn place_by_halving(children: &[Attached], node: Node) -> Option<usize>
-    requires { AreRising children.now }
-    ensures some { IfSome result (HasNodeAt children.now node) }
-    ensures none { IfNone result (is_attached children.now node ≡ false) }
-{
-    children
-        .binary_search_by_key(&node, |child| child.node)
-        .ok()
-}
-
 /// Whether the node is above that of the child that was attached last.
-fn is_above_newest(children: &[Attached], node: Node) -> bool
-    ensures { result ≡ is_above_newest children.now node }
+fn is_above_newest(children: &Children, node: Node) -> bool
+    ensures { result ≡ is_above_newest children.now.items node }
 {
-    match children.last() {
-        Some(child) => child.node < node,
+    match children.newest_node() {
+        Some(newest) => newest < node,
         None => true,
     }
 }

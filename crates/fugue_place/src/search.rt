@@ -11,7 +11,8 @@ ghost use Rattle.fugue_place.specs.Spots.{spot_cmp, IsIndex};
 ghost use Rattle.fugue_place.specs.Subtrees.{node_at, HasBase, tree_nodes, EndsBelow};
 
 use crate::chains::Chains;
-use crate::child::{Attached, Side, is_newest};
+use crate::child::{Side, is_newest};
+use crate::children::Children;
 use crate::line::{Line, outermost_child};
 use crate::neighbour::Place;
 use crate::places::Places;
@@ -22,7 +23,7 @@ use std::collections::BTreeMap;
 
 /// The place of a new child of the node on the side, under the id. `left` and `right` lead outward.
 pub fn place_of_new(
-    children: &[Attached],
+    children: &Children,
     spots: &BTreeMap<Spot, usize>,
     places: &Places,
     left: &Chains,
@@ -31,14 +32,14 @@ pub fn place_of_new(
     side: Side,
     id: Id,
 ) -> Place
-    requires attached { AreAttached [] children.now }
-    requires indexed { IsIndex children.now (get spot_cmp spots.now) }
-    requires places { ArePlaces children.now places.now }
-    requires left { LeadOutward Left children.now left.now }
-    requires right { LeadOutward Right children.now right.now }
-    requires parent { is_there children.now parent ≡ true }
-    requires unused { has_id children.now id ≡ false }
-    ensures { IsPlaceOfNew children.now parent side id result }
+    requires attached { AreAttached [] children.now.items }
+    requires indexed { IsIndex children.now.items (get spot_cmp spots.now) }
+    requires places { ArePlaces children.now.items places.now }
+    requires left { LeadOutward Left children.now.items left.now }
+    requires right { LeadOutward Right children.now.items right.now }
+    requires parent { is_there children.now.items parent ≡ true }
+    requires unused { has_id children.now.items id ≡ false }
+    ensures { IsPlaceOfNew children.now.items parent side id result }
 {
     // No child hangs on the one that was attached last.
     if is_newest(children, parent) {
@@ -77,12 +78,12 @@ fn beside(node: Node, side: Side) -> Place
 
 /// The outermost node on the side `end` of the subtree of the child at a place: the last on the right, the first on the
 /// left. The chains lead outward there.
-fn outermost_node(children: &[Attached], chains: &Chains, from: usize, end: Side) -> Node
-    requires attached { AreAttached [] children.now }
-    requires chains { LeadOutward end children.now chains.now }
-    requires within { from < length children.now }
-    ensures there { is_attached children.now result ≡ true }
-    ensures ends { (b : ℕ) → HasBase children.now b → EndsBelow (side_of end) (tree_nodes b children.now) (path_of children.now (node_at children.now from)) (path_of children.now result) }
+fn outermost_node(children: &Children, chains: &Chains, from: usize, end: Side) -> Node
+    requires attached { AreAttached [] children.now.items }
+    requires chains { LeadOutward end children.now.items chains.now }
+    requires within { from < length children.now.items }
+    ensures there { is_attached children.now.items result ≡ true }
+    ensures ends { (b : ℕ) → HasBase children.now.items b → EndsBelow (side_of end) (tree_nodes b children.now.items) (path_of children.now.items (node_at children.now.items from)) (path_of children.now.items result) }
 {
-    children[chains.end_of(from)].node
+    children.get(chains.end_of(from)).node
 }

@@ -7,6 +7,7 @@ ghost use Rattle.fugue_place.specs.Places.{ArePlaces};
 ghost use Rattle.fugue_place.specs.Spots.{spot_cmp, IsIndex};
 
 use crate::child::{Attached, Side, is_heir};
+use crate::children::Children;
 use crate::places::Places;
 use ew_model::NoMem;
 use ew_model::id::Id;
@@ -36,17 +37,17 @@ pub enum Rank {
 pub fn enlist(
     spots: &mut BTreeMap<Spot, usize>,
     places: &mut Places,
-    children: &[Attached],
+    children: &Children,
     child: &Attached,
 ) -> Result<(), NoMem>
-    requires spots { IsIndex children.now (get spot_cmp spots.old) }
-    requires places { ArePlaces children.now places.old }
-    requires new { is_attached children.now child.now.node ≡ false }
-    requires unused { has_id children.now child.now.id ≡ false }
-    ensures spots { OnOk result (IsIndex (children.now ++ child.now ∷ []) (get spot_cmp spots.new)) }
-    ensures places { OnOk result (ArePlaces (children.now ++ child.now ∷ []) places.new) }
-    ensures same_spots { OnErr result (IsIndex children.now (get spot_cmp spots.new)) }
-    ensures same_places { OnErr result (ArePlaces children.now places.new) }
+    requires spots { IsIndex children.now.items (get spot_cmp spots.old) }
+    requires places { ArePlaces children.now.items places.old }
+    requires new { is_attached children.now.items child.now.node ≡ false }
+    requires unused { has_id children.now.items child.now.id ≡ false }
+    ensures spots { OnOk result (IsIndex (children.now.items ++ child.now ∷ []) (get spot_cmp spots.new)) }
+    ensures places { OnOk result (ArePlaces (children.now.items ++ child.now ∷ []) places.new) }
+    ensures same_spots { OnErr result (IsIndex children.now.items (get spot_cmp spots.new)) }
+    ensures same_places { OnErr result (ArePlaces children.now.items places.new) }
 {
     if is_heir(children, child) {
         places.add(children, child)?;

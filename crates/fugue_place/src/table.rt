@@ -6,6 +6,7 @@ ghost use Rattle.fugue_place.specs.Neighbours.{has_beyond, IsPlaceOfNew};
 
 use crate::chains::Chains;
 use crate::child::{Attached, Side};
+use crate::children::Children;
 use crate::leaders::leader_of;
 use crate::neighbour::Place;
 use crate::places::Places;
@@ -21,7 +22,7 @@ use std::marker::Model;
 /// The children of all nodes of a tree. Contracts see the list of them, in the order in which they were attached.
 #[derive(Drop)]
 pub struct Siblings {
-    children: Vec<Attached>,
+    children: Children,
     /// The place of each child in that list, by parent, side and id, but for heirs.
     spots: BTreeMap<Spot, usize>,
     /// The place of each child by its node.
@@ -52,7 +53,7 @@ impl Siblings {
         ensures { IfOk result (λ s. s ≡ []) }
     {
         Ok(Siblings {
-            children: Vec::new(alloc),
+            children: Children::new(alloc),
             spots: BTreeMap::new(alloc),
             places: Places::new(alloc),
             left: Chains::new(alloc),
@@ -77,15 +78,14 @@ impl Siblings {
             id,
             node,
         };
-        let children = self.children.as_slice();
+        let children = &self.children;
         let left = leader_of(children, &self.places, &self.left, Side::Left, &child);
         let right = leader_of(children, &self.places, &self.right, Side::Right, &child);
-        self.children.reserve(1)?;
+        let agent = self.children.reserve(id.agent)?;
         self.left.reserve()?;
         self.right.reserve()?;
-        let before = self.children.as_slice();
-        enlist(&mut self.spots, &mut self.places, before, &child)?;
-        self.children.push_reserved(child);
+        enlist(&mut self.spots, &mut self.places, &self.children, &child)?;
+        self.children.push_reserved(child, agent);
         self.left.add(left);
         self.right.add(right);
         Ok(())
@@ -103,7 +103,7 @@ impl Siblings {
         ensures { IsPlaceOfNew self.now parent side id result }
     {
         place_of_new(
-            self.children.as_slice(),
+            &self.children,
             &self.spots,
             &self.places,
             &self.left,

@@ -8,14 +8,14 @@ use Rattle.fugue_place.proofs.leaders.leader_of.Goals as goal
 
 pub returns-in_err-at-clause-none : goal.returns-in_err-at-clause-none
 returns-in_err-at-clause-none c =
-    let xs = c.args.children.now in
+    let xs = c.args.children.now.items in
     let outer = follower c.args.chains.now.outer.items in
     let outward = c.requires.chains in
     subst (λ (o : Option ℕ). IfNone o (IsNoOutermost c.args.end xs outer c.args.child.now)) (sym c.from_residual.ensures) (no_parent xs c.requires.attached c.args.end outer outward.outermost c.args.child.now c.in_err-at.ensures.none)
 
 pub follower-requires : goal.follower-requires
 follower-requires c =
-    let xs = c.args.children.now in
+    let xs = c.args.children.now.items in
     let outer = follower c.args.chains.now.outer.items in
     let outward = c.requires.chains in
     let found = c.in_ok-at.ensures.some in
@@ -23,9 +23,9 @@ follower-requires c =
     let count = outward.count in
     omega arith
 
-pub child_at-rival-requires : goal.child_at-rival-requires
-child_at-rival-requires c =
-    let xs = c.args.children.now in
+pub get-rival-requires : goal.get-rival-requires
+get-rival-requires c =
+    let xs = c.args.children.now.items in
     let outer = follower c.args.chains.now.outer.items in
     let outward = c.requires.chains in
     let found = c.in_ok-at.ensures.some in
@@ -33,24 +33,24 @@ child_at-rival-requires c =
 
 pub returns-then-not-is_further-clause-none : goal.returns-then-not-is_further-clause-none
 returns-then-not-is_further-clause-none c =
-    let xs = c.args.children.now in
+    let xs = c.args.children.now.items in
     let outer = follower c.args.chains.now.outer.items in
     let outward = c.requires.chains in
     let found = c.in_ok-at.ensures.some in
-    no_further xs c.requires.attached c.args.end outer outward.outermost c.args.child.now c.in_ok-at.at found.0 found.1 found.2 c.in-Some.k c.child_at-rival.result (sym c.follower.ensures ∙ c.in-Some.is) c.child_at-rival.ensures (sym c.if-not-is_further.ensures)
+    no_further xs c.requires.attached c.args.end outer outward.outermost c.args.child.now c.in_ok-at.at found.0 found.1 found.2 c.in-Some.k c.get-rival.result (sym c.follower.ensures ∙ c.in-Some.is) c.get-rival.ensures (sym c.if-not-is_further.ensures)
 
 pub returns-else-not-is_further-clause-some : goal.returns-else-not-is_further-clause-some
 returns-else-not-is_further-clause-some c =
-    let xs = c.args.children.now in
+    let xs = c.args.children.now.items in
     let outer = follower c.args.chains.now.outer.items in
     let outward = c.requires.chains in
     let found = c.in_ok-at.ensures.some in
-    new_further xs c.requires.attached c.args.end outer outward.outermost c.args.child.now c.in_ok-at.at found.0 found.1 found.2 c.in-Some.k c.child_at-rival.result (sym c.follower.ensures ∙ c.in-Some.is) c.child_at-rival.ensures (sym c.if-not-is_further.ensures)
+    new_further xs c.requires.attached c.args.end outer outward.outermost c.args.child.now c.in_ok-at.at found.0 found.1 found.2 c.in-Some.k c.get-rival.result (sym c.follower.ensures ∙ c.in-Some.is) c.get-rival.ensures (sym c.if-not-is_further.ensures)
     (side_same c.args.child.now.side c.args.end (sym c.if-not-is_side.ensures))
 
 pub returns-in_default-clause-some : goal.returns-in_default-clause-some
 returns-in_default-clause-some c =
-    let xs = c.args.children.now in
+    let xs = c.args.children.now.items in
     let outer = follower c.args.chains.now.outer.items in
     let outward = c.requires.chains in
     let found = c.in_ok-at.ensures.some in

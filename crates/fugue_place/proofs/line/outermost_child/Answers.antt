@@ -5,29 +5,29 @@ use Rattle.fugue_place.proofs.line.outermost_child.Goals as goal
 
 pub returns-in_default : goal.returns-in_default
 returns-in_default c =
-    best_without c.args.children.now c.requires.attached c.args.line.now c.args.end c.in_default.ensures.none c.outermost_of_others-other.result (c.outermost_of_others-other.ensures c.args.children.now c.requires.indexed)
+    best_without c.args.children.now.items c.requires.attached c.args.line.now c.args.end c.in_default.ensures.none c.outermost_of_others-other.result (c.outermost_of_others-other.ensures c.args.children.now.items c.requires.indexed)
 
 pub returns-in_default-other : goal.returns-in_default-other
-returns-in_default-other c = heir_alone c.args.children.now c.requires.attached c.args.line.now c.args.end c.in-Some.heir c.in-Some.ensures.some (c.in_default-other.ensures c.args.children.now c.requires.indexed)
+returns-in_default-other c = heir_alone c.args.children.now.items c.requires.attached c.args.line.now c.args.end c.in-Some.heir c.in-Some.ensures.some (c.in_default-other.ensures c.args.children.now.items c.requires.indexed)
 
-pub child_at-first-requires : goal.child_at-first-requires
-child_at-first-requires c = let heir = c.in-Some.ensures.some in slice_get_within c.args.children.now c.in-Some.heir heir.child heir.here
+pub get-first-requires : goal.get-first-requires
+get-first-requires c = let heir = c.in-Some.ensures.some in slice_get_within c.args.children.now.items c.in-Some.heir heir.child heir.here
 
-pub child_at-second-requires : goal.child_at-second-requires
-child_at-second-requires c = let other = c.in-Some-other.ensures c.args.children.now c.requires.indexed in slice_get_within c.args.children.now c.in-Some-other.place other.child other.here
+pub get-second-requires : goal.get-second-requires
+get-second-requires c = let other = c.in-Some-other.ensures c.args.children.now.items c.requires.indexed in slice_get_within c.args.children.now.items c.in-Some-other.place other.child other.here
 
 pub returns-then-is_further : goal.returns-then-is_further
 returns-then-is_further c =
-    heir_further c.args.children.now c.requires.attached c.args.line.now c.args.end c.in-Some.heir c.in-Some.ensures.some c.in-Some-other.place (c.in-Some-other.ensures c.args.children.now c.requires.indexed) c.child_at-first.result
-    c.child_at-second.result
-    c.child_at-first.ensures
-    c.child_at-second.ensures
+    heir_further c.args.children.now.items c.requires.attached c.args.line.now c.args.end c.in-Some.heir c.in-Some.ensures.some c.in-Some-other.place (c.in-Some-other.ensures c.args.children.now.items c.requires.indexed) c.get-first.result
+    c.get-second.result
+    c.get-first.ensures
+    c.get-second.ensures
     (sym c.if-is_further.ensures)
 
 pub returns-else-is_further : goal.returns-else-is_further
 returns-else-is_further c =
-    other_further c.args.children.now c.requires.attached c.args.line.now c.args.end c.in-Some.heir c.in-Some.ensures.some c.in-Some-other.place (c.in-Some-other.ensures c.args.children.now c.requires.indexed) c.child_at-first.result
-    c.child_at-second.result
-    c.child_at-first.ensures
-    c.child_at-second.ensures
+    other_further c.args.children.now.items c.requires.attached c.args.line.now c.args.end c.in-Some.heir c.in-Some.ensures.some c.in-Some-other.place (c.in-Some-other.ensures c.args.children.now.items c.requires.indexed) c.get-first.result
+    c.get-second.result
+    c.get-first.ensures
+    c.get-second.ensures
     (sym c.if-is_further.ensures)

@@ -6,7 +6,7 @@ use Rattle.fugue_place.proofs.search.place_of_new.Goals as goal
 
 pub returns-then-is_newest : goal.returns-then-is_newest
 returns-then-is_newest c =
-    let xs = c.args.children.now in
+    let xs = c.args.children.now.items in
     let newest = sym c.if-is_newest.ensures in
     rw c.beside.ensures
     (place_beside xs c.requires.attached c.args.parent c.args.side c.args.id c.requires.parent c.requires.unused
@@ -14,12 +14,12 @@ returns-then-is_newest c =
 
 pub returns-in-Some : goal.returns-in-Some
 returns-in-Some c =
-    place_behind_lower c.args.children.now c.requires.attached c.args.parent c.args.side c.args.id c.requires.parent c.requires.unused c.in-Some.k c.in-Some.ensures c.outermost_node-last.result c.outermost_node-last.ensures.there
+    place_behind_lower c.args.children.now.items c.requires.attached c.args.parent c.args.side c.args.id c.requires.parent c.requires.unused c.in-Some.k c.in-Some.ensures c.outermost_node-last.result c.outermost_node-last.ensures.there
     c.outermost_node-last.ensures.ends
 
 pub returns-in-Some-outermost_child : goal.returns-in-Some-outermost_child
 returns-in-Some-outermost_child c =
-    place_ahead_of_higher c.args.children.now c.requires.attached c.args.parent c.args.side c.args.id c.requires.parent c.requires.unused c.in_default.ensures c.in-Some-outermost_child.k c.in-Some-outermost_child.ensures
+    place_ahead_of_higher c.args.children.now.items c.requires.attached c.args.parent c.args.side c.args.id c.requires.parent c.requires.unused c.in_default.ensures c.in-Some-outermost_child.k c.in-Some-outermost_child.ensures
     c.outermost_node-first.result
     c.outermost_node-first.ensures.there
     c.outermost_node-first.ensures.ends
@@ -27,4 +27,4 @@ returns-in-Some-outermost_child c =
 pub returns : goal.returns
 returns c =
     rw c.beside-2.ensures
-    (place_beside c.args.children.now c.requires.attached c.args.parent c.args.side c.args.id c.requires.parent c.requires.unused c.in_default.ensures c.in_default-outermost_child.ensures)
+    (place_beside c.args.children.now.items c.requires.attached c.args.parent c.args.side c.args.id c.requires.parent c.requires.unused c.in_default.ensures c.in_default-outermost_child.ensures)

@@ -15,8 +15,8 @@ kept : (c : After-copied) → c.copied.result ≡ get node_cmp c.args.self.now.o
 kept c = c.copied.ensures ∙ subst (λ (cmp : Node → Node → Ordering). option_copied c.get.result ≡ get cmp c.args.self.now.others c.args.node) nodes_by c.get.ensures.value
 
 pub returns-clause-some : goal.returns-clause-some
-returns-clause-some c = subst (λ (o : Option ℕ). IfSome o (HasNodeAt c.args.children.now c.args.node)) (sym (kept c)) (others_some c.args.children.now c.args.self.now c.requires c.args.node)
+returns-clause-some c = subst (λ (o : Option ℕ). IfSome o (HasNodeAt c.args.children.now.items c.args.node)) (sym (kept c)) (others_some c.args.children.now.items c.args.self.now c.requires c.args.node)
 
 pub returns-clause-none : goal.returns-clause-none
 returns-clause-none c =
-    subst (λ (o : Option ℕ). IfNone o (is_attached c.args.children.now c.args.node ≡ false)) (sym (kept c)) (others_none c.args.children.now c.args.self.now c.requires c.args.node c.in_default.ensures.none)
+    subst (λ (o : Option ℕ). IfNone o (is_attached c.args.children.now.items c.args.node ≡ false)) (sym (kept c)) (others_none c.args.children.now.items c.args.self.now c.requires c.args.node c.in_default.ensures.none)
