@@ -23,7 +23,7 @@ outward_same : (end : Side) (children : List Attached) (c d : Chains) → LeadOu
 outward_same end children c d lead same = record {
   chains = chains_same c d same lead.chains;
   count = ap length same.outer ∙ lead.count;
-  outermost = subst (λ (xs : List (Option ℕ)). AreOutermost end children (follower xs)) (sym same.outer) lead.outermost;
+  outermost = subst (λ (xs : List ℕ). AreOutermost end children (follower xs)) (sym same.outer) lead.outermost;
 }
 
 pub unchanged : (c : Chains) → IsSame c c
@@ -56,7 +56,7 @@ outward_more end children a all c d e lead same behind some none chains count le
   outermost =
       still_outermost children a all end (follower c.outer.items) (follower e.outer.items) lead.outermost behind
       (subst (λ (n : ℕ). IsLedBy n (follower c.outer.items) behind (follower e.outer.items)) (ap length same.outer ∙ lead.count)
-      (subst (λ (xs : List (Option ℕ)). IsLedBy (length d.outer.items) (follower xs) behind (follower e.outer.items)) same.outer led))
+      (subst (λ (xs : List ℕ). IsLedBy (length d.outer.items) (follower xs) behind (follower e.outer.items)) same.outer led))
       (λ k is. subst (λ (o : Option ℕ). IfSome o (IsNewOutermost end children (follower c.outer.items) a)) is some)
       (λ is. subst (λ (o : Option ℕ). IfNone o (IsNoOutermost end children (follower c.outer.items) a)) is none);
 }

@@ -1,7 +1,7 @@
 -- Whose outermost child a new one is.
 use Rattle.std.proofs.Common.{◌≡◌, ℕ, ◌<◌, true, false, List, [], length, slice_get, Option, Some, None, sym, ap, ◌∙◌, subst}
 use Rattle.std.proofs.lemmas.Bool.{false≢true}
-use Rattle.std.proofs.lemmas.Option.{none-some, same_Some, slice_get_within}
+use Rattle.std.proofs.lemmas.Option.{none-some, same_Some}
 use Rattle.fugue_place.specs.declared.child.Side.{Side}
 use Rattle.fugue_place.specs.declared.child.Attached.{Attached}
 use Rattle.fugue_place.specs.Attachments.{is_attached, AreAttached}
@@ -17,9 +17,6 @@ module _ (children : List Attached) (all : AreAttached [] children) (end : Side)
   other_side apart = λ k p here parent side. absurd (apart side)
 
   module _ (at : ℕ) (p : Attached) (here : slice_get children at ≡ Some p) (is : p.node ≡ a.parent) where
-    pub leader_early : at < length children
-    leader_early = slice_get_within children at p here
-
     pub follower_early : (k : ℕ) → outer at ≡ Some k → k < length children
     follower_early k e =
         let best : IsOutermost (line_of p.node end) end children (length children) k = subst (IsBest (line_of p.node end) end children (length children)) e (outermost at p here) in

@@ -1,17 +1,22 @@
 -- Chains of places, in which each is followed by a later one or by none.
-use Rattle.std.specs.Prelude.{◌≡◌, ℕ, zero, suc, ◌+◌, ◌^◌, ◌<◌, ◌⊎◌, List, length, get_or, Option, Some, None}
+use Rattle.std.specs.Prelude.{◌≡◌, ℕ, zero, suc, ◌+◌, ◌^◌, ◌<◌, ◌⊎◌, nat_eq, if◌then◌else◌, List, length, get_or, Option, Some, None}
 use Rattle.std.specs.Vec.{vec_len, vec_capacity}
 use Rattle.fugue_place.specs.declared.chains.Chains.{Chains}
 use Rattle.fugue_place.specs.declared.child.Side.{Side}
 use Rattle.fugue_place.specs.declared.child.Attached.{Attached}
 use Rattle.fugue_place.specs.Lines.{AreOutermost}
 
--- what a table tells of a place
-abbrev pub follower : List (Option ℕ) → ℕ → Option ℕ
-follower outer k = get_or outer k None
+-- what a table tells of a place: the place itself, where it tells nothing
+abbrev pub entry_at : List ℕ → ℕ → ℕ
+entry_at table k = get_or table k k
 
-abbrev pub number_at : List ℕ → ℕ → ℕ
-number_at numbers k = get_or numbers k 0
+-- the place j, unless it is k
+abbrev pub other_than : ℕ → ℕ → Option ℕ
+other_than k j = if nat_eq j k then None else Some j
+
+-- what a place is linked to, if not to itself
+abbrev pub follower : List ℕ → ℕ → Option ℕ
+follower links k = other_than k (entry_at links k)
 
 -- j, which follows k, is later and in the same chain
 pub record IsStep (n : ℕ) (before : ℕ → Option ℕ) (group : ℕ → ℕ) (k j : ℕ) : Type 0 where
@@ -32,7 +37,7 @@ pub record IsChains (c : Chains) : Type 0 where
   pub inner : length c.inner.items ≡ length c.outer.items
   pub numbers : length c.numbers.items ≡ length c.outer.items
   pub ends : length c.ends.items ≡ length c.outer.items
-  pub chains : AreChains (length c.outer.items) (follower c.outer.items) (follower c.inner.items) (number_at c.numbers.items) (number_at c.ends.items)
+  pub chains : AreChains (length c.outer.items) (follower c.outer.items) (follower c.inner.items) (entry_at c.numbers.items) (entry_at c.ends.items)
 
 -- Chains of the children lead outward on the side.
 pub record LeadOutward (end : Side) (children : List Attached) (c : Chains) : Type 0 where
@@ -77,11 +82,11 @@ pub record IsLone (c : Chains) (at n : ℕ) : Type 0 where
   pub inner : length c.inner.items ≡ n + 1
   pub numbers : length c.numbers.items ≡ n + 1
   pub ends : length c.ends.items ≡ n + 1
-  pub chains : AreChains n (follower c.outer.items) (follower c.inner.items) (number_at c.numbers.items) (number_at c.ends.items)
+  pub chains : AreChains n (follower c.outer.items) (follower c.inner.items) (entry_at c.numbers.items) (entry_at c.ends.items)
   pub behind : follower c.inner.items n ≡ Some at
   pub last : follower c.outer.items n ≡ None
-  pub number : number_at c.numbers.items n ≡ n
-  pub end : number_at c.ends.items n ≡ n
+  pub number : entry_at c.numbers.items n ≡ n
+  pub end : entry_at c.ends.items n ≡ n
 
 -- all but the numbers of chains stays
 pub record KeepsLinks (c d : Chains) : Type 0 where

@@ -1,7 +1,7 @@
 //! Where the subtrees of children end on one side.
 
-ghost use Rattle.std.specs.Prelude.{◌≡◌, ℕ, ◌<◌, ◌+◌, ◌^◌, [], length, set, Some, IfSome, IfNone, OnOk};
-ghost use Rattle.fugue_place.specs.Chains.{follower, number_at, IsChains, IsEndOf, IsLedBy, IsSame, HasRoom, IsLone, KeepsLinks, IsOuterRenumbered, IsInnerRenumbered};
+ghost use Rattle.std.specs.Prelude.{◌≡◌, ℕ, ◌<◌, ◌+◌, ◌^◌, [], ◌∷◌, ◌++◌, length, set, Some, IfSome, IfNone, OnOk};
+ghost use Rattle.fugue_place.specs.Chains.{follower, entry_at, IsChains, IsEndOf, IsLedBy, IsSame, HasRoom, IsLone, KeepsLinks, IsOuterRenumbered, IsInnerRenumbered};
 
 use ew_model::NoMem;
 use std::alloc::Global;
@@ -13,10 +13,10 @@ const MOST: u32 = u32::MAX;
 /// subtree of each ends at the end of its chain. They are told by their places in the list of all children.
 #[derive(Drop)]
 pub struct Chains {
-    /// What follows each.
-    pub outer: Vec<Option<u32>>,
-    /// What each followed when it was added.
-    pub inner: Vec<Option<u32>>,
+    /// What follows each: the end of a chain is followed by itself.
+    pub outer: Vec<u32>,
+    /// What each followed when it was added: one that was alone follows itself.
+    pub inner: Vec<u32>,
     /// The number of each one's chain.
     pub numbers: Vec<u32>,
     /// The end of the chain with each number.
@@ -53,10 +53,9 @@ impl Chains {
 
     /// What follows this one.
     pub fn follower(&self, at: usize) -> Option<u32>
-        requires { at < length self.now.outer.items }
         ensures { result ≡ follower self.now.outer.items at }
     {
-        self.outer[at]
+        linked(&self.outer, at)
     }
 
     /// The end of the chain that this one is in.
@@ -66,7 +65,8 @@ impl Chains {
         ensures end { IsEndOf (follower self.now.outer.items) at result }
         ensures within { result < length self.now.outer.items }
     {
-        self.ends[self.numbers[at] as usize] as usize
+        let number = entry_at(&self.numbers, at);
+        entry_at(&self.ends, number)
     }
 
     /// Adds the next one: behind another, in the place of what followed that one, or alone.
@@ -79,24 +79,37 @@ impl Chains {
         ensures led { IsLedBy (length self.old.outer.items) (follower self.old.outer.items) behind (follower self.new.outer.items) }
     {
         let new = self.outer.len() as u32;
-        let leader = narrow(behind);
-        self.outer.push_reserved(None);
-        self.inner.push_reserved(leader);
-        self.numbers.push_reserved(new);
-        self.ends.push_reserved(new);
-        if let Some(at) = leader {
-            self.lead(at, new);
+        match narrow(behind) {
+            Some(at) => {
+                self.push(at, new);
+                self.lead(at, new);
+            }
+            None => self.push(new, new),
         }
     }
 }
 
 impl Chains {
+    /// Puts the newest one behind the others, alone in the chain of its own number, with what it is to follow.
+    fn push(&mut self, inner: u32, new: u32)
+        requires { HasRoom self.old }
+        ensures outer { self.new.outer.items ≡ self.old.outer.items ++ new ∷ [] }
+        ensures inner { self.new.inner.items ≡ self.old.inner.items ++ inner ∷ [] }
+        ensures numbers { self.new.numbers.items ≡ self.old.numbers.items ++ new ∷ [] }
+        ensures ends { self.new.ends.items ≡ self.old.ends.items ++ new ∷ [] }
+    {
+        self.outer.push_reserved(new);
+        self.inner.push_reserved(inner);
+        self.numbers.push_reserved(new);
+        self.ends.push_reserved(new);
+    }
+
     /// Has the newest one, which is alone in the chain of its own number, follow another in the place of what followed that
     /// one. Of the two parts of the chain there, the shorter one gets a new number.
     fn lead(&mut self, at: u32, new: u32)
         requires { IsLone self.old at new }
         ensures chains { IsChains self.new }
-        ensures outer { self.new.outer.items ≡ set self.old.outer.items at (Some new) }
+        ensures outer { self.new.outer.items ≡ set self.old.outer.items at new }
     {
         if self.is_outer_part_shorter(at) {
             self.move_outer_part(at, new);
@@ -109,24 +122,24 @@ impl Chains {
     fn move_outer_part(&mut self, at: u32, new: u32)
         requires { IsLone self.old at new }
         ensures chains { IsChains self.new }
-        ensures outer { self.new.outer.items ≡ set self.old.outer.items at (Some new) }
+        ensures outer { self.new.outer.items ≡ set self.old.outer.items at new }
     {
         self.renumber_outer_part(at, new);
         let number = self.numbers[at as usize];
         self.numbers[new as usize] = number;
         self.ends[new as usize] = self.ends[number as usize];
         self.ends[number as usize] = new;
-        self.outer[at as usize] = Some(new);
+        self.outer[at as usize] = new;
     }
 
     /// Gives the number of the newest one to the other and all that it follows.
     fn move_inner_part(&mut self, at: u32, new: u32)
         requires { IsLone self.old at new }
         ensures chains { IsChains self.new }
-        ensures outer { self.new.outer.items ≡ set self.old.outer.items at (Some new) }
+        ensures outer { self.new.outer.items ≡ set self.old.outer.items at new }
     {
         self.renumber_inner_part(at, new);
-        self.outer[at as usize] = Some(new);
+        self.outer[at as usize] = new;
     }
 
     /// Whether fewer follow this one than it follows and itself: it decides only what a change costs.
@@ -135,7 +148,7 @@ impl Chains {
     {
         let mut outer = at;
         let mut inner = at;
-        while let Some(k) = self.outer[outer as usize] {
+        while let Some(k) = self.follower(outer as usize) {
             let Some(j) = self.leader(inner) else {
                 return false;
             };
@@ -149,10 +162,10 @@ impl Chains {
     fn renumber_outer_part(&mut self, at: u32, new: u32)
         requires { IsLone self.old at new }
         ensures same { KeepsLinks self.old self.new }
-        ensures numbers { IsOuterRenumbered new (follower self.old.outer.items) (number_at self.old.numbers.items) (number_at self.new.numbers.items) at }
+        ensures numbers { IsOuterRenumbered new (follower self.old.outer.items) (entry_at self.old.numbers.items) (entry_at self.new.numbers.items) at }
     {
         let mut last = at;
-        while let Some(k) = self.outer[last as usize] {
+        while let Some(k) = self.follower(last as usize) {
             self.numbers[k as usize] = new;
             last = k;
         }
@@ -162,7 +175,7 @@ impl Chains {
     fn renumber_inner_part(&mut self, at: u32, new: u32)
         requires { IsLone self.old at new }
         ensures same { KeepsLinks self.old self.new }
-        ensures numbers { IsInnerRenumbered new (follower self.old.outer.items) (number_at self.old.numbers.items) (number_at self.new.numbers.items) at }
+        ensures numbers { IsInnerRenumbered new (follower self.old.outer.items) (entry_at self.old.numbers.items) (entry_at self.new.numbers.items) at }
     {
         let mut first = at;
         self.numbers[first as usize] = new;
@@ -174,16 +187,36 @@ impl Chains {
 
     /// What this one follows.
     fn leader(&self, at: u32) -> Option<u32>
-        requires at { at < length self.now.inner.items }
-        requires early { IfSome (follower self.now.inner.items at) (λ k. k < length self.now.outer.items) }
         ensures some { IfSome result (λ k. (follower self.now.inner.items at ≡ Some k) × (follower self.now.outer.items k ≡ Some at)) }
         ensures none { IfNone result ((k : ℕ) → follower self.now.inner.items at ≡ Some k → follower self.now.outer.items k ≡ Some at → ⊥) }
     {
-        let k = self.inner[at as usize]?;
-        match self.outer[k as usize] {
+        let k = linked(&self.inner, at as usize)?;
+        match self.follower(k as usize) {
             Some(j) if j == at => Some(k),
             _ => None,
         }
+    }
+}
+
+/// What a place is linked to, if not to itself.
+fn linked(links: &[u32], at: usize) -> Option<u32>
+    ensures { result ≡ follower links.now at }
+{
+    let link = *links.get(at)?;
+    if link as usize == at {
+        None
+    } else {
+        Some(link)
+    }
+}
+
+/// What a table tells of a place: the place itself, where it tells nothing.
+fn entry_at(table: &[u32], at: usize) -> usize
+    ensures { result ≡ entry_at table.now at }
+{
+    match table.get(at) {
+        Some(entry) => *entry as usize,
+        None => at,
     }
 }
 

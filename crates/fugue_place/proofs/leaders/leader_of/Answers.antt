@@ -1,8 +1,8 @@
-use Rattle.std.proofs.Common.{ℕ, ◌<◌, length, Option, sym, ◌∙◌, subst, arith}
+use Rattle.std.proofs.Common.{ℕ, Option, sym, ◌∙◌, subst}
 use Rattle.std.specs.Option.{IfNone}
 use Rattle.fugue_place.specs.Chains.{follower}
 use Rattle.fugue_place.specs.Lines.{IsNoOutermost}
-use Rattle.fugue_place.proofs.LeaderLaws.{no_parent, leader_early, follower_early, no_further, new_further, new_only}
+use Rattle.fugue_place.proofs.LeaderLaws.{no_parent, follower_early, no_further, new_further, new_only}
 use Rattle.fugue_place.proofs.NodeLaws.{side_same}
 use Rattle.fugue_place.proofs.leaders.leader_of.Goals as goal
 
@@ -12,16 +12,6 @@ returns-in_err-at-clause-none c =
     let outer = follower c.args.chains.now.outer.items in
     let outward = c.requires.chains in
     subst (λ (o : Option ℕ). IfNone o (IsNoOutermost c.args.end xs outer c.args.child.now)) (sym c.from_residual.ensures) (no_parent xs c.requires.attached c.args.end outer outward.outermost c.args.child.now c.in_err-at.ensures.none)
-
-pub follower-requires : goal.follower-requires
-follower-requires c =
-    let xs = c.args.children.now.items in
-    let outer = follower c.args.chains.now.outer.items in
-    let outward = c.requires.chains in
-    let found = c.in_ok-at.ensures.some in
-    let early : c.in_ok-at.at < length xs = leader_early xs c.requires.attached c.args.end outer outward.outermost c.args.child.now c.in_ok-at.at found.0 found.1 found.2 in
-    let count = outward.count in
-    omega arith
 
 pub get-rival-requires : goal.get-rival-requires
 get-rival-requires c =

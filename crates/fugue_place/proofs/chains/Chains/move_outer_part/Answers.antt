@@ -1,6 +1,6 @@
 use Rattle.std.proofs.Common.{◌≡◌, ℕ, ◌+◌, ◌<◌, length, refl, sym, ap, ◌∙◌, subst, arith}
 use Rattle.std.proofs.lemmas.List.{get_or_read}
-use Rattle.fugue_place.specs.Chains.{follower, number_at}
+use Rattle.fugue_place.specs.Chains.{follower, entry_at}
 use Rattle.fugue_place.proofs.ChainLaws.{outer_stays}
 use Rattle.fugue_place.proofs.TableLaws.{outer_moved}
 use Rattle.fugue_place.proofs.chains.Chains.move_outer_part.Goals as goal
@@ -15,9 +15,9 @@ returns-clause-chains c =
     let renumbered = c.renumber_outer_part.ensures.numbers in
     let numbers_long : length d.numbers.items ≡ c.args.new + 1 = links.numbers ∙ lone.numbers in
     let ends_long : length d.ends.items ≡ c.args.new + 1 = ap length links.ends ∙ lone.ends in
-    let is : c.index-number.result.now ≡ number_at d.numbers.items c.args.at = get_or_read d.numbers.items c.args.at c.index-number.result.now (omega arith) c.index-number.ensures 0 in
-    let same : c.index-number.result.now ≡ number_at s.numbers.items c.args.at =
-    is ∙ outer_stays c.args.new (follower s.outer.items) (follower s.inner.items) (number_at s.numbers.items) (number_at s.ends.items) lone.chains c.args.at lone.early (number_at d.numbers.items) renumbered in
+    let is : c.index-number.result.now ≡ entry_at d.numbers.items c.args.at = get_or_read d.numbers.items c.args.at c.index-number.result.now (omega arith) c.index-number.ensures c.args.at in
+    let same : c.index-number.result.now ≡ entry_at s.numbers.items c.args.at =
+    is ∙ outer_stays c.args.new (follower s.outer.items) (follower s.inner.items) (entry_at s.numbers.items) (entry_at s.ends.items) lone.chains c.args.at lone.early (entry_at d.numbers.items) renumbered in
     let known : c.index-number.result.now < c.args.new = subst (λ (x : ℕ). x < c.args.new) (sym same) (lone.chains.known c.args.at low) in
-    let ending : c.index.result.now ≡ number_at d.ends.items c.index-number.result.now = get_or_read d.ends.items c.index-number.result.now c.index.result.now (omega arith) c.index.ensures 0 in
+    let ending : c.index.result.now ≡ entry_at d.ends.items c.index-number.result.now = get_or_read d.ends.items c.index-number.result.now c.index.result.now (omega arith) c.index.ensures c.index-number.result.now in
     outer_moved s c.args.at c.args.new lone d links _ refl refl renumbered c.index-number.result.now c.index.result.now is ending refl refl

@@ -1,7 +1,7 @@
-use Rattle.std.proofs.Common.{◌≡◌, ℕ, ◌<◌, List, length, set, Option, None, Some, refl, sym, ap, ◌∙◌, arith}
+use Rattle.std.proofs.Common.{◌≡◌, ℕ, ◌<◌, List, length, set, Some, refl, sym, ap, ◌∙◌, arith}
 use Rattle.std.proofs.Math.ListN.{length-set}
-use Rattle.std.proofs.lemmas.List.{get_or_read, get_or-set_same, get_or-set_other}
-use Rattle.fugue_place.specs.Chains.{follower, number_at}
+use Rattle.std.proofs.lemmas.List.{get_or-set_same, get_or-set_other}
+use Rattle.fugue_place.specs.Chains.{follower, entry_at}
 use Rattle.fugue_place.proofs.ChainLaws.{outer_begins, outer_goes_on}
 use Rattle.fugue_place.proofs.chains.Chains.renumber_outer_part.Goals as goal
 
@@ -10,7 +10,7 @@ loop-k-init c =
     let s = c.args.self.now in
     let lone = c.requires in (
       record { outer = refl; inner = refl; numbers = refl; ends = refl },
-      outer_begins c.args.new (follower s.outer.items) (follower s.inner.items) (number_at s.numbers.items) (number_at s.ends.items) lone.chains c.args.at lone.early,
+      outer_begins c.args.new (follower s.outer.items) (follower s.inner.items) (entry_at s.numbers.items) (entry_at s.ends.items) lone.chains c.args.at lone.early,
     )
 
 pub index_mut-requires : goal.index_mut-requires
@@ -19,12 +19,11 @@ index_mut-requires c =
     let lone = c.requires in
     let links = c.loop-k.invariant.0 in
     let part = c.loop-k.invariant.1 in
-    let xs = c.loop-k.self.outer.items in
     let count = lone.outer in
     let same = ap length links.outer in
     let low : c.loop-k.last < c.args.new = part.early in
     let read : follower s.outer.items c.loop-k.last ≡ Some c.in-Some.k =
-    ap (λ (ys : List (Option ℕ)). follower ys c.loop-k.last) (sym links.outer) ∙ sym (get_or_read xs c.loop-k.last c.index.result.now (omega arith) c.index.ensures None) ∙ c.in-Some.is in
+    ap (λ (ys : List ℕ). follower ys c.loop-k.last) (sym links.outer) ∙ sym c.follower.ensures ∙ c.in-Some.is in
     let step = lone.chains.step c.loop-k.last c.in-Some.k low read in
     let later : c.loop-k.last < c.in-Some.k = step.later in
     let within : c.in-Some.k < c.args.new = step.within in
@@ -39,12 +38,11 @@ loop-k-smaller c =
     let lone = c.requires in
     let links = c.loop-k.invariant.0 in
     let part = c.loop-k.invariant.1 in
-    let xs = c.loop-k.self.outer.items in
     let count = lone.outer in
     let same = ap length links.outer in
     let low : c.loop-k.last < c.args.new = part.early in
     let read : follower s.outer.items c.loop-k.last ≡ Some c.in-Some.k =
-    ap (λ (ys : List (Option ℕ)). follower ys c.loop-k.last) (sym links.outer) ∙ sym (get_or_read xs c.loop-k.last c.index.result.now (omega arith) c.index.ensures None) ∙ c.in-Some.is in
+    ap (λ (ys : List ℕ). follower ys c.loop-k.last) (sym links.outer) ∙ sym c.follower.ensures ∙ c.in-Some.is in
     let step = lone.chains.step c.loop-k.last c.in-Some.k low read in
     let later : c.loop-k.last < c.in-Some.k = step.later in
     let within : c.in-Some.k < c.args.new = step.within in
@@ -58,12 +56,11 @@ loop-k-preserved c =
     let lone = c.requires in
     let links = c.loop-k.invariant.0 in
     let part = c.loop-k.invariant.1 in
-    let xs = c.loop-k.self.outer.items in
     let count = lone.outer in
     let same = ap length links.outer in
     let low : c.loop-k.last < c.args.new = part.early in
     let read : follower s.outer.items c.loop-k.last ≡ Some c.in-Some.k =
-    ap (λ (ys : List (Option ℕ)). follower ys c.loop-k.last) (sym links.outer) ∙ sym (get_or_read xs c.loop-k.last c.index.result.now (omega arith) c.index.ensures None) ∙ c.in-Some.is in
+    ap (λ (ys : List ℕ). follower ys c.loop-k.last) (sym links.outer) ∙ sym c.follower.ensures ∙ c.in-Some.is in
     let step = lone.chains.step c.loop-k.last c.in-Some.k low read in
     let later : c.loop-k.last < c.in-Some.k = step.later in
     let within : c.in-Some.k < c.args.new = step.within in
@@ -71,7 +68,7 @@ loop-k-preserved c =
     let kept = links.numbers in
     let numbers = c.loop-k.self.numbers.items in (
       record { outer = links.outer; inner = links.inner; numbers = length-set numbers c.in-Some.k c.args.new ∙ links.numbers; ends = links.ends },
-      outer_goes_on c.args.new (follower s.outer.items) (follower s.inner.items) (number_at s.numbers.items) (number_at s.ends.items) lone.chains c.args.at lone.early
-          (number_at numbers) (number_at (set numbers c.in-Some.k c.args.new)) c.loop-k.last c.in-Some.k part read
-          (get_or-set_same numbers c.in-Some.k c.args.new 0 (omega arith)) (λ k apart. get_or-set_other numbers c.in-Some.k k c.args.new 0 apart),
+      outer_goes_on c.args.new (follower s.outer.items) (follower s.inner.items) (entry_at s.numbers.items) (entry_at s.ends.items) lone.chains c.args.at lone.early
+          (entry_at numbers) (entry_at (set numbers c.in-Some.k c.args.new)) c.loop-k.last c.in-Some.k part read
+          (get_or-set_same numbers c.in-Some.k c.args.new c.in-Some.k (omega arith)) (λ k apart. get_or-set_other numbers c.in-Some.k k c.args.new k apart),
     )
