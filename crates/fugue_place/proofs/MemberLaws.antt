@@ -1,11 +1,11 @@
 -- What children are that are kept with the names of their agents apart.
-use Rattle.std.proofs.Common.{◌≡◌, ℕ, ◌+◌, ◌<◌, ⊎_elim, List, [], ◌∷◌, ◌++◌, length, slice_get, Some, refl, sym, ap, ◌∙◌, arith, length-append}
+use Rattle.std.proofs.Common.{◌≡◌, ℕ, ◌<◌, ⊎_elim, List, [], ◌∷◌, ◌++◌, length, slice_get, Some, refl, sym, ap, ◌∙◌}
 use Rattle.std.specs.List.{AllByRecursion}
 use Rattle.std.specs.Option.{option_map}
 use Rattle.std.proofs.Math.ListN.{get_or-append}
 use Rattle.std.proofs.lemmas.List.{map-append}
-use Rattle.std.proofs.lemmas.List.Elements.{All-append, All-nil, All-cons, All-weaker, recursion_from_All}
-use Rattle.std.proofs.lemmas.Option.{none-some, same_Some, slice_get-map, slice_get_cases, slice_get_within, get_or_from_slice_get}
+use Rattle.std.proofs.lemmas.List.Elements.{recursion_from_All}
+use Rattle.std.proofs.lemmas.Option.{none-some, same_Some, slice_get-map, slice_get_cases, get_or_from_slice_get}
 use Rattle.fugue_place.specs.declared.child.Attached.{Attached}
 use Rattle.fugue_place.specs.declared.children.Member.{Member}
 use Rattle.fugue_place.specs.Members.{child_of, children_of, AreNamed}
@@ -23,10 +23,6 @@ member_there names members k a e =
 
 -- MORE NAMES
 module _ (names more : List (List ℕ)) where
-  pub names_stay : (members : List Member) → AreNamed names members → AreNamed (names ++ more) members
-  names_stay members named =
-      All-weaker (λ (m : Member). m.agent < length names) (λ (m : Member). m.agent < length (names ++ more)) (λ m lt. let long = length-append names more in omega arith) members named
-
   stay_each : (members : List Member) → AllByRecursion (λ (m : Member). m.agent < length names) members → children_of (names ++ more) members ≡ children_of names members
   stay_each [] named = refl
   stay_each (m ∷ members) named =
@@ -38,11 +34,6 @@ module _ (names more : List (List ℕ)) where
 
 -- ONE MORE CHILD
 module _ (names : List (List ℕ)) (members : List Member) (m : Member) (name : List ℕ) (is : slice_get names m.agent ≡ Some name) where
-  pub named_more : AreNamed names members → AreNamed names (members ++ m ∷ [])
-  named_more named =
-      All-append (λ (n : Member). n.agent < length names) members (m ∷ []) named
-      (All-cons (λ (n : Member). n.agent < length names) m [] (slice_get_within names m.agent name is) (All-nil (λ (n : Member). n.agent < length names)))
-
   pub children_more : children_of names (members ++ m ∷ []) ≡ children_of names members ++ record { parent = m.parent; side = m.side; id = record { agent = name; seq = m.seq }; node = (child_of names m).node } ∷ []
   children_more =
       map-append (child_of names) members (m ∷ [])

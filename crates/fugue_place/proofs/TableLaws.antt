@@ -1,11 +1,11 @@
 -- Chains as their tables tell them.
-use Rattle.std.proofs.Common.{◌≡◌, ℕ, ◌+◌, ◌<◌, Bool, nat_eq, cond, List, [], ◌∷◌, ◌++◌, length, get_or, set, Some, None, refl, sym, ap, ◌∙◌, subst, length-append, arith}
-use Rattle.std.proofs.Math.ListN.{length-set, get_or-append}
-use Rattle.std.proofs.Math.Seq.{get_or-append_seam}
+use Rattle.std.proofs.Common.{◌≡◌, ℕ, ◌+◌, ◌<◌, ◌≤◌, Bool, nat_eq, cond, List, length, set, Some, None, refl, sym, ap, ◌∙◌, subst, arith}
+use Rattle.std.proofs.Math.ListN.{length-set}
 use Rattle.std.proofs.lemmas.Bool.{false_from_ne_true, eq-eqb, eqb-true}
-use Rattle.std.proofs.lemmas.List.{get_or-set_same, get_or-set_other}
+use Rattle.std.proofs.lemmas.List.{get_or-set_same, get_or-set_other, get_or_past}
+use Rattle.std.proofs.lemmas.Option.{same_Some}
 use Rattle.fugue_place.specs.declared.chains.Chains.{Chains}
-use Rattle.fugue_place.specs.Chains.{entry_at, other_than, follower, AreChains, IsChains, IsSame, IsLone, KeepsLinks, IsOuterRenumbered, IsInnerRenumbered}
+use Rattle.fugue_place.specs.Chains.{entry_at, other_than, follower, AreChains, AreAligned, IsChains, IsLedBy, IsSame, IsLone, KeepsLinks, IsOuterRenumbered, IsInnerRenumbered}
 use Rattle.fugue_place.proofs.ChainLaws.{IsAdded, inner_led, outer_led, outer_stays, lone_led, chains_stay}
 
 -- LINKS
@@ -41,22 +41,31 @@ module _ (c : Chains) (at n : ℕ) (lone : IsLone c at n) where
     others = λ k lt apart. ap (other_than k) (get_or-set_other c.outer.items at k n k apart);
   }
 
-  module _ (d : Chains) (links : KeepsLinks c d) (e : Chains) (outer : e.outer.items ≡ set d.outer.items at n) (inner : e.inner.items ≡ d.inner.items) where
+  module _ (d : Chains) (links : KeepsLinks c d) (e : Chains) (all : e.count ≡ d.count) (outer : e.outer.items ≡ set d.outer.items at n) (inner : e.inner.items ≡ d.inner.items) where
     led_outer : e.outer.items ≡ led
     led_outer = outer ∙ ap (λ (xs : List ℕ). set xs at n) links.outer
 
-    count : length e.outer.items ≡ n + 1
-    count = ap length led_outer ∙ length-set c.outer.items at n ∙ lone.outer
+    count : e.count ≡ n + 1
+    count = all ∙ links.count ∙ lone.count
+
+    outer_count : length e.outer.items ≡ n + 1
+    outer_count = ap length led_outer ∙ length-set c.outer.items at n ∙ lone.outer
 
     inner_count : length e.inner.items ≡ length e.outer.items
-    inner_count = ap length (inner ∙ links.inner) ∙ lone.inner ∙ sym count
+    inner_count = ap length (inner ∙ links.inner) ∙ lone.inner ∙ sym outer_count
+
+    within : length e.outer.items ≤ e.count
+    within = let m = count in let rows = outer_count in omega arith
 
     pub inner_moved : IsInnerRenumbered n (follower c.outer.items) (entry_at c.numbers.items) (entry_at d.numbers.items) at → e.numbers.items ≡ d.numbers.items → e.ends.items ≡ d.ends.items → IsChains e
     inner_moved renumbered numbers ends = record {
-      inner = inner_count;
-      numbers = ap length numbers ∙ links.numbers ∙ lone.numbers ∙ sym count;
-      ends = ap length (ends ∙ links.ends) ∙ lone.ends ∙ sym count;
-      chains = same_tables (n + 1) (length e.outer.items) led e.outer.items c.inner.items e.inner.items d.numbers.items e.numbers.items c.ends.items e.ends.items count led_outer (inner ∙ links.inner) numbers (ends ∙ links.ends)
+      aligned = record {
+        within = within;
+        inner = inner_count;
+        numbers = ap length numbers ∙ links.numbers ∙ lone.numbers ∙ sym outer_count;
+        ends = ap length (ends ∙ links.ends) ∙ lone.ends ∙ sym outer_count;
+      };
+      chains = same_tables (n + 1) e.count led e.outer.items c.inner.items e.inner.items d.numbers.items e.numbers.items c.ends.items e.ends.items count led_outer (inner ∙ links.inner) numbers (ends ∙ links.ends)
           (inner_led n (follower c.outer.items) (follower c.inner.items) (entry_at c.numbers.items) (entry_at c.ends.items) lone.chains at lone.early (follower led) added lone.behind (entry_at d.numbers.items) renumbered lone.number lone.end);
     }
 
@@ -82,10 +91,13 @@ module _ (c : Chains) (at n : ℕ) (lone : IsLone c at n) where
 
       pub outer_moved : IsChains e
       outer_moved = record {
-        inner = inner_count;
-        numbers = ap length numbers ∙ length-set d.numbers.items n number ∙ numbers_long ∙ sym count;
-        ends = ap length ends ∙ length-set (set d.ends.items n last) number n ∙ marked_long ∙ sym count;
-        chains = same_tables (n + 1) (length e.outer.items) led e.outer.items c.inner.items e.inner.items (set d.numbers.items n number) e.numbers.items (set (set d.ends.items n last) number n) e.ends.items count led_outer
+        aligned = record {
+          within = within;
+          inner = inner_count;
+          numbers = ap length numbers ∙ length-set d.numbers.items n number ∙ numbers_long ∙ sym outer_count;
+          ends = ap length ends ∙ length-set (set d.ends.items n last) number n ∙ marked_long ∙ sym outer_count;
+        };
+        chains = same_tables (n + 1) e.count led e.outer.items c.inner.items e.inner.items (set d.numbers.items n number) e.numbers.items (set (set d.ends.items n last) number n) e.ends.items count led_outer
             (inner ∙ links.inner) numbers ends
             (outer_led n (follower c.outer.items) (follower c.inner.items) (entry_at c.numbers.items) (entry_at c.ends.items) lone.chains at lone.early (follower led) added lone.behind (entry_at d.numbers.items)
             (entry_at (set d.numbers.items n number)) (entry_at (set (set d.ends.items n last) number n)) renumbered (record {
@@ -104,80 +116,86 @@ module _ (c : Chains) (at n : ℕ) (lone : IsLone c at n) where
             }));
       }
 
+-- ROWS
+-- a place without a row follows none, and none follows it
+pub entry_past : (table : List ℕ) (k : ℕ) → length table ≤ k → entry_at table k ≡ k
+entry_past table k le = get_or_past table k k le
+
+pub follower_past : (links : List ℕ) (k : ℕ) → length links ≤ k → follower links k ≡ None
+follower_past links k le = ap (other_than k) (entry_past links k le) ∙ other_self k
+
 -- A PLACE THAT IS ADDED
-module _ (c : Chains) (kept : IsChains c) (n : ℕ) (is : n ≡ length c.outer.items) (leader : ℕ) (d : Chains) (outer : d.outer.items ≡ c.outer.items ++ n ∷ []) (inner : d.inner.items ≡ c.inner.items ++ leader ∷ [])
-    (numbers : d.numbers.items ≡ c.numbers.items ++ n ∷ []) (ends : d.ends.items ≡ c.ends.items ++ n ∷ []) where
-  module _ (xs : List ℕ) (x : ℕ) (long : length xs ≡ length c.outer.items) where
-    one_longer : length (xs ++ x ∷ []) ≡ n + 1
-    one_longer = length-append xs (x ∷ []) ∙ ap (λ (k : ℕ). k + 1) (long ∙ sym is)
-
-    at_front : (k : ℕ) → k < n → entry_at (xs ++ x ∷ []) k ≡ entry_at xs k
-    at_front k lt = get_or-append xs (x ∷ []) k k (let e = long in let f = is in omega arith)
-
-    at_end : entry_at (xs ++ x ∷ []) n ≡ x
-    at_end = ap (λ (k : ℕ). get_or (xs ++ x ∷ []) k n) (is ∙ sym long) ∙ get_or-append_seam xs x [] n
-
-  more_chains : AreChains n (follower d.outer.items) (follower d.inner.items) (entry_at d.numbers.items) (entry_at d.ends.items)
-  more_chains =
-      same_tables n n (c.outer.items ++ n ∷ []) d.outer.items (c.inner.items ++ leader ∷ []) d.inner.items (c.numbers.items ++ n ∷ []) d.numbers.items (c.ends.items ++ n ∷ []) d.ends.items refl outer inner numbers ends
-      (chains_stay n (follower c.outer.items) (follower c.inner.items) (follower (c.outer.items ++ n ∷ [])) (follower (c.inner.items ++ leader ∷ [])) (entry_at c.numbers.items) (entry_at c.ends.items)
-      (entry_at (c.numbers.items ++ n ∷ [])) (entry_at (c.ends.items ++ n ∷ []))
-      (subst (λ (m : ℕ). AreChains m (follower c.outer.items) (follower c.inner.items) (entry_at c.numbers.items) (entry_at c.ends.items)) (sym is) kept.chains)
-      (λ k lt. ap (other_than k) (at_front c.outer.items n refl k lt)) (λ k lt. ap (other_than k) (at_front c.inner.items leader kept.inner k lt)) (at_front c.numbers.items n kept.numbers) (at_front c.ends.items n kept.ends))
-
-  more_outer_count : length d.outer.items ≡ n + 1
-  more_outer_count = ap length outer ∙ one_longer c.outer.items n refl
-
-  more_inner_count : length d.inner.items ≡ n + 1
-  more_inner_count = ap length inner ∙ one_longer c.inner.items leader kept.inner
-
-  more_numbers_count : length d.numbers.items ≡ n + 1
-  more_numbers_count = ap length numbers ∙ one_longer c.numbers.items n kept.numbers
-
-  more_ends_count : length d.ends.items ≡ n + 1
-  more_ends_count = ap length ends ∙ one_longer c.ends.items n kept.ends
-
-  last : follower d.outer.items n ≡ None
-  last = ap (λ (xs : List ℕ). follower xs n) outer ∙ ap (other_than n) (at_end c.outer.items n refl) ∙ other_self n
-
-  put : follower d.inner.items n ≡ other_than n leader
-  put = ap (λ (xs : List ℕ). follower xs n) inner ∙ ap (other_than n) (at_end c.inner.items leader kept.inner)
-
-  own : entry_at d.numbers.items n ≡ n
-  own = ap (λ (xs : List ℕ). entry_at xs n) numbers ∙ at_end c.numbers.items n kept.numbers
-
-  own_end : entry_at d.ends.items n ≡ n
-  own_end = ap (λ (xs : List ℕ). entry_at xs n) ends ∙ at_end c.ends.items n kept.ends
-
-  pub put_behind : leader < n → IsLone d leader n
-  put_behind lt = record {
-    early = lt;
-    outer = more_outer_count;
-    inner = more_inner_count;
-    numbers = more_numbers_count;
-    ends = more_ends_count;
-    chains = more_chains;
-    behind = put ∙ other_apart n leader (λ same. absurd (omega arith));
-    last = last;
-    number = own;
-    end = own_end;
+module _ (c : Chains) (kept : IsChains c) (n : ℕ) (is : n ≡ c.count) where
+  -- alone, it takes no row
+  pub put_alone : (d : Chains) → d.count ≡ n + 1 → d.outer.items ≡ c.outer.items → d.inner.items ≡ c.inner.items → d.numbers.items ≡ c.numbers.items → d.ends.items ≡ c.ends.items → IsChains d
+  put_alone d count outer inner numbers ends = record {
+    aligned = record {
+      within = let long = ap length outer in let le = kept.aligned.within in omega arith;
+      inner = ap length inner ∙ kept.aligned.inner ∙ sym (ap length outer);
+      numbers = ap length numbers ∙ kept.aligned.numbers ∙ sym (ap length outer);
+      ends = ap length ends ∙ kept.aligned.ends ∙ sym (ap length outer);
+    };
+    chains = same_tables (n + 1) d.count c.outer.items d.outer.items c.inner.items d.inner.items c.numbers.items d.numbers.items c.ends.items d.ends.items count outer inner numbers ends
+        (lone_led n (follower c.outer.items) (follower c.inner.items) (entry_at c.numbers.items) (entry_at c.ends.items)
+        (subst (λ (m : ℕ). AreChains m (follower c.outer.items) (follower c.inner.items) (entry_at c.numbers.items) (entry_at c.ends.items)) (sym is) kept.chains)
+        (follower_past c.outer.items n rows)
+        (follower_past c.inner.items n (let long = kept.aligned.inner in let le = rows in omega arith))
+        (entry_past c.numbers.items n (let long = kept.aligned.numbers in let le = rows in omega arith))
+        (entry_past c.ends.items n (let long = kept.aligned.ends in let le = rows in omega arith)));
   }
+    where
+      rows : length c.outer.items ≤ n
+      rows = let le = kept.aligned.within in omega arith
 
-  pub put_alone : leader ≡ n → IsChains d
-  put_alone e = record {
-    inner = more_inner_count ∙ sym more_outer_count;
-    numbers = more_numbers_count ∙ sym more_outer_count;
-    ends = more_ends_count ∙ sym more_outer_count;
-    chains = subst (λ (m : ℕ). AreChains m (follower d.outer.items) (follower d.inner.items) (entry_at d.numbers.items) (entry_at d.ends.items)) (sym more_outer_count)
-        (lone_led n (follower d.outer.items) (follower d.inner.items) (entry_at d.numbers.items) (entry_at d.ends.items) more_chains last (put ∙ ap (other_than n) e ∙ other_self n) own own_end);
-  }
+  module _ (at : ℕ) (low : at < n) (d : Chains) (aligned : AreAligned d) (count : d.count ≡ n + 1) (full : length d.outer.items ≡ d.count) (outer : (k : ℕ) → entry_at d.outer.items k ≡ entry_at c.outer.items k)
+      (inner : (k : ℕ) → entry_at d.inner.items k ≡ entry_at c.inner.items k) (numbers : (k : ℕ) → entry_at d.numbers.items k ≡ entry_at c.numbers.items k) (ends : (k : ℕ) → entry_at d.ends.items k ≡ entry_at c.ends.items k)
+      (e : Chains) (all : e.count ≡ d.count) (same_outer : e.outer.items ≡ d.outer.items) (behind : e.inner.items ≡ set d.inner.items n at) (same_numbers : e.numbers.items ≡ d.numbers.items) (same_ends : e.ends.items ≡ d.ends.items) where
+    row_count : length c.outer.items ≤ n
+    row_count = let le = kept.aligned.within in omega arith
+
+    inner_long : n < length d.inner.items
+    inner_long = let long = aligned.inner in omega arith
+
+    -- behind another, it has a row
+    pub put_behind : IsLone e at n
+    put_behind = record {
+      early = low;
+      count = all ∙ count;
+      outer = ap length same_outer ∙ full ∙ count;
+      inner = ap length behind ∙ length-set d.inner.items n at ∙ aligned.inner ∙ full ∙ count;
+      numbers = ap length same_numbers ∙ aligned.numbers ∙ full ∙ count;
+      ends = ap length same_ends ∙ aligned.ends ∙ full ∙ count;
+      chains = same_tables n n d.outer.items e.outer.items (set d.inner.items n at) e.inner.items d.numbers.items e.numbers.items d.ends.items e.ends.items refl same_outer behind same_numbers same_ends
+          (chains_stay n (follower c.outer.items) (follower c.inner.items) (follower d.outer.items) (follower (set d.inner.items n at)) (entry_at c.numbers.items) (entry_at c.ends.items) (entry_at d.numbers.items)
+          (entry_at d.ends.items) (subst (λ (m : ℕ). AreChains m (follower c.outer.items) (follower c.inner.items) (entry_at c.numbers.items) (entry_at c.ends.items)) (sym is) kept.chains)
+          (λ k lt. ap (other_than k) (outer k)) (λ k lt. ap (other_than k) (get_or-set_other d.inner.items n k at k (λ here. absurd (omega arith)) ∙ inner k)) (λ k lt. numbers k) (λ k lt. ends k));
+      behind = ap (λ (xs : List ℕ). follower xs n) behind ∙ ap (other_than n) (get_or-set_same d.inner.items n at n inner_long) ∙ other_apart n at (λ here. absurd (omega arith));
+      last = ap (λ (xs : List ℕ). follower xs n) same_outer ∙ ap (other_than n) (outer n) ∙ follower_past c.outer.items n row_count;
+      number = ap (λ (xs : List ℕ). entry_at xs n) same_numbers ∙ numbers n ∙ entry_past c.numbers.items n (let long = kept.aligned.numbers in let le = row_count in omega arith);
+      end = ap (λ (xs : List ℕ). entry_at xs n) same_ends ∙ ends n ∙ entry_past c.ends.items n (let long = kept.aligned.ends in let le = row_count in omega arith);
+    }
+
+    -- and follows that one then
+    pub led_behind : (f : Chains) → f.outer.items ≡ set e.outer.items at n → IsLedBy n (follower c.outer.items) (Some at) (follower f.outer.items)
+    led_behind f led = record {
+      last = tells n ∙ ap (other_than n) (get_or-set_other d.outer.items at n n n (λ here. absurd (omega arith)) ∙ outer n) ∙ follower_past c.outer.items n row_count;
+      leads = λ k here.
+          let same : at ≡ k = same_Some at k here in
+          subst (λ (j : ℕ). follower f.outer.items j ≡ Some n) same (tells at ∙ ap (other_than at) (get_or-set_same d.outer.items at n at (let long = full in omega arith)) ∙ other_apart at n (λ here. absurd (omega arith)));
+      others = λ k lt apart. tells k ∙ ap (other_than k) (get_or-set_other d.outer.items at k n k (λ here. apart (ap (λ (j : ℕ). Some j) (sym here))) ∙ outer k);
+    }
+      where
+        tells : (k : ℕ) → follower f.outer.items k ≡ follower (set d.outer.items at n) k
+        tells k = ap (λ (xs : List ℕ). follower xs k) (led ∙ ap (λ (xs : List ℕ). set xs at n) same_outer)
 
 -- THE SAME TABLES
 pub chains_same : (c d : Chains) → IsSame c d → IsChains c → IsChains d
 chains_same c d same kept = record {
-  inner = ap length same.inner ∙ kept.inner ∙ sym (ap length same.outer);
-  numbers = ap length same.numbers ∙ kept.numbers ∙ sym (ap length same.outer);
-  ends = ap length same.ends ∙ kept.ends ∙ sym (ap length same.outer);
-  chains = same_tables (length c.outer.items) (length d.outer.items) c.outer.items d.outer.items c.inner.items d.inner.items c.numbers.items d.numbers.items c.ends.items d.ends.items (ap length same.outer) same.outer same.inner
-      same.numbers same.ends kept.chains;
+  aligned = record {
+    within = let all = same.count in let long = ap length same.outer in let le = kept.aligned.within in omega arith;
+    inner = ap length same.inner ∙ kept.aligned.inner ∙ sym (ap length same.outer);
+    numbers = ap length same.numbers ∙ kept.aligned.numbers ∙ sym (ap length same.outer);
+    ends = ap length same.ends ∙ kept.aligned.ends ∙ sym (ap length same.outer);
+  };
+  chains = same_tables c.count d.count c.outer.items d.outer.items c.inner.items d.inner.items c.numbers.items d.numbers.items c.ends.items d.ends.items same.count same.outer same.inner same.numbers same.ends kept.chains;
 }

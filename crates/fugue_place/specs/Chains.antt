@@ -1,6 +1,7 @@
 -- Chains of places, in which each is followed by a later one or by none.
-use Rattle.std.specs.Prelude.{◌≡◌, ℕ, zero, suc, ◌+◌, ◌^◌, ◌<◌, ◌⊎◌, nat_eq, if◌then◌else◌, List, length, get_or, Option, Some, None}
-use Rattle.std.specs.Vec.{vec_len, vec_capacity}
+use Rattle.std.specs.Prelude.{◌≡◌, ℕ, zero, suc, ◌+◌, ◌^◌, ◌<◌, ◌≤◌, ◌⊎◌, nat_eq, if◌then◌else◌, List, length, get_or, Option, Some, None}
+use Rattle.std.specs.Option.{IfSome}
+use Rattle.std.specs.Vec.{vec_capacity}
 use Rattle.fugue_place.specs.declared.chains.Chains.{Chains}
 use Rattle.fugue_place.specs.declared.child.Side.{Side}
 use Rattle.fugue_place.specs.declared.child.Attached.{Attached}
@@ -32,17 +33,22 @@ pub record AreChains (n : ℕ) (outer inner : ℕ → Option ℕ) (number end : 
   pub known : (k : ℕ) → k < n → number k < n
   pub ends : (k : ℕ) → k < n → outer k ≡ None → end (number k) ≡ k
 
--- what chains keep
-pub record IsChains (c : Chains) : Type 0 where
+-- the tables have as many rows as one another, and no more than there are places
+pub record AreAligned (c : Chains) : Type 0 where
+  pub within : length c.outer.items ≤ c.count
   pub inner : length c.inner.items ≡ length c.outer.items
   pub numbers : length c.numbers.items ≡ length c.outer.items
   pub ends : length c.ends.items ≡ length c.outer.items
-  pub chains : AreChains (length c.outer.items) (follower c.outer.items) (follower c.inner.items) (entry_at c.numbers.items) (entry_at c.ends.items)
+
+-- what chains keep
+pub record IsChains (c : Chains) : Type 0 where
+  pub aligned : AreAligned c
+  pub chains : AreChains c.count (follower c.outer.items) (follower c.inner.items) (entry_at c.numbers.items) (entry_at c.ends.items)
 
 -- Chains of the children lead outward on the side.
 pub record LeadOutward (end : Side) (children : List Attached) (c : Chains) : Type 0 where
   pub chains : IsChains c
-  pub count : length c.outer.items ≡ length children
+  pub count : c.count ≡ length children
   pub outermost : AreOutermost end children (follower c.outer.items)
 
 -- so many steps lead from k to e, which nothing follows
@@ -60,24 +66,42 @@ pub record IsLedBy (n : ℕ) (old : ℕ → Option ℕ) (behind : Option ℕ) (n
   pub leads : (k : ℕ) → behind ≡ Some k → new k ≡ Some n
   pub others : (k : ℕ) → k < n → (behind ≡ Some k → ⊥) → new k ≡ old k
 
--- the tables are the same
+-- there are as many, and the tables are the same
 pub record IsSame (c d : Chains) : Type 0 where
+  pub count : d.count ≡ c.count
   pub outer : d.outer.items ≡ c.outer.items
   pub inner : d.inner.items ≡ c.inner.items
   pub numbers : d.numbers.items ≡ c.numbers.items
   pub ends : d.ends.items ≡ c.ends.items
 
--- one more fits into each table, and has a number
-pub record HasRoom (c : Chains) : Type 0 where
-  pub few : vec_len c.outer + 1 < 2 ^ 32
-  pub outer : vec_len c.outer < vec_capacity c.outer
-  pub inner : vec_len c.inner < vec_capacity c.inner
-  pub numbers : vec_len c.numbers < vec_capacity c.numbers
-  pub ends : vec_len c.ends < vec_capacity c.ends
+-- there are as many, and the tables tell the same of each place
+pub record TellsSame (c d : Chains) : Type 0 where
+  pub count : d.count ≡ c.count
+  pub outer : (k : ℕ) → entry_at d.outer.items k ≡ entry_at c.outer.items k
+  pub inner : (k : ℕ) → entry_at d.inner.items k ≡ entry_at c.inner.items k
+  pub numbers : (k : ℕ) → entry_at d.numbers.items k ≡ entry_at c.numbers.items k
+  pub ends : (k : ℕ) → entry_at d.ends.items k ≡ entry_at c.ends.items k
+
+-- a row for each place fits into each table, and each place has a number
+pub record HasRows (c : Chains) : Type 0 where
+  pub few : c.count < 2 ^ 32
+  pub outer : c.count ≤ vec_capacity c.outer
+  pub inner : c.count ≤ vec_capacity c.inner
+  pub numbers : c.count ≤ vec_capacity c.numbers
+  pub ends : c.count ≤ vec_capacity c.ends
+
+-- one more fits, and has a number: behind another it takes a row of each table
+pub record HasRoom (c : Chains) (behind : Option ℕ) : Type 0 where
+  pub few : c.count + 1 < 2 ^ 32
+  pub outer : IfSome behind (λ k. c.count < vec_capacity c.outer)
+  pub inner : IfSome behind (λ k. c.count < vec_capacity c.inner)
+  pub numbers : IfSome behind (λ k. c.count < vec_capacity c.numbers)
+  pub ends : IfSome behind (λ k. c.count < vec_capacity c.ends)
 
 -- The place n is added, and alone in the chain of its own number; it was put behind an earlier place.
 pub record IsLone (c : Chains) (at n : ℕ) : Type 0 where
   pub early : at < n
+  pub count : c.count ≡ n + 1
   pub outer : length c.outer.items ≡ n + 1
   pub inner : length c.inner.items ≡ n + 1
   pub numbers : length c.numbers.items ≡ n + 1
@@ -90,6 +114,7 @@ pub record IsLone (c : Chains) (at n : ℕ) : Type 0 where
 
 -- all but the numbers of chains stays
 pub record KeepsLinks (c d : Chains) : Type 0 where
+  pub count : d.count ≡ c.count
   pub outer : d.outer.items ≡ c.outer.items
   pub inner : d.inner.items ≡ c.inner.items
   pub numbers : length d.numbers.items ≡ length c.numbers.items

@@ -1,7 +1,7 @@
 //! Where the subtrees of children end on one side.
 
-ghost use Rattle.std.specs.Prelude.{◌≡◌, ℕ, ◌<◌, ◌+◌, ◌^◌, [], ◌∷◌, ◌++◌, length, set, Some, IfSome, IfNone, OnOk};
-ghost use Rattle.fugue_place.specs.Chains.{follower, entry_at, IsChains, IsEndOf, IsLedBy, IsSame, HasRoom, IsLone, KeepsLinks, IsOuterRenumbered, IsInnerRenumbered};
+ghost use Rattle.std.specs.Prelude.{◌≡◌, ℕ, ◌<◌, ◌+◌, ◌^◌, length, set, Some, IfSome, IfNone, OnOk};
+ghost use Rattle.fugue_place.specs.Chains.{follower, entry_at, IsChains, IsEndOf, IsLedBy, AreAligned, IsSame, TellsSame, HasRoom, HasRows, IsLone, KeepsLinks, IsOuterRenumbered, IsInnerRenumbered};
 
 use ew_model::NoMem;
 use std::alloc::Global;
@@ -10,9 +10,12 @@ use std::alloc::Global;
 const MOST: u32 = u32::MAX;
 
 /// Children in chains that lead outward on one side: each is followed by its outermost child there, if it has one, and so the
-/// subtree of each ends at the end of its chain. They are told by their places in the list of all children.
+/// subtree of each ends at the end of its chain. They are told by their places in the list of all children. The tables have
+/// rows up to the last one that was put behind another at least: those further on are alone.
 #[derive(Drop)]
 pub struct Chains {
+    /// How many there are.
+    pub count: usize,
     /// What follows each: the end of a chain is followed by itself.
     pub outer: Vec<u32>,
     /// What each followed when it was added: one that was alone follows itself.
@@ -27,9 +30,10 @@ impl Chains {
     /// No chains.
     pub fn new(alloc: Global) -> Chains
         ensures chains { IsChains result }
-        ensures none { result.outer.items ≡ [] }
+        ensures none { result.count ≡ 0 }
     {
         Chains {
+            count: 0,
             outer: Vec::new(alloc),
             inner: Vec::new(alloc),
             numbers: Vec::new(alloc),
@@ -37,18 +41,23 @@ impl Chains {
         }
     }
 
-    /// Makes room for one more, while each has a number.
-    pub fn reserve(&mut self) -> Result<(), NoMem>
+    /// Makes room for one more, behind another or alone, while each has a number.
+    pub fn reserve(&mut self, behind: Option<usize>) -> Result<(), NoMem>
+        requires { IsChains self.old }
         ensures same { IsSame self.old self.new }
-        ensures room { OnOk result (HasRoom self.new) }
+        ensures room { OnOk result (HasRoom self.new behind) }
     {
-        if self.outer.len() >= MOST as usize {
+        if self.count >= MOST as usize {
             return Err(NoMem);
         }
-        self.outer.reserve(1)?;
-        self.inner.reserve(1)?;
-        self.numbers.reserve(1)?;
-        self.ends.reserve(1)
+        if behind.is_none() {
+            return Ok(());
+        }
+        let more = self.count + 1 - self.outer.len();
+        self.outer.reserve(more)?;
+        self.inner.reserve(more)?;
+        self.numbers.reserve(more)?;
+        self.ends.reserve(more)
     }
 
     /// What follows this one.
@@ -61,9 +70,9 @@ impl Chains {
     /// The end of the chain that this one is in.
     pub fn end_of(&self, at: usize) -> usize
         requires chains { IsChains self.now }
-        requires within { at < length self.now.outer.items }
+        requires within { at < self.now.count }
         ensures end { IsEndOf (follower self.now.outer.items) at result }
-        ensures within { result < length self.now.outer.items }
+        ensures within { result < self.now.count }
     {
         let number = entry_at(&self.numbers, at);
         entry_at(&self.ends, number)
@@ -72,36 +81,51 @@ impl Chains {
     /// Adds the next one: behind another, in the place of what followed that one, or alone.
     pub fn add(&mut self, behind: Option<usize>)
         requires chains { IsChains self.old }
-        requires room { HasRoom self.old }
-        requires behind { IfSome behind (λ k. k < length self.old.outer.items) }
+        requires room { HasRoom self.old behind }
+        requires behind { IfSome behind (λ k. k < self.old.count) }
         ensures chains { IsChains self.new }
-        ensures count { length self.new.outer.items ≡ length self.old.outer.items + 1 }
-        ensures led { IsLedBy (length self.old.outer.items) (follower self.old.outer.items) behind (follower self.new.outer.items) }
+        ensures count { self.new.count ≡ self.old.count + 1 }
+        ensures led { IsLedBy self.old.count (follower self.old.outer.items) behind (follower self.new.outer.items) }
     {
-        let new = self.outer.len() as u32;
-        match narrow(behind) {
-            Some(at) => {
-                self.push(at, new);
-                self.lead(at, new);
-            }
-            None => self.push(new, new),
+        let new = self.count as u32;
+        self.count += 1;
+        if let Some(at) = narrow(behind) {
+            self.fill();
+            self.inner[new as usize] = at;
+            self.lead(at, new);
         }
     }
 }
 
 impl Chains {
-    /// Puts the newest one behind the others, alone in the chain of its own number, with what it is to follow.
-    fn push(&mut self, inner: u32, new: u32)
-        requires { HasRoom self.old }
-        ensures outer { self.new.outer.items ≡ self.old.outer.items ++ new ∷ [] }
-        ensures inner { self.new.inner.items ≡ self.old.inner.items ++ inner ∷ [] }
-        ensures numbers { self.new.numbers.items ≡ self.old.numbers.items ++ new ∷ [] }
-        ensures ends { self.new.ends.items ≡ self.old.ends.items ++ new ∷ [] }
+    /// Gives a row to each that has none: it is alone.
+    fn fill(&mut self)
+        requires aligned { AreAligned self.old }
+        requires room { HasRows self.old }
+        ensures same { TellsSame self.old self.new }
+        ensures aligned { AreAligned self.new }
+        ensures full { length self.new.outer.items ≡ self.new.count }
     {
-        self.outer.push_reserved(new);
-        self.inner.push_reserved(inner);
-        self.numbers.push_reserved(new);
-        self.ends.push_reserved(new);
+        while self.outer.len() < self.count {
+            self.put_alone();
+        }
+    }
+
+    /// Gives a row to the first that has none.
+    fn put_alone(&mut self)
+        requires aligned { AreAligned self.old }
+        requires room { HasRows self.old }
+        requires short { length self.old.outer.items < self.old.count }
+        ensures same { TellsSame self.old self.new }
+        ensures aligned { AreAligned self.new }
+        ensures room { HasRows self.new }
+        ensures longer { length self.new.outer.items ≡ length self.old.outer.items + 1 }
+    {
+        let next = self.outer.len() as u32;
+        self.outer.push_reserved(next);
+        self.inner.push_reserved(next);
+        self.numbers.push_reserved(next);
+        self.ends.push_reserved(next);
     }
 
     /// Has the newest one, which is alone in the chain of its own number, follow another in the place of what followed that
@@ -109,6 +133,7 @@ impl Chains {
     fn lead(&mut self, at: u32, new: u32)
         requires { IsLone self.old at new }
         ensures chains { IsChains self.new }
+        ensures count { self.new.count ≡ self.old.count }
         ensures outer { self.new.outer.items ≡ set self.old.outer.items at new }
     {
         if self.is_outer_part_shorter(at) {
@@ -122,6 +147,7 @@ impl Chains {
     fn move_outer_part(&mut self, at: u32, new: u32)
         requires { IsLone self.old at new }
         ensures chains { IsChains self.new }
+        ensures count { self.new.count ≡ self.old.count }
         ensures outer { self.new.outer.items ≡ set self.old.outer.items at new }
     {
         self.renumber_outer_part(at, new);
@@ -136,6 +162,7 @@ impl Chains {
     fn move_inner_part(&mut self, at: u32, new: u32)
         requires { IsLone self.old at new }
         ensures chains { IsChains self.new }
+        ensures count { self.new.count ≡ self.old.count }
         ensures outer { self.new.outer.items ≡ set self.old.outer.items at new }
     {
         self.renumber_inner_part(at, new);

@@ -1,6 +1,6 @@
 //! The children in the order in which they were attached.
 
-ghost use Rattle.std.specs.Prelude.{◌≡◌, ℕ, ◌<◌, ◌≤◌, ◌^◌, true, false, List, [], ◌∷◌, ◌++◌, length, take, slice_get, Some, IfSome, IfNone, IfOk, OnOk, IsTrue};
+ghost use Rattle.std.specs.Prelude.{◌≡◌, ℕ, ◌<◌, ◌≤◌, ◌-◌, ◌^◌, true, false, List, [], ◌∷◌, ◌++◌, length, take, slice_get, Some, IfSome, IfNone, IfOk, OnOk, IsTrue};
 ghost use Rattle.fugue_place.specs.Attachments.{is_event, is_attached, newest_node};
 ghost use Rattle.fugue_place.specs.Places.{HasNodeAt, AreRising};
 

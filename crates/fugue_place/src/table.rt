@@ -82,8 +82,8 @@ impl Siblings {
         let left = leader_of(children, &self.places, &self.left, Side::Left, &child);
         let right = leader_of(children, &self.places, &self.right, Side::Right, &child);
         let agent = self.children.reserve(id.agent)?;
-        self.left.reserve()?;
-        self.right.reserve()?;
+        self.left.reserve(left)?;
+        self.right.reserve(right)?;
         enlist(&mut self.spots, &mut self.places, &self.children, &child)?;
         self.children.push_reserved(child, agent);
         self.left.add(left);

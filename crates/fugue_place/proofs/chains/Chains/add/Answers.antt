@@ -1,25 +1,35 @@
-use Rattle.std.proofs.Common.{◌≡◌, ℕ, ◌<◌, length, Option, Some, sym, refl, ◌∙◌, subst, arith}
+use Rattle.std.proofs.Common.{◌≡◌, ℕ, ◌<◌, Option, Some, refl, sym, ◌∙◌, subst}
 use Rattle.std.specs.Option.{IfSome}
-use Rattle.std.proofs.lemmas.Option.{IfSome_then}
-use Rattle.fugue_place.proofs.TableLaws.{put_behind, put_alone}
+use Rattle.std.specs.Vec.{with_item}
+use Rattle.fugue_place.specs.Chains.{follower, IsLedBy}
+use Rattle.fugue_place.proofs.TableLaws.{put_alone, put_behind, led_behind}
 use Rattle.fugue_place.proofs.chains.Chains.add.Goals as goal
-
-pub narrow-requires : goal.narrow-requires
-narrow-requires c =
-    let few = c.requires.room.few in
-    let len = c.args.self.now.outer.ok.0 in
-    IfSome_then c.args.behind c.requires.behind (λ k lt. omega arith)
 
 pub lead-requires : goal.lead-requires
 lead-requires c =
     let s = c.args.self.now in
-    let is : c.len-new.result ≡ length s.outer.items = c.len-new.ensures ∙ s.outer.ok.0 in
+    let same = c.fill.ensures.same in
     let found : c.args.behind ≡ Some c.in-Some.at = sym c.narrow.ensures ∙ c.in-Some.is in
-    let low : c.in-Some.at < length s.outer.items = subst (λ (o : Option ℕ). IfSome o (λ k. k < length s.outer.items)) found c.requires.behind in
-    put_behind s c.requires.chains c.len-new.result is c.in-Some.at _ c.push.ensures.outer c.push.ensures.inner c.push.ensures.numbers c.push.ensures.ends (omega arith)
+    let low : c.in-Some.at < s.count = subst (λ (o : Option ℕ). IfSome o (λ k. k < s.count)) found c.requires.behind in
+    put_behind s c.requires.chains s.count refl c.in-Some.at low c.fill.new.self c.fill.ensures.aligned same.count c.fill.ensures.full same.outer same.inner same.numbers same.ends _ refl refl refl refl refl
 
-pub returns-in-None-clause-chains : goal.returns-in-None-clause-chains
-returns-in-None-clause-chains c =
+pub returns-in-Some-clause-count : goal.returns-in-Some-clause-count
+returns-in-Some-clause-count c = c.lead.ensures.count ∙ c.fill.ensures.same.count
+
+pub returns-in-Some-clause-led : goal.returns-in-Some-clause-led
+returns-in-Some-clause-led c =
     let s = c.args.self.now in
-    let is : c.len-new.result ≡ length s.outer.items = c.len-new.ensures ∙ s.outer.ok.0 in
-    put_alone s c.requires.chains c.len-new.result is c.len-new.result _ c.push-in-None.ensures.outer c.push-in-None.ensures.inner c.push-in-None.ensures.numbers c.push-in-None.ensures.ends refl
+    let same = c.fill.ensures.same in
+    let found : c.args.behind ≡ Some c.in-Some.at = sym c.narrow.ensures ∙ c.in-Some.is in
+    let low : c.in-Some.at < s.count = subst (λ (o : Option ℕ). IfSome o (λ k. k < s.count)) found c.requires.behind in
+    subst (λ (o : Option ℕ). IsLedBy s.count (follower s.outer.items) o (follower c.lead.new.self.outer.items)) (sym found)
+    (led_behind s c.requires.chains s.count refl c.in-Some.at low c.fill.new.self c.fill.ensures.aligned same.count c.fill.ensures.full same.outer same.inner same.numbers same.ends (record {
+      count = c.fill.new.self.count;
+      outer = c.fill.new.self.outer;
+      inner = with_item c.fill.new.self.inner s.count c.in-Some.at;
+      numbers = c.fill.new.self.numbers;
+      ends = c.fill.new.self.ends;
+    }) refl refl refl refl refl c.lead.new.self c.lead.ensures.outer)
+
+pub returns-in_default-clause-chains : goal.returns-in_default-clause-chains
+returns-in_default-clause-chains c = put_alone c.args.self.now c.requires.chains c.args.self.now.count refl _ refl refl refl refl refl

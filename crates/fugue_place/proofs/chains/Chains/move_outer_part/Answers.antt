@@ -20,4 +20,4 @@ returns-clause-chains c =
     is ∙ outer_stays c.args.new (follower s.outer.items) (follower s.inner.items) (entry_at s.numbers.items) (entry_at s.ends.items) lone.chains c.args.at lone.early (entry_at d.numbers.items) renumbered in
     let known : c.index-number.result.now < c.args.new = subst (λ (x : ℕ). x < c.args.new) (sym same) (lone.chains.known c.args.at low) in
     let ending : c.index.result.now ≡ entry_at d.ends.items c.index-number.result.now = get_or_read d.ends.items c.index-number.result.now c.index.result.now (omega arith) c.index.ensures c.index-number.result.now in
-    outer_moved s c.args.at c.args.new lone d links _ refl refl renumbered c.index-number.result.now c.index.result.now is ending refl refl
+    outer_moved s c.args.at c.args.new lone d links _ refl refl refl renumbered c.index-number.result.now c.index.result.now is ending refl refl

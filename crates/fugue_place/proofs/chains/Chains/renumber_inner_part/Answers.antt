@@ -12,7 +12,7 @@ loop-k-init c =
     let low : c.args.at < c.args.new = lone.early in
     let long = lone.numbers in
     let numbers = s.numbers.items in (
-      record { outer = refl; inner = refl; numbers = length-set numbers c.args.at c.args.new; ends = refl },
+      record { count = refl; outer = refl; inner = refl; numbers = length-set numbers c.args.at c.args.new; ends = refl },
       inner_begins c.args.new (follower s.outer.items) (follower s.inner.items) (entry_at numbers) (entry_at s.ends.items) lone.chains c.args.at lone.early
           (entry_at (set numbers c.args.at c.args.new)) (get_or-set_same numbers c.args.at c.args.new c.args.at (omega arith)) (λ k apart. get_or-set_other numbers c.args.at k c.args.new k apart),
     )
@@ -33,7 +33,7 @@ loop-k-preserved c =
     let long = lone.numbers in
     let kept = links.numbers in
     let numbers = c.loop-k.self.numbers.items in (
-      record { outer = links.outer; inner = links.inner; numbers = length-set numbers c.in-Some.k c.args.new ∙ links.numbers; ends = links.ends },
+      record { count = links.count; outer = links.outer; inner = links.inner; numbers = length-set numbers c.in-Some.k c.args.new ∙ links.numbers; ends = links.ends },
       inner_goes_on c.args.new (follower s.outer.items) (follower s.inner.items) (entry_at s.numbers.items) (entry_at s.ends.items) lone.chains c.args.at lone.early
           (entry_at numbers) (entry_at (set numbers c.in-Some.k c.args.new)) c.loop-k.first c.in-Some.k part (omega arith) leads
           (get_or-set_same numbers c.in-Some.k c.args.new c.in-Some.k (omega arith)) (λ k apart. get_or-set_other numbers c.in-Some.k k c.args.new k apart),

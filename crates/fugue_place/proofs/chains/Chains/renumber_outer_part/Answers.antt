@@ -9,7 +9,7 @@ pub loop-k-init : goal.loop-k-init
 loop-k-init c =
     let s = c.args.self.now in
     let lone = c.requires in (
-      record { outer = refl; inner = refl; numbers = refl; ends = refl },
+      record { count = refl; outer = refl; inner = refl; numbers = refl; ends = refl },
       outer_begins c.args.new (follower s.outer.items) (follower s.inner.items) (entry_at s.numbers.items) (entry_at s.ends.items) lone.chains c.args.at lone.early,
     )
 
@@ -67,7 +67,7 @@ loop-k-preserved c =
     let long = lone.numbers in
     let kept = links.numbers in
     let numbers = c.loop-k.self.numbers.items in (
-      record { outer = links.outer; inner = links.inner; numbers = length-set numbers c.in-Some.k c.args.new ∙ links.numbers; ends = links.ends },
+      record { count = links.count; outer = links.outer; inner = links.inner; numbers = length-set numbers c.in-Some.k c.args.new ∙ links.numbers; ends = links.ends },
       outer_goes_on c.args.new (follower s.outer.items) (follower s.inner.items) (entry_at s.numbers.items) (entry_at s.ends.items) lone.chains c.args.at lone.early
           (entry_at numbers) (entry_at (set numbers c.in-Some.k c.args.new)) c.loop-k.last c.in-Some.k part read
           (get_or-set_same numbers c.in-Some.k c.args.new c.in-Some.k (omega arith)) (λ k apart. get_or-set_other numbers c.in-Some.k k c.args.new k apart),
