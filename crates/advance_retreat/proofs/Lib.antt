@@ -44,7 +44,6 @@ pub mod Moving
 pub mod NewRuns
 pub mod Nodes
 pub mod OpenedChars
-pub mod ParentLaws
 pub mod PartedRuns
 pub mod Parting
 pub mod Places

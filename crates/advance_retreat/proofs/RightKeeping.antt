@@ -1,39 +1,40 @@
--- Each parent that is kept has a count, whatever comes in, goes out or changes.
-use Rattle.std.proofs.Common.{◌≡◌, ℕ, Bool, true, false, cond, Option, Some, None, IsSome, nat_eq, if◌then◌else◌, refl, sym, ◌∙◌, subst}
+-- Each parent of a right child has a count, whatever is noted.
+use Rattle.std.proofs.Common.{◌≡◌, ℕ, Bool, true, false, cond, Option, Some, OnOk, OnErr, IsSome, Result, Ok, Err, nat_eq, if◌then◌else◌, sym, ap, ◌∙◌}
 use Rattle.ew_model.specs.declared.node.Node.{Node}
-use Rattle.advance_retreat.specs.Rights.{HaveCounts}
+use Rattle.ew_model.specs.declared.node.Node.TheVariants.{Root, Base, Event}
+use Rattle.advance_retreat.specs.declared.rights.Rights.{Rights}
+use Rattle.advance_retreat.specs.declared.rows.Row.{Row}
+use Rattle.advance_retreat.specs.declared.rows.Rows.{Rows}
+use Rattle.advance_retreat.specs.Rows.{kept_at, row_at}
+use Rattle.advance_retreat.specs.Rights.{HasCount, IsWhole}
 
-some_same : (v w : Node) → Some v ≡ Some w → v ≡ w
-some_same v w e = cc
+module _ (r : Rights) (new : Rows) (more : (n : ℕ) → IsSome (kept_at r.rows n) → IsSome (kept_at new n)) where
+  abbrev after : Rights
+  after = record { rows = new; counts = r.counts }
 
-none_some : (w : Node) → None ≡ Some w → ⊥
-none_some w e = cc
+  still_counted : (v : Node) → HasCount r v → HasCount after v
+  still_counted Root h = h
+  still_counted (Base i) h = h
+  still_counted (Event n) h = more n h
 
-module _ (f : ℕ → Option Node) (c : Node → Option ℕ) (whole : HaveCounts f c) where
-  pub more_counts : (d : Node → Option ℕ) → ((v : Node) → IsSome (c v) → IsSome (d v)) → HaveCounts f d
-  more_counts d more n p e = more p (whole n p e)
+  module _ (whole : IsWhole r) where
+    told_whole : ((n : ℕ) → row_at new n ≡ row_at r.rows n) → IsWhole after
+    told_whole same n p e = still_counted p (whole n p (sym (ap (λ (row : Row). row.parent) (same n)) ∙ e))
 
-  pub same_parents : (g : ℕ → Option Node) → ((k : ℕ) → g k ≡ f k) → HaveCounts g c
-  same_parents g same n p e = whole n p (sym (same n) ∙ e)
+    module _ (k : ℕ) (parent : Option Node) (some : (p : Node) → parent ≡ Some p → HasCount r p) where
+      put_whole : ((n : ℕ) → row_at new n ≡ (if nat_eq k n then record (row_at r.rows n) { parent = parent } else row_at r.rows n)) → IsWhole after
+      put_whole puts n p e = at (nat_eq k n) (sym (ap (λ (row : Row). row.parent) (puts n)) ∙ e)
+        where
+          at : (b : Bool) → (cond b (record (row_at r.rows n) { parent = parent }) (row_at r.rows n)).parent ≡ Some p → HasCount after p
+          at true h = still_counted p (some p h)
+          at false h = still_counted p (whole n p h)
 
-  pub parent_put : (g : ℕ → Option Node) (k : ℕ) (v : Node) → IsSome (c v) → ((n : ℕ) → g n ≡ (if nat_eq k n then Some v else f n)) → HaveCounts g c
-  parent_put g k v some puts n p e = at (nat_eq k n) (sym (puts n) ∙ e)
-    where
-      at : (b : Bool) → cond b (Some v) (f n) ≡ Some p → IsSome (c p)
-      at true h = subst (λ (w : Node). IsSome (c w)) (some_same v p h) some
-      at false h = whole n p h
+      -- a parent that has a count is noted, or memory is wanting
+      pub noted_whole : {X E : Type 0} (result : Result X E) → OnOk result ((n : ℕ) → row_at new n ≡ (if nat_eq k n then record (row_at r.rows n) { parent = parent } else row_at r.rows n))
+          → OnErr result ((n : ℕ) → row_at new n ≡ row_at r.rows n) → IsWhole after
+      noted_whole (Ok x) ok err = put_whole ok
+      noted_whole (Err x) ok err = told_whole err
 
-  pub parent_gone : (g : ℕ → Option Node) (k : ℕ) → ((n : ℕ) → g n ≡ (if nat_eq k n then None else f n)) → HaveCounts g c
-  parent_gone g k gone n p e = at (nat_eq k n) (sym (gone n) ∙ e)
-    where
-      at : (b : Bool) → cond b None (f n) ≡ Some p → IsSome (c p)
-      at true h = absurd (none_some p h)
-      at false h = whole n p h
-
--- a count is put in
-pub still_counted : (c d : Node → Option ℕ) (at : Node → Bool) (k : ℕ) → ((v : Node) → d v ≡ cond (at v) (Some k) (c v)) → (v : Node) → IsSome (c v) → IsSome (d v)
-still_counted c d at k puts v some = subst IsSome (sym (puts v)) (by (at v))
-  where
-    by : (b : Bool) → IsSome (cond b (Some k) (c v))
-    by true = refl
-    by false = some
+-- none changes, and none goes
+pub same_whole : (r s : Rights) → IsWhole r → ((n : ℕ) → (row_at s.rows n).parent ≡ (row_at r.rows n).parent) → ((v : Node) → HasCount r v → HasCount s v) → IsWhole s
+same_whole r s whole same more n p e = more p (whole n p (sym (same n) ∙ e))

@@ -4,10 +4,9 @@ pub mod Kept
 pub mod Labelled
 pub mod Laid
 pub mod Loose
-pub mod Noted
-pub mod Parents
 pub mod Refusals
 pub mod Replacing
 pub mod Rights
+pub mod Rows
 pub mod Spots
 pub mod Standing

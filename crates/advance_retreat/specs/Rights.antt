@@ -15,8 +15,8 @@ use Rattle.advance_retreat.specs.declared.change.Positions.{Positions}
 use Rattle.advance_retreat.specs.declared.runs.changing.Known.{Known}
 use Rattle.advance_retreat.specs.declared.rights.Rights.{Rights}
 use Rattle.advance_retreat.specs.Kept.{knows}
-use Rattle.advance_retreat.specs.Noted.{told}
 use Rattle.advance_retreat.specs.Replacing.{one_if, changed_in}
+use Rattle.advance_retreat.specs.Rows.{kept_at, row_at}
 
 -- the records of characters, the runs that they are kept in, and the children of the tree's nodes
 pub record InTree : Type 0 where
@@ -52,16 +52,28 @@ pub record AreRights (rs : List Stretch) (attached : List Attached) (c : Counted
 abbrev pub or_none : Option ℕ → ℕ
 or_none o = unwrap_or o 0
 
+-- how many right children of a node are inserted, as the tables tell
+abbrev pub count_in : Rights → Node → ℕ
+count_in r Root = or_none (get node_cmp r.counts Root)
+count_in r (Base i) = or_none (get node_cmp r.counts (Base i))
+count_in r (Event n) = (row_at r.rows n).inserted
+
 -- what the tables tell
 abbrev pub counted : Rights → Counted
-counted r = record { parent_at = told r.parents; count = λ v. or_none (get node_cmp r.counts v) }
+counted r = record { parent_at = λ n. (row_at r.rows n).parent; count = count_in r }
+
+-- a count is kept of the node
+abbrev pub HasCount : Rights → Node → Type 0
+HasCount r Root = IsSome (get node_cmp r.counts Root)
+HasCount r (Base i) = IsSome (get node_cmp r.counts (Base i))
+HasCount r (Event n) = IsSome (kept_at r.rows n)
 
 -- each of those parents has a count
-abbrev pub HaveCounts : (ℕ → Option Node) → (Node → Option ℕ) → Type 0
-HaveCounts parent_at count_at = (n : ℕ) (p : Node) → parent_at n ≡ Some p → IsSome (count_at p)
+abbrev pub HaveCounts : (ℕ → Option Node) → (Node → Type 0) → Type 0
+HaveCounts parent_at HasOne = (n : ℕ) (p : Node) → parent_at n ≡ Some p → HasOne p
 
 abbrev pub IsWhole : Rights → Type 0
-IsWhole r = HaveCounts (told r.parents) (get node_cmp r.counts)
+IsWhole r = HaveCounts (counted r).parent_at (HasCount r)
 
 -- the tables tell of the attached children
 pub record KeepRights (rs : List Stretch) (attached : List Attached) (r : Rights) : Type 0 where

@@ -10,10 +10,10 @@ ghost use Rattle.fugue_place.specs.Neighbours.{side_eq};
 ghost use Rattle.fugue_place.specs.Spots.{node_cmp};
 ghost use Rattle.advance_retreat.specs.declared.change.Change.{Change as Changes};
 ghost use Rattle.advance_retreat.specs.Replacing.{changed_in};
-ghost use Rattle.advance_retreat.specs.Rights.{parent_of, or_none, counted, AreRights, IsWhole, Shifts, ShiftEach, MayShift};
+ghost use Rattle.advance_retreat.specs.Rights.{parent_of, or_none, counted, AreRights, HasCount, IsWhole, Shifts, ShiftEach, MayShift};
 
 use crate::change::Positions;
-use crate::parents::Parents;
+use crate::rows::Rows;
 use crate::runs::Known;
 use crate::spot::Hold;
 use ew_model::NoMem;
@@ -25,9 +25,9 @@ use std::collections::BTreeMap;
 /// The parents of right children, and how many of a node's right children are inserted in what is prepared.
 #[derive(Drop)]
 pub struct Rights {
-    /// By the positions of the children's events.
-    parents: Parents,
-    /// Each of those parents has a count.
+    /// Both for the nodes of events.
+    rows: Rows,
+    /// How many for the root and for base characters. Each parent of a right child has a row, or a count here.
     counts: BTreeMap<Node, u32>,
 }
 
@@ -38,7 +38,7 @@ impl Rights {
         ensures counts { (v : Nodes) → (counted result).count v ≡ 0 }
     {
         Rights {
-            parents: Parents::new(alloc),
+            rows: Rows::new(alloc),
             counts: BTreeMap::new(alloc),
         }
     }
@@ -47,11 +47,10 @@ impl Rights {
     pub fn has_known(&self, node: Node) -> bool
         ensures { result ≡ nat_lt 0 ((counted self.now).count node) }
     {
-        count_at(&self.counts, node) > 0
+        self.count(node) > 0
     }
 
     /// Notes where a new child hangs. An error for want of memory leaves what is told of it, if anything, as it was.
-    #[tactic(auto, using(crate::proofs::RightKeeping::more_counts, crate::proofs::RightKeeping::parent_put, crate::proofs::RightKeeping::parent_gone, crate::proofs::RightKeeping::same_parents))]
     pub fn note(&mut self, lv: u32, hold: Hold) -> Result<(), NoMem>
         requires { IsWhole self.old }
         ensures whole { IsWhole self.new }
@@ -60,10 +59,10 @@ impl Rights {
         ensures counts { (v : Nodes) → (counted self.new).count v ≡ (counted self.old).count v }
     {
         match hold.side {
-            Side::Left => self.parents.note(lv, None),
+            Side::Left => self.rows.note(lv, None),
             Side::Right => {
-                begin(&mut self.counts, hold.parent)?;
-                self.parents.note(lv, Some(hold.parent))
+                self.begin(hold.parent)?;
+                self.rows.note(lv, Some(hold.parent))
             }
         }
     }
@@ -81,9 +80,9 @@ impl Rights {
         let Some(parent) = self.parent(node) else {
             return;
         };
-        let before = count_at(&self.counts, parent);
+        let before = self.count(parent);
         let count = if is { before + 1 } else { before - 1 };
-        set_count(&mut self.counts, parent, count);
+        self.set_count(parent, count);
     }
 
     /// The nodes of the events at these positions came from the first state to the second.
@@ -105,8 +104,44 @@ impl Rights {
         ensures { result ≡ parent_of (counted self.now) node }
     {
         match node {
-            Node::Event(lv) => self.parents.at(lv),
+            Node::Event(lv) => self.rows.at(lv).parent,
             Node::Root | Node::Base(_) => None,
+        }
+    }
+
+    /// How many right children of a node are inserted.
+    fn count(&self, node: Node) -> u32
+        ensures { result ≡ (counted self.now).count node }
+    {
+        match node {
+            Node::Event(lv) => self.rows.at(lv).inserted,
+            Node::Root | Node::Base(_) => count_at(&self.counts, node),
+        }
+    }
+
+    /// Sees to it that a node has a count.
+    fn begin(&mut self, node: Node) -> Result<(), NoMem>
+        ensures begun { OnOk result (HasCount self.new node) }
+        ensures kept { (v : Nodes) → HasCount self.old v → HasCount self.new v }
+        ensures parents { (n : ℕ) → (counted self.new).parent_at n ≡ (counted self.old).parent_at n }
+        ensures counts { (v : Nodes) → (counted self.new).count v ≡ (counted self.old).count v }
+    {
+        match node {
+            Node::Event(lv) => self.rows.begin(lv),
+            Node::Root | Node::Base(_) => begin(&mut self.counts, node),
+        }
+    }
+
+    /// Gives a node that has a count another.
+    fn set_count(&mut self, node: Node, count: u32)
+        requires { HasCount self.old node }
+        ensures kept { (v : Nodes) → HasCount self.old v → HasCount self.new v }
+        ensures parents { (n : ℕ) → (counted self.new).parent_at n ≡ (counted self.old).parent_at n }
+        ensures counts { (v : Nodes) → (counted self.new).count v ≡ (if is_at (node_cmp node) v then count else (counted self.old).count v) }
+    {
+        match node {
+            Node::Event(lv) => self.rows.set_inserted(lv, count),
+            Node::Root | Node::Base(_) => set_count(&mut self.counts, node, count),
         }
     }
 }
