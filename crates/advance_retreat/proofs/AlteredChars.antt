@@ -117,7 +117,7 @@ total_most count most (p ∷ ps) =
     let own = length-records_of p.1 in
     omega (arith, rest, one, sum, long, own)
 
-long_total : (ps : List (ℕ × Stretch)) → length (chars_in ps) ≡ total (λ (r : Stretch). r.len) ps
+pub long_total : (ps : List (ℕ × Stretch)) → length (chars_in ps) ≡ total (λ (r : Stretch). r.len) ps
 long_total [] = refl
 long_total (p ∷ ps) =
     let rest = long_total ps in
@@ -152,12 +152,15 @@ module _ (ps : List (ℕ × Stretch)) (rising : IsRising ps) (label : ℕ) (was 
       let other = total-cons count (label, now) at.back in
       (omega (arith, before, after, one, other), omega (arith, before, one))
 
-  pub same_long : now.len ≡ was.len → length (chars_in (with_run ps label now)) ≡ length (chars_in ps)
-  same_long len =
+  pub altered_long : length (chars_in (with_run ps label now)) + was.len ≡ length (chars_in ps) + now.len
+  altered_long =
       let sum = (with_total (λ (r : Stretch). r.len)).0 in
       let before = long_total ps in
       let after = long_total (with_run ps label now) in
-      omega (arith, sum, before, after, len)
+      omega (arith, sum, before, after)
+
+  pub same_long : now.len ≡ was.len → length (chars_in (with_run ps label now)) ≡ length (chars_in ps)
+  same_long len = let sum = altered_long in omega (arith, sum, len)
 
   pub recounted : now.len ≡ was.len → Recounted (chars_in ps) (chars_in (with_run ps label now)) (record { before = was; after = now })
   recounted len =

@@ -14,7 +14,7 @@ use Rattle.advance_retreat.proofs.Lists.{count-append}
 use Rattle.advance_retreat.proofs.Moves.{in_one}
 use Rattle.advance_retreat.proofs.Places.{same_steps}
 use Rattle.advance_retreat.proofs.RunChars.{node_on_none}
-use Rattle.advance_retreat.proofs.Standings.{some_same}
+use Rattle.advance_retreat.proofs.Standings.{some_same, none_some}
 
 -- ITS CHARACTERS
 last_in : (n i : ℕ) → map record_of (states_from (Base i) (suc n) 1 true) ≡ map record_of (states_from (Base i) n 1 true) ++ single (Base (i + n)) 1 true ∷ []
@@ -58,22 +58,19 @@ base_counted ps t n laid is few = record {
 }
 
 -- ITS LABEL
-some_none : (n : ℕ) → None ≡ Some n → ⊥
-some_none n e = cc
-
 module _ (t : Labels) (none : (v : Node) → label_of t v ≡ None) where
   pub no_runs : AreLabelled [] t
   no_runs = record {
     known = λ l r h lt. let inside = h.1 in absurd (omega (arith, inside));
-    only = λ v l e. absurd (some_none l (sym (none v) ∙ e));
-    apart = λ v o l n e s. absurd (some_none o (sym (none v) ∙ e));
+    only = λ v l e. absurd (none_some l (sym (none v) ∙ e));
+    apart = λ v o l n e s. absurd (none_some o (sym (none v) ∙ e));
     rooted = λ l r h e. let inside = h.1 in absurd (omega (arith, inside));
   }
 
   module _ (u : Labels) (own : ℕ) (run : Stretch) (some : run.from ≡ Root → ⊥) (long : 0 < run.len) (sets : Sets t u run.from (Some own)) where
     only_by : (v : Node) (l : ℕ) → label_of u v ≡ Some l → (run.from ≡ v) ⊎ (node_eq run.from v ≡ false) → (l ≡ own) × (run.from ≡ v)
     only_by v l e (inl is) = (some_same l own (sym e ∙ ap (label_of u) (sym is) ∙ set_own t u run.from (Some own) sets), is)
-    only_by v l e (inr not) = absurd (some_none l (sym (none v) ∙ sym (set_other t u run.from (Some own) sets v not) ∙ e))
+    only_by v l e (inr not) = absurd (none_some l (sym (none v) ∙ sym (set_other t u run.from (Some own) sets v not) ∙ e))
 
     pub one_run : AreLabelled ((own, run) ∷ []) u
     one_run = record {

@@ -53,7 +53,7 @@ is_false : (b : Bool) → (b ≡ true → ⊥) → b ≡ false
 is_false true h = absurd (h refl)
 is_false false h = refl
 
-none_in : (n : ℕ) (w v : Node) (p : ℕ) (e : Bool) → ((k : ℕ) → k < n → node_on w k ≡ v → ⊥) → list_any (is_of v) (map record_of (states_from w n p e)) ≡ false
+pub none_in : (n : ℕ) (w v : Node) (p : ℕ) (e : Bool) → ((k : ℕ) → k < n → node_on w k ≡ v → ⊥) → list_any (is_of v) (map record_of (states_from w n p e)) ≡ false
 none_in zero w v p e none = refl
 none_in (suc n) w v p e none =
     or_none (node_eq w v) (list_any (is_of v) (map record_of (states_from (node_on w 1) n p e)))

@@ -16,14 +16,15 @@ use Rattle.advance_retreat.proofs.RunChars.{node_on_none}
 use Rattle.advance_retreat.proofs.Standings.{some_same}
 use Rattle.advance_retreat.proofs.ChangedAt.{changed_each, changed_kept, changed_come}
 
-unlike : (v w : Node) → (v ≡ w → ⊥) → node_eq v w ≡ false
+-- other nodes than one, and whether one is another
+pub unlike : (v w : Node) → (v ≡ w → ⊥) → node_eq v w ≡ false
 unlike v w other = by (alike v w)
   where
     by : (v ≡ w) ⊎ (node_eq v w ≡ false) → node_eq v w ≡ false
     by (inl e) = absurd (other e)
     by (inr e) = e
 
-decide : (v w : Node) → (v ≡ w) ⊎ (v ≡ w → ⊥)
+pub decide : (v w : Node) → (v ≡ w) ⊎ (v ≡ w → ⊥)
 decide v w = by (alike v w)
   where
     by : (v ≡ w) ⊎ (node_eq v w ≡ false) → (v ≡ w) ⊎ (v ≡ w → ⊥)

@@ -9,7 +9,6 @@ use Rattle.walker_record.specs.Stretches.{Stretch}
 use Rattle.fugue_place.specs.Attachments.{node_eq}
 use Rattle.fugue_place.proofs.NodeLaws.{node_same, node_itself}
 use Rattle.advance_retreat.specs.declared.change.Change.{Change}
-use Rattle.advance_retreat.specs.declared.change.Change.TheVariants.{Raise, Lower, Strike}
 use Rattle.advance_retreat.specs.Kept.{is_of, is_inserted, knows, single, changed, changed_at}
 use Rattle.fugue_place.specs.declared.neighbour.Place.{Place}
 use Rattle.advance_retreat.specs.Spots.{Comes}

@@ -23,6 +23,7 @@ pub mod ExchangedChars
 pub mod FewCalls
 pub mod FewRuns
 pub mod Found
+pub mod GivenEnds
 pub mod Hanging
 pub mod Holding
 pub mod InsertedPairs
@@ -35,6 +36,7 @@ pub mod KnownRuns
 pub mod Lasts
 pub mod Lists
 pub mod LooseCuts
+pub mod LooseEnds
 pub mod LooseEntries
 pub mod LooseEvents
 pub mod LooseRuns
@@ -59,8 +61,12 @@ pub mod RightSpans
 pub mod Room
 pub mod RunChars
 pub mod RunsAt
+pub mod SameTrees
+pub mod ShiftedEnds
 pub mod SpanMoves
 pub mod Splits
 pub mod Standings
+pub mod StruckEnds
 pub mod TreeMoves
+pub mod Typing
 pub mod VisiblePlaces

@@ -55,7 +55,7 @@ module _ (among : Node → Bool) where
 
   -- a run that is cut
   module _ (run : Stretch) (n : ℕ) (some : 0 < n) (inside : n < run.len) where
-    begins_first : begins_in among (first_part run n) ≡ begins_in among run
+    pub begins_first : begins_in among (first_part run n) ≡ begins_in among run
     begins_first =
         let one : nat_lt 0 n ≡ true = lt-ltb 0 n some in
         let two : nat_lt 0 run.len ≡ true = lt-ltb 0 run.len (omega (arith, inside)) in

@@ -23,18 +23,21 @@ module _ {R : Type 0} where
           let rest = at qs k (omega (arith, lt)) e in
           (q ∷ rest.0, rest.1, ap (λ (ys : List (ℕ × R)). q ∷ ys) rest.2)
 
-  pub parted : (ps : List (ℕ × R)) (label : ℕ) (run : R) → IsRising ps → Contains ps (label, run) → Parted ps label run
-  parted ps label run rising held =
-      let parts = parts_of ps (label, run) held in
+  -- where the parts are known
+  abbrev parted_by : (ps front back : List (ℕ × R)) (label : ℕ) (run : R) → IsRising ps → ps ≡ front ++ (label, run) ∷ back → Parted ps label run
+  parted_by ps front back label run rising is =
       let one : List (ℕ × R) = (label, run) ∷ [] in
-      let rises : IsRising (parts.0 ++ (one ++ parts.1)) = subst (λ (qs : List (ℕ × R)). IsRising qs) parts.2 rising in
+      let rises : IsRising (front ++ (one ++ back)) = subst (λ (qs : List (ℕ × R)). IsRising qs) is rising in
       record {
-        front = parts.0;
-        back = parts.1;
-        is = parts.2;
-        below = held_below parts.0 one parts.1 label run rises (0, omega arith, refl);
-        above = held_above parts.0 one parts.1 label run rises (0, omega arith, refl);
+        front = front;
+        back = back;
+        is = is;
+        below = held_below front one back label run rises (0, omega arith, refl);
+        above = held_above front one back label run rises (0, omega arith, refl);
       }
+
+  pub parted : (ps : List (ℕ × R)) (label : ℕ) (run : R) → IsRising ps → Contains ps (label, run) → Parted ps label run
+  parted ps label run rising held = let parts = parts_of ps (label, run) held in parted_by ps parts.0 parts.1 label run rising parts.2
 
   -- one run stands at a label
   pub same_run : (ps : List (ℕ × R)) (label : ℕ) (r q : R) → IsRising ps → Contains ps (label, r) → Contains ps (label, q) → r ≡ q
@@ -53,3 +56,6 @@ module _ {R : Type 0} where
       let one : List (ℕ × R) = (label, run) ∷ [] in
       let none : lower one label ≡ [] = lower_none label one (All-cons (λ x. label ≤ x.0) (label, run) [] (omega arith) (All-nil (λ x. label ≤ x.0))) in
       ap (λ (qs : List (ℕ × R)). lower qs label) p.is ∙ lower_around p.front one p.back label p.below p.above ∙ ap (λ (qs : List (ℕ × R)). p.front ++ qs) none ∙ append-nil p.front
+
+  pub lower_of : (ps front back : List (ℕ × R)) (label : ℕ) (run : R) → IsRising ps → ps ≡ front ++ (label, run) ∷ back → lower ps label ≡ front
+  lower_of ps front back label run rising is = lower_is ps label run (parted_by ps front back label run rising is)

@@ -80,7 +80,7 @@ module _ (G : Ghosts Stretch) (chars : (s : Stretch) → G.chars s ≡ chars_of 
   at : Parted ps label run
   at = parted ps label run rising s.held
 
-  parts : qs ≡ lower ps label ++ (label, first_part run n) ∷ (own, second_part run n) ∷ greater ps label
+  pub parts : qs ≡ lower ps label ++ (label, first_part run n) ∷ (own, second_part run n) ∷ greater ps label
   parts =
       cut.pairs ∙ ap (λ (f : Stretch). lower ps label ++ (label, f) ∷ (own, cut.second) ∷ greater ps label) first_is
       ∙ ap (λ (f : Stretch). lower ps label ++ (label, first_part run n) ∷ (own, f) ∷ greater ps label) second_is

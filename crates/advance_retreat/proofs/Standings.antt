@@ -36,6 +36,9 @@ between (Event i) (Event j) n below above =
 pub some_same : (m n : ℕ) → Some m ≡ Some n → m ≡ n
 some_same m n e = cc
 
+pub none_some : (n : ℕ) → None ≡ Some n → ⊥
+none_some n e = cc
+
 pub is_some_by : (o : ℕ) → IsSome (Some o)
 is_some_by o = search rules
 
@@ -66,10 +69,7 @@ module _ (ps : List (ℕ × Stretch)) (t : Labels) (laid : AreLabelled ps t) whe
       let first = laid.known own s.run s.held (omega (arith, s.inside)) in
       let some : s.run.from ≡ Root → ⊥ = laid.rooted own s.run s.held in
       let reach : is_up_to s.run.from v ≡ true = subst (λ (w : Node). is_up_to s.run.from w ≡ true) s.node (up_to_on s.run.from n some) in
-      not_some own (sym (none s.run.from reach) ∙ first)
-    where
-      not_some : (n : ℕ) → None ≡ Some n → ⊥
-      not_some n e = cc
+      none_some own (sym (none s.run.from reach) ∙ first)
 
 pub if_none : {A : Type 0} (o : Option A) (P : Type 0) → P → IfNone o P
 if_none None P h = h

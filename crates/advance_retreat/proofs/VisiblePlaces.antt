@@ -1,5 +1,5 @@
 -- The visible character with an index, in a list of runs.
-use Rattle.std.proofs.Common.{◌≡◌, ℕ, suc, ◌+◌, ◌<◌, Bool, true, false, cond, List, [], ◌∷◌, ◌++◌, Contains, map, filter, length, take, drop, Some, slice_get, nat_eq, inr, refl, sym, ap, ◌∙◌, arith}
+use Rattle.std.proofs.Common.{◌≡◌, ℕ, suc, ◌+◌, ◌<◌, ◌≤◌, Bool, true, false, cond, List, [], ◌∷◌, ◌++◌, Contains, map, filter, length, take, drop, Some, slice_get, nat_eq, inr, refl, sym, ap, ◌∙◌, arith}
 use Rattle.std.proofs.lemmas.Bool.{eqb-true}
 use Rattle.std.proofs.lemmas.List.{length-append}
 use Rattle.std.proofs.lemmas.List.Elements.{filter-append}
@@ -93,16 +93,21 @@ module _ (ps : List (ℕ × Stretch)) (at label place : ℕ) (rising : IsRising 
       ∙ (λ i. shown-chars parts.front i + counted_in (λ (r : Stretch). r.effect) is.run.effect is.run.prepared is.run.effect (λ v. refl) place is.run.from i)
       ∙ ap (λ (qs : List (ℕ × Stretch)). total effect_of qs + cond is.run.effect place 0) (sym (lower_is ps label is.run parts))
 
+-- a run and those before it count no more than all
+pub run_below : (count : Stretch → ℕ) (ps : List (ℕ × Stretch)) (label : ℕ) (run : Stretch) → IsRising ps → Contains ps (label, run) → total count (lower ps label) + count run ≤ total count ps
+run_below count ps label run rising held =
+    let p = parted ps label run rising held in
+    let all = ap (total count) p.is ∙ total-append count p.front (((label, run) ∷ []) ++ p.back) ∙ ap (λ (k : ℕ). total count p.front + k) (total-cons count (label, run) p.back) in
+    let low = ap (total count) (lower_is ps label run p) in
+    omega (arith, all, low)
+
 -- so many of the text stand before a character of it
 pub shown_below : (ps : List (ℕ × Stretch)) (label n : ℕ) (run : Stretch) → IsRising ps → Contains ps (label, run) → run.effect ≡ true → n < run.len
     → total effect_of (lower ps label) + n < total effect_of ps
 shown_below ps label n run rising held shown lt =
-    let p = parted ps label run rising held in
-    let all =
-    ap (total effect_of) p.is ∙ total-append effect_of p.front (((label, run) ∷ []) ++ p.back) ∙ ap (λ (k : ℕ). total effect_of p.front + k) (total-cons effect_of (label, run) p.back) in
+    let most = run_below effect_of ps label run rising held in
     let own : effect_of run ≡ run.len = ap (λ (b : Bool). cond b run.len 0) shown in
-    let low = ap (total effect_of) (lower_is ps label run p) in
-    omega (arith, all, own, low, lt)
+    omega (arith, most, own, lt)
 
 -- what a deletion of it does
 pub deletion_is : (b : Bool) (n place : ℕ) → deletion_by b (n + place) ≡ deletion_by b (n + cond b place 0)

@@ -1,4 +1,5 @@
 pub mod Conditions
+pub mod Cursors
 pub mod Entering
 pub mod Kept
 pub mod Labelled

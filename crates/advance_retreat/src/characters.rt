@@ -1,13 +1,17 @@
 //! The characters that a state keeps, in order.
 
-ghost use Rattle.std.specs.Prelude.{◌≡◌, ℕ, ◌+◌, ◌*◌, ◌<◌, ◌≤◌, ◌^◌, Bool, List, true, false, ◌∷◌, [], ◌++◌, length, map, IfSome, IfNone, IfOk, OnOk, OnErr};
+ghost use Rattle.std.specs.Prelude.{◌≡◌, ℕ, ◌+◌, ◌*◌, ◌<◌, ◌≤◌, ◌^◌, Bool, List, true, false, ◌∷◌, [], ◌++◌, length, map, Contains, IfSome, IfNone, IfOk, OnOk, OnErr, Some};
 ghost use Rattle.std.specs.List.{AllByRecursion, list_any};
 ghost use Rattle.ew_model.specs.declared.node.Node.{Node as Nodes};
 ghost use Rattle.ew_model.specs.declared.node.Node.TheVariants as nodes;
+ghost use Rattle.fugue_place.specs.declared.neighbour.Place.TheVariants as places;
+ghost use Rattle.walker_record.specs.Stretches.{Stretch, is_continued, prepared_of, effect_of};
 ghost use Rattle.fugue_place.specs.Attachments.{is_attached, is_there, has_id};
+ghost use Rattle.order_tree.specs.Pairs.{IsPlace, lower, total};
 ghost use Rattle.advance_retreat.specs.declared.target.Target.{Target};
+ghost use Rattle.advance_retreat.specs.Cursors.{MayBeCursor, last_of};
 ghost use Rattle.advance_retreat.specs.Kept.{is_of, knows, visible_in, shown_in, base_records, changed_at, HasRoom};
-ghost use Rattle.advance_retreat.specs.Entering.{attached_by, IsNewChild};
+ghost use Rattle.advance_retreat.specs.Entering.{attached_by, run_of, IsNewChild};
 ghost use Rattle.advance_retreat.specs.Laid.{records_in};
 ghost use Rattle.advance_retreat.specs.Loose.{loose_in, is_told};
 ghost use Rattle.advance_retreat.specs.Replacing.{ArePart, changed_in};
@@ -15,8 +19,9 @@ ghost use Rattle.advance_retreat.specs.Rights.{counted};
 ghost use Rattle.advance_retreat.specs.Spots.{has_counted_right, IsHold, IsDeletion, Comes};
 
 use crate::change::{Change, Positions};
+use crate::cursor::Cursor;
 use crate::rights::Rights;
-use crate::runs::{Child, Known, Runs};
+use crate::runs::{Child, Found, Known, Runs};
 use crate::spot::{Hold, has_known_right};
 use ew_model::NoMem;
 use ew_model::id::Id;
@@ -34,16 +39,18 @@ pub struct Characters {
     runs: Runs,
     visible: u32,
     shown: u32,
+    cursor: Option<Cursor>,
 }
 
 impl Model for Characters {
-    ghost use Rattle.advance_retreat.specs.Laid.{InRuns, in_runs, AreCounted};
+    ghost use Rattle.advance_retreat.specs.Cursors.{AreKept};
+    ghost use Rattle.advance_retreat.specs.Laid.{InRuns, in_runs};
 
     ghost Value = { InRuns };
 
     ghost view = { λ s. in_runs s.runs.tree.pairs };
 
-    ghost invariant = { λ s. AreCounted s.runs.tree.pairs s.runs.labels s.visible s.shown };
+    ghost invariant = { λ s. AreKept s.runs.tree.pairs s.runs.labels s.visible s.shown s.cursor };
 }
 
 /// The deletion of a character, and what that does to the text.
@@ -88,9 +95,10 @@ impl Characters {
 
     /// What a new character hangs on at an index of what is prepared, by the right children of nodes and the number of base
     /// characters. None where the index is past the end.
-    pub fn hold_at(&self, base: u32, rights: &Rights, at: u32) -> Option<Hold>
-        ensures some { IfSome result (IsHold (has_counted_right base (counted rights.now)) self.now.records at) }
-        ensures none { IfNone result (visible_in self.now.records < at) }
+    pub fn hold_at(&mut self, base: u32, rights: &Rights, at: u32) -> Option<Hold>
+        ensures some { IfSome result (IsHold (has_counted_right base (counted rights.now)) self.old.records at) }
+        ensures none { IfNone result (visible_in self.old.records < at) }
+        ensures same { self.new ≡ self.old }
     {
         if at > self.visible {
             None
@@ -102,9 +110,10 @@ impl Characters {
     }
 
     /// The deletion of the character at an index of what is prepared. None where no character is there.
-    pub fn deletion_at(&self, at: u32) -> Option<Deletion>
-        ensures some { IfSome result (IsDeletion self.now.records at) }
-        ensures none { IfNone result (visible_in self.now.records ≤ at) }
+    pub fn deletion_at(&mut self, at: u32) -> Option<Deletion>
+        ensures some { IfSome result (IsDeletion self.old.records at) }
+        ensures none { IfNone result (visible_in self.old.records ≤ at) }
+        ensures same { self.new ≡ self.old }
     {
         if at < self.visible {
             Some(self.deletion_by::<Brand>(at, Blank::new(1)))
@@ -185,6 +194,7 @@ fn base_by<L: Ledger>(alloc: Global, len: u32, blank: Blank) -> Result<Character
         runs: Runs::base(alloc, len, &mut visits)?,
         visible: len,
         shown: len,
+        cursor: None,
     })
 }
 
@@ -203,16 +213,17 @@ impl Characters {
         Hold::behind(Node::Root, self.runs.first_known(0, &mut visits))
     }
 
-    fn hold_behind<L: Ledger>(&self, base: u32, rights: &Rights, at: u32, blank: Blank) -> Hold
+    fn hold_behind<L: Ledger>(&mut self, base: u32, rights: &Rights, at: u32, blank: Blank) -> Hold
         requires name { blank.name ≡ L.name }
         requires parts { blank.parts ≡ L.parts }
         requires some { 0 < blank.parts }
-        requires within { at < visible_in self.now.records }
-        ensures { IsHold (has_counted_right base (counted rights.now)) self.now.records (at + 1) result }
+        requires within { at < visible_in self.old.records }
+        ensures hold { IsHold (has_counted_right base (counted rights.now)) self.old.records (at + 1) result }
+        ensures same { self.new ≡ self.old }
     {
         let mut visits: Steps<L> = Steps::new(blank);
         let _runs = self.runs.count();
-        let found = self.runs.visible_at(at, &mut visits);
+        let found = find(&self.runs, &mut self.cursor, at, &mut visits);
         let left = found.node();
         if !has_known_right(base, rights, left) {
             return Hold::right_of(left);
@@ -220,16 +231,17 @@ impl Characters {
         Hold::behind(left, self.runs.known_behind(&found, &mut visits))
     }
 
-    fn deletion_by<L: Ledger>(&self, at: u32, blank: Blank) -> Deletion
+    fn deletion_by<L: Ledger>(&mut self, at: u32, blank: Blank) -> Deletion
         requires name { blank.name ≡ L.name }
         requires parts { blank.parts ≡ L.parts }
         requires some { 0 < blank.parts }
-        requires within { at < visible_in self.now.records }
-        ensures { IsDeletion self.now.records at result }
+        requires within { at < visible_in self.old.records }
+        ensures deletion { IsDeletion self.old.records at result }
+        ensures same { self.new ≡ self.old }
     {
         let mut visits: Steps<L> = Steps::new(blank);
         let _runs = self.runs.count();
-        let found = self.runs.visible_at(at, &mut visits);
+        let found = find(&self.runs, &mut self.cursor, at, &mut visits);
         Deletion {
             node: found.node(),
             op: self.runs.deletion(&found),
@@ -254,7 +266,65 @@ impl Characters {
         ensures told { (among : Nodes → Bool) → among node ≡ true → loose_in among self.new.runs ≤ loose_in among self.old.runs }
     {
         let mut visits: Steps<L> = Steps::new(blank);
-        let Some(altered) = self.runs.change(node, change, &mut visits)? else {
+        match self.delete_last(node, change, &mut visits)? {
+            Some(known) => Ok(known),
+            None => self.change_found(node, change, &mut visits),
+        }
+    }
+
+    /// Deletes a character, where the change is that and it is the last of the cursor's run, which has others. Else nothing has
+    /// changed.
+    fn delete_last<L: Ledger>(
+        &mut self,
+        node: Node,
+        change: Change,
+        visits: &mut Steps<L>,
+    ) -> Result<Option<Known>, NoMem>
+        ensures some { IfOk result (λ o. IfSome o (λ _. self.new.records ≡ map (changed_at node change) self.old.records)) }
+        ensures was { IfOk result (λ o. IfSome o (λ k. k.was ≡ knows self.old.records node)) }
+        ensures is { IfOk result (λ o. IfSome o (λ k. k.is ≡ knows self.new.records node)) }
+        ensures none { IfOk result (λ o. IfNone o (self.new ≡ self.old)) }
+        ensures err { OnErr result (self.new ≡ self.old) }
+        ensures loose { (among : Nodes → Bool) → loose_in among self.new.runs ≤ loose_in among self.old.runs + 2 }
+        ensures told { (among : Nodes → Bool) → among node ≡ true → loose_in among self.new.runs ≤ loose_in among self.old.runs }
+    {
+        let Some(cursor) = self.cursor else {
+            return Ok(None);
+        };
+        if !cursor.gives_up(node, change) {
+            return Ok(None);
+        }
+        let _runs = self.runs.count();
+        let Some(struck) = self.runs.delete_last(&cursor, visits)? else {
+            return Ok(None);
+        };
+        let _runs = self.runs.count();
+        self.visible -= 1;
+        self.shown -= 1;
+        self.cursor = Some(cursor.deleted(struck));
+        Ok(Some(Known {
+            was: true,
+            is: true,
+        }))
+    }
+
+    /// Changes the states of a character, which is searched for. There is no cursor after it.
+    fn change_found<L: Ledger>(
+        &mut self,
+        node: Node,
+        change: Change,
+        visits: &mut Steps<L>,
+    ) -> Result<Known, NoMem>
+        requires { AllByRecursion HasRoom self.old.records }
+        ensures ok { OnOk result (self.new.records ≡ map (changed_at node change) self.old.records) }
+        ensures was { IfOk result (λ k. k.was ≡ knows self.old.records node) }
+        ensures is { IfOk result (λ k. k.is ≡ knows self.new.records node) }
+        ensures err { OnErr result (self.new.records ≡ self.old.records) }
+        ensures loose { (among : Nodes → Bool) → loose_in among self.new.runs ≤ loose_in among self.old.runs + 2 }
+        ensures told { (among : Nodes → Bool) → among node ≡ true → loose_in among self.new.runs ≤ loose_in among self.old.runs }
+    {
+        self.cursor = None;
+        let Some(altered) = self.runs.change(node, change, visits)? else {
             return Ok(Known {
                 was: false,
                 is: false,
@@ -285,6 +355,7 @@ impl Characters {
         ensures loose { (among : Nodes → Bool) → loose_in among self.new.runs ≡ loose_in among self.old.runs }
     {
         let mut visits: Steps<L> = Steps::new(blank);
+        self.cursor = None;
         let recast = self.runs.change_run(lv, within, change, &mut visits)?;
         self.visible = recast.altered.visible(self.visible);
         self.shown = recast.altered.shown(self.shown);
@@ -310,9 +381,75 @@ impl Characters {
         ensures loose { OnErr result ((among : Nodes → Bool) → loose_in among self.new.runs ≤ loose_in among self.old.runs + 2) }
     {
         let mut visits: Steps<L> = Steps::new(blank);
-        let at = self.runs.insert(siblings, child, place, &mut visits)?;
+        let _runs = self.runs.count();
+        let at = match cursor_for(&self.cursor, child, place) {
+            Some(cursor) => {
+                let at = self
+                    .runs
+                    .type_behind(&cursor, siblings, child, &mut visits)?;
+                self.cursor = Some(cursor.typed(child));
+                at
+            }
+            None => {
+                self.cursor = None;
+                self.runs.insert(siblings, child, place, &mut visits)?
+            }
+        };
         self.visible += 1;
         self.shown += 1;
         Ok(at)
+    }
+}
+
+/// The visible character with this index: the cursor's, or else one that is searched for, and the cursor comes to it where it is
+/// the last of its run.
+fn find<L: Ledger>(
+    runs: &Runs,
+    cursor: &mut Option<Cursor>,
+    at: u32,
+    visits: &mut Steps<L>,
+) -> Found
+    requires within { at < total prepared_of runs.now.tree.pairs }
+    requires few { at + 1 < 2 ^ 32 }
+    requires cursor { MayBeCursor runs.now.tree.pairs cursor.old }
+    ensures cursor { MayBeCursor runs.now.tree.pairs cursor.new }
+    ensures place { IsPlace prepared_of runs.now.tree.pairs at result.spot.label result.spot.offset }
+    ensures held { Contains runs.now.tree.pairs (result.spot.label, result.run) }
+    ensures inside { result.spot.offset < result.run.len }
+    ensures before { result.before ≡ total effect_of (lower runs.now.tree.pairs result.spot.label) }
+{
+    if let Some(found) = at_cursor(cursor, at) {
+        return found;
+    }
+    let found = runs.visible_at(at, visits);
+    *cursor = Cursor::behind(&found, at);
+    found
+}
+
+/// The visible character with this index, where the cursor is right behind it.
+fn at_cursor(cursor: &Option<Cursor>, at: u32) -> Option<Found>
+    requires few { at + 1 < 2 ^ 32 }
+    // among whichever runs the cursor is
+    ensures place { IfSome result (λ f. (ps : List (ℕ × Stretch)) → MayBeCursor ps cursor.now → IsPlace prepared_of ps at f.spot.label f.spot.offset) }
+    ensures held { IfSome result (λ f. (ps : List (ℕ × Stretch)) → MayBeCursor ps cursor.now → Contains ps (f.spot.label, f.run)) }
+    ensures inside { IfSome result (λ f. f.spot.offset < f.run.len) }
+    ensures before { IfSome result (λ f. (ps : List (ℕ × Stretch)) → MayBeCursor ps cursor.now → f.before ≡ total effect_of (lower ps f.spot.label)) }
+{
+    match cursor {
+        Some(cursor) if cursor.index == at + 1 && cursor.run.len > 0 => Some(cursor.last()),
+        _ => None,
+    }
+}
+
+/// The cursor, where a new child's character goes on with its run.
+fn cursor_for(cursor: &Option<Cursor>, child: &Child, place: Place) -> Option<Cursor>
+    requires { IfSome cursor.now (λ c. 0 < c.run.len) }
+    ensures is { IfSome result (λ c. cursor.now ≡ Some c) }
+    ensures place { IfSome result (λ c. place ≡ places.After (last_of c.run)) }
+    ensures goes_on { IfSome result (λ c. is_continued c.run (run_of child.now 1) ≡ true) }
+{
+    match cursor {
+        Some(cursor) if cursor.takes(child, place) => Some(*cursor),
+        _ => None,
     }
 }

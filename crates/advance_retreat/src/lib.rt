@@ -4,6 +4,7 @@
 
 mod change;
 mod characters;
+mod cursor;
 mod fault;
 mod labels;
 mod offsets;

@@ -15,6 +15,7 @@ mod inserting;
 mod parting;
 mod reading;
 mod relabelling;
+mod striking;
 
 use crate::labels::Labels;
 use crate::offsets::node_at;

@@ -84,17 +84,19 @@ impl Tree {
 
     /// What a new character hangs on at an index of what is prepared, over a base of so many characters. None where the index is
     /// past the end.
-    pub fn hold_at(&self, base: u32, at: u32) -> Option<Hold>
-        ensures some { IfSome result (IsHold (has_known_right base self.now.records self.now.attached) self.now.records at) }
-        ensures none { IfNone result (visible_in self.now.records < at) }
+    pub fn hold_at(&mut self, base: u32, at: u32) -> Option<Hold>
+        ensures some { IfSome result (IsHold (has_known_right base self.old.records self.old.attached) self.old.records at) }
+        ensures none { IfNone result (visible_in self.old.records < at) }
+        ensures same { self.new ≡ self.old }
     {
         self.characters.hold_at(base, &self.rights, at)
     }
 
     /// The deletion of the character at an index of what is prepared. None where no character is there.
-    pub fn deletion_at(&self, at: u32) -> Option<Deletion>
-        ensures some { IfSome result (IsDeletion self.now.records at) }
-        ensures none { IfNone result (visible_in self.now.records ≤ at) }
+    pub fn deletion_at(&mut self, at: u32) -> Option<Deletion>
+        ensures some { IfSome result (IsDeletion self.old.records at) }
+        ensures none { IfNone result (visible_in self.old.records ≤ at) }
+        ensures same { self.new ≡ self.old }
     {
         self.characters.deletion_at(at)
     }

@@ -3,14 +3,16 @@
 ghost use Rattle.std.specs.Prelude.{◌≡◌, ◌+◌, ◌<◌, ◌≤◌, Bool, true, [], ◌∷◌, ◌++◌, IfOk, IfSome, OnOk, OnErr, length, Contains};
 ghost use Rattle.ew_model.specs.declared.node.Node.{Node as Nodes};
 ghost use Rattle.ew_model.specs.declared.node.Node.TheVariants as nodes;
-ghost use Rattle.walker_record.specs.Stretches.{Stretch, effect_of, is_continued};
+ghost use Rattle.walker_record.specs.Stretches.{Stretch, effect_of, is_continued, joined_of};
 ghost use Rattle.fugue_place.specs.declared.neighbour.Place.TheVariants as place;
-ghost use Rattle.order_tree.specs.Pairs.{HasRoom, total, lower, up_to, runs};
+ghost use Rattle.order_tree.specs.Pairs.{HasRoom, changed, total, lower, up_to, runs};
+ghost use Rattle.advance_retreat.specs.Cursors.{IsCursor, last_of};
 ghost use Rattle.advance_retreat.specs.Entering.{run_of, attached_by, IsNewChild, EntersAt};
 ghost use Rattle.advance_retreat.specs.Laid.{Stands, AreLabelled, chars_in};
 ghost use Rattle.advance_retreat.specs.Loose.{loose_in, loose_parted};
 ghost use Rattle.advance_retreat.specs.Spots.{Comes};
 
+use crate::cursor::Cursor;
 use crate::runs::{Child, Found, Runs, Spot};
 use ew_model::NoMem;
 use ew_model::node::Node;
@@ -75,11 +77,11 @@ impl Runs {
         requires goes_on { is_continued front.now (run_of child.now 1) ≡ true }
         ensures laid { AreLabelled self.new.tree.pairs self.new.labels }
         ensures enters { IfOk result (EntersAt (chars_in self.old.tree.pairs) (chars_in self.new.tree.pairs) child.now (length (chars_in (up_to self.old.tree.pairs label)))) }
+        ensures pairs { OnOk result (self.new.tree.pairs ≡ changed self.old.tree.pairs label (joined_of front.now (run_of child.now 1))) }
         ensures attached { OnOk result (siblings.new ≡ siblings.old ++ attached_by child.now ∷ []) }
-        ensures err { OnErr result (chars_in self.new.tree.pairs ≡ chars_in self.old.tree.pairs) }
+        ensures err { OnErr result (self.new.tree ≡ self.old.tree) }
         ensures detached { OnErr result (siblings.new ≡ siblings.old) }
         ensures told { OnOk result ((among : Nodes → Bool) → among (nodes.Event child.now.lv) ≡ true → loose_in among (runs self.new.tree.pairs) ≤ loose_parted among (runs self.old.tree.pairs) (length (up_to self.old.tree.pairs label))) }
-        ensures loose { OnErr result ((among : Nodes → Bool) → loose_in among (runs self.new.tree.pairs) ≤ loose_in among (runs self.old.tree.pairs) + 1) }
     {
         child.attach(siblings)?;
         let _runs = self.tree.runs();
@@ -113,6 +115,38 @@ impl Runs {
         } else {
             None
         }
+    }
+
+    /// Puts a new child's character behind the last one of a cursor's run, which it goes on. Answers its index in the text. After
+    /// an error for want of memory nothing has changed.
+    pub fn type_behind<L: Ledger>(
+        &mut self,
+        cursor: &Cursor,
+        siblings: &mut Siblings,
+        child: &Child,
+        visits: &mut Steps<L>,
+    ) -> Result<u32, NoMem>
+        requires laid { AreLabelled self.old.tree.pairs self.old.labels }
+        requires new { IsNewChild (chars_in self.old.tree.pairs) siblings.old child.now }
+        requires at { IsCursor self.old.tree.pairs cursor.now }
+        requires goes_on { is_continued cursor.now.run (run_of child.now 1) ≡ true }
+        ensures laid { AreLabelled self.new.tree.pairs self.new.labels }
+        ensures pairs { OnOk result (self.new.tree.pairs ≡ changed self.old.tree.pairs cursor.now.label (joined_of cursor.now.run (run_of child.now 1))) }
+        ensures comes { IfOk result (Comes (chars_in self.old.tree.pairs) (chars_in self.new.tree.pairs) (place.After (last_of cursor.now.run)) child.now.lv) }
+        ensures attached { OnOk result (siblings.new ≡ siblings.old ++ attached_by child.now ∷ []) }
+        ensures err { OnErr result (self.new.tree ≡ self.old.tree) }
+        ensures detached { OnErr result (siblings.new ≡ siblings.old) }
+        ensures told { OnOk result ((among : Nodes → Bool) → among (nodes.Event child.now.lv) ≡ true → loose_in among (runs self.new.tree.pairs) ≤ loose_in among (runs self.old.tree.pairs)) }
+    {
+        let _runs = self.tree.runs();
+        self.lengthen(
+            cursor.label,
+            &cursor.run,
+            cursor.before,
+            siblings,
+            child,
+            visits,
+        )
     }
 
     /// Puts a new child's character right behind that of a node, or before all where it has none, as a run of its own. Answers

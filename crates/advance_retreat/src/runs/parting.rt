@@ -1,9 +1,9 @@
 //! Runs that are cut.
 
-ghost use Rattle.std.specs.Prelude.{◌≡◌, ◌<◌, ◌+◌, ℕ, List, OnOk, length};
+ghost use Rattle.std.specs.Prelude.{◌≡◌, ◌<◌, ◌+◌, ℕ, List, ◌++◌, ◌∷◌, IfOk, OnOk, OnErr, length, Contains};
 ghost use Rattle.ew_model.specs.declared.node.Node.{Node as Nodes};
-ghost use Rattle.walker_record.specs.Stretches.{Stretch, node_on};
-ghost use Rattle.order_tree.specs.Pairs.{HasRoom, runs};
+ghost use Rattle.walker_record.specs.Stretches.{Stretch, node_on, first_part, second_part};
+ghost use Rattle.order_tree.specs.Pairs.{HasRoom, runs, lower, greater};
 ghost use Rattle.advance_retreat.specs.Laid.{Stands, AreLabelled, chars_in, BeginsRun, EndsRun};
 ghost use Rattle.advance_retreat.specs.Loose.{MayBeCut};
 
@@ -15,13 +15,14 @@ use ew_model::steps::Steps;
 use std::sync::ledger::Ledger;
 
 impl Runs {
-    /// Cuts the run of a spot, behind which a label is free, right before its character, a node's.
-    fn split<L: Ledger>(
+    /// Cuts the run of a spot, behind which a label is free, right before its character, a node's. Answers the label of the
+    /// second part. After an error for want of memory the runs are the same.
+    pub fn split<L: Ledger>(
         &mut self,
         spot: Spot,
         node: Node,
         visits: &mut Steps<L>,
-    ) -> Result<(), NoMem>
+    ) -> Result<u64, NoMem>
         requires laid { AreLabelled self.old.tree.pairs self.old.labels }
         requires stands { Stands self.old.tree.pairs spot.label spot.offset node }
         requires inside { 0 < spot.offset }
@@ -32,13 +33,15 @@ impl Runs {
         ensures first { OnOk result (BeginsRun self.new.tree.pairs node) }
         ensures begun { (v : Nodes) → BeginsRun self.old.tree.pairs v → BeginsRun self.new.tree.pairs v }
         ensures cut { MayBeCut (runs self.old.tree.pairs) (runs self.new.tree.pairs) node }
+        ensures parts { IfOk result (λ own. (run : Stretch) → Contains self.old.tree.pairs (spot.label, run) → self.new.tree.pairs ≡ lower self.old.tree.pairs spot.label ++ (spot.label, first_part run spot.offset) ∷ (own, second_part run spot.offset) ∷ greater self.old.tree.pairs spot.label) }
+        ensures err { OnErr result (self.new.tree ≡ self.old.tree) }
     {
         let _runs = self.tree.runs();
         self.labels.insert(node, spot.label)?;
         match self.tree.split(spot.label, spot.offset, visits) {
             Ok(own) => {
                 self.labels.set(node, own);
-                Ok(())
+                Ok(own)
             }
             Err(e) => {
                 self.labels.remove(node);
@@ -60,7 +63,8 @@ impl Runs {
         let Some(spot) = self.make_room(node, visits)? else {
             unreachable!()
         };
-        self.split(spot, node, visits)
+        self.split(spot, node, visits)?;
+        Ok(())
     }
 
     /// Cuts the run of a node right before its character, where it has one. After an error for want of memory the characters

@@ -9,30 +9,33 @@ use Rattle.advance_retreat.proofs.characters.Characters.change_run_by.Goals as g
 pub visible-self-inside-requires-clause-some : goal.visible-self-inside-requires-clause-some
 visible-self-inside-requires-clause-some g c =
     let most = c.in_ok-recast.ensures.recounted.visible_there in
-    let so = c.self.invariant.visible_is in
+    let so = c.self.invariant.counted.visible_is in
     omega (arith, most, so)
 
 pub visible-self-inside-requires-clause-few : goal.visible-self-inside-requires-clause-few
 visible-self-inside-requires-clause-few g c =
     let inside = c.self.inside in
-    visible_fits inside.runs.tree.pairs inside.runs.labels inside.visible inside.shown c.self.invariant c.change_run.new.self.tree.pairs c.in_ok-recast.recast.altered c.in_ok-recast.ensures.recounted
+    visible_fits inside.runs.tree.pairs inside.runs.labels inside.visible inside.shown c.self.invariant.counted c.change_run.new.self.tree.pairs c.in_ok-recast.recast.altered c.in_ok-recast.ensures.recounted
 
 pub shown-self-inside-requires-clause-some : goal.shown-self-inside-requires-clause-some
 shown-self-inside-requires-clause-some g c =
     let most = c.in_ok-recast.ensures.recounted.shown_there in
-    let so = c.self.invariant.shown_is in
+    let so = c.self.invariant.counted.shown_is in
     omega (arith, most, so)
 
 pub shown-self-inside-requires-clause-few : goal.shown-self-inside-requires-clause-few
 shown-self-inside-requires-clause-few g c =
     let inside = c.self.inside in
-    shown_fits inside.runs.tree.pairs inside.runs.labels inside.visible inside.shown c.self.invariant c.change_run.new.self.tree.pairs c.in_ok-recast.recast.altered c.in_ok-recast.ensures.recounted
+    shown_fits inside.runs.tree.pairs inside.runs.labels inside.visible inside.shown c.self.invariant.counted c.change_run.new.self.tree.pairs c.in_ok-recast.recast.altered c.in_ok-recast.ensures.recounted
 
 pub invariant_of-self-2 : goal.invariant_of-self-2
 invariant_of-self-2 g c =
     let inside = c.self.inside in
-    counted_again inside.runs.tree.pairs inside.runs.labels inside.visible inside.shown c.self.invariant c.change_run.new.self.tree.pairs c.in_ok-recast.recast.altered c.in_ok-recast.ensures.recounted c.change_run.new.self.labels
-    c.visible-self-inside.result c.shown-self-inside.result c.change_run.ensures.laid c.visible-self-inside.ensures c.shown-self-inside.ensures
+    record {
+      counted = counted_again inside.runs.tree.pairs inside.runs.labels inside.visible inside.shown c.self.invariant.counted c.change_run.new.self.tree.pairs c.in_ok-recast.recast.altered c.in_ok-recast.ensures.recounted c.change_run.new.self.labels
+          c.visible-self-inside.result c.shown-self-inside.result c.change_run.ensures.laid c.visible-self-inside.ensures c.shown-self-inside.ensures;
+      cursor = tt;
+    }
 
 pub returns-clause-was : goal.returns-clause-was
 returns-clause-was g c = λ n low high.

@@ -10,15 +10,15 @@ use Rattle.advance_retreat.proofs.RunChars.{visible-chars}
 use Rattle.advance_retreat.proofs.VisiblePlaces.{visible_place, shown_place, place_in, deletion_is}
 use Rattle.advance_retreat.proofs.characters.Characters.deletion_by.Goals as goal
 
-pub visible_at-found-requires : goal.visible_at-found-requires
-visible_at-found-requires g c =
+pub find-found-requires-clause-within : goal.find-found-requires-clause-within
+find-found-requires-clause-within g c =
     let same = ap (λ (s : InRuns). visible_in s.records) c.self.view_is in
     let sum = visible-chars c.self.inside.runs.tree.pairs in
     omega (arith, c.requires.within, same, sum)
 
-pub returns : goal.returns
-returns g c =
-    let found = c.visible_at-found in
+pub returns-clause-deletion : goal.returns-clause-deletion
+returns-clause-deletion g c =
+    let found = c.find-found in
     let spot = found.result.spot in
     let ps = c.self.inside.runs.tree.pairs in
     let rising = c.count-runs.ensures.rising in

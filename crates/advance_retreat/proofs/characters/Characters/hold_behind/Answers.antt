@@ -11,15 +11,15 @@ use Rattle.advance_retreat.proofs.RunChars.{visible-chars}
 use Rattle.advance_retreat.proofs.VisiblePlaces.{left_place, behind_place, place_in}
 use Rattle.advance_retreat.proofs.characters.Characters.hold_behind.Goals as goal
 
-pub visible_at-found-requires : goal.visible_at-found-requires
-visible_at-found-requires g c =
+pub find-found-requires-clause-within : goal.find-found-requires-clause-within
+find-found-requires-clause-within g c =
     let same = ap (λ (s : InRuns). visible_in s.records) c.self.view_is in
     let sum = visible-chars c.self.inside.runs.tree.pairs in
     omega (arith, c.requires.within, same, sum)
 
-pub returns-then-not-has_known_right : goal.returns-then-not-has_known_right
-returns-then-not-has_known_right g c =
-    let found = c.visible_at-found in
+pub returns-then-not-has_known_right-clause-hold : goal.returns-then-not-has_known_right-clause-hold
+returns-then-not-has_known_right-clause-hold g c =
+    let found = c.find-found in
     let spot = found.result.spot in
     let ps = c.self.inside.runs.tree.pairs in
     let rising = c.count-runs.ensures.rising in
@@ -35,9 +35,9 @@ returns-then-not-has_known_right g c =
       is = c.right_of.ensures next ∙ ap (λ (b : Bool). hold_by b next c.node-left.result) (sym (sym c.has_known_right.ensures ∙ c.if-not-has_known_right.true));
     })
 
-pub returns : goal.returns
-returns g c =
-    let found = c.visible_at-found in
+pub returns-clause-hold : goal.returns-clause-hold
+returns-clause-hold g c =
+    let found = c.find-found in
     let spot = found.result.spot in
     let ps = c.self.inside.runs.tree.pairs in
     let rising = c.count-runs.ensures.rising in

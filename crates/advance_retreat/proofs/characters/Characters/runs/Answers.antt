@@ -15,7 +15,7 @@ returns-clause-kept c = subst (λ (s : InRuns). s.records ≡ records_in s.runs)
 pub returns-clause-few : goal.returns-clause-few
 returns-clause-few c = λ ts.
     let ps = c.self.inside.runs.tree.pairs in
-    let all = few_runs ps c.self.inside.runs.labels c.self.invariant.labelled c.count.ensures.rising ts in
+    let all = few_runs ps c.self.inside.runs.labels c.self.invariant.counted.labelled c.count.ensures.rising ts in
     let same = ap (λ (s : InRuns). loose_in (is_told ts) s.runs) c.self.view_is in
     let long = long_runs ps in
     let value = c.count.ensures.value in

@@ -45,3 +45,11 @@ returns-in_err-spot-clause-cut g c = inl c.make_room.ensures.runs
 
 pub returns-clause-cut : goal.returns-clause-cut
 returns-clause-cut g c = subst (λ (rs : List Stretch). MayBeCut rs (runs c.split.new.self.tree.pairs) c.args.node) c.make_room.ensures.runs c.split.ensures.cut
+
+pub returns-in_err-split-clause-chars : goal.returns-in_err-split-clause-chars
+returns-in_err-split-clause-chars g c = c.split.ensures.chars ∙ same_chars c.make_room.new.self.tree.pairs c.args.self.now.tree.pairs c.make_room.ensures.runs
+
+pub returns-in_err-split-clause-begun : goal.returns-in_err-split-clause-begun
+returns-in_err-split-clause-begun g c v first =
+    c.split.ensures.begun v
+    (still_begins c.args.self.now.tree.pairs c.make_room.new.self.tree.pairs c.args.self.now.labels c.make_room.new.self.labels c.requires.laid c.make_room.ensures.laid c.make_room.ensures.runs v first)

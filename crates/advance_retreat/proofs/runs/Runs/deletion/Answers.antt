@@ -1,6 +1,4 @@
 use Rattle.std.proofs.Common.{◌≡◌, true, sym, ap, ◌∙◌, arith}
-use Rattle.walker_record.specs.Stretches.{effect_of}
-use Rattle.order_tree.specs.Pairs.{lower, total}
 use Rattle.advance_retreat.specs.declared.runs.Found.{Found}
 use Rattle.advance_retreat.proofs.VisiblePlaces.{shown_below}
 use Rattle.advance_retreat.proofs.runs.Runs.deletion.Goals as goal

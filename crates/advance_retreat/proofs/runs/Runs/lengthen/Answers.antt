@@ -1,12 +1,11 @@
-use Rattle.std.proofs.Common.{◌≡◌, ◌+◌, ℕ, List, length, ap, ◌∙◌, subst, sym, arith, ◌≤◌, Bool}
+use Rattle.std.proofs.Common.{◌≡◌, ◌+◌, ℕ, List, length, ap, ◌∙◌, subst, sym, arith, ◌≤◌}
 use Rattle.walker_record.specs.Stretches.{Stretch, effect_of, is_continued, joined_of}
 use Rattle.order_tree.specs.Pairs.{changed, lower, up_to, total, runs}
 use Rattle.advance_retreat.specs.Entering.{EntersAt}
 use Rattle.advance_retreat.specs.Laid.{AreLabelled, chars_in}
 use Rattle.advance_retreat.proofs.KnownRuns.{held_label}
 use Rattle.advance_retreat.proofs.AlteredChars.{sums_fit}
-use Rattle.advance_retreat.proofs.Entered.{joined_enters, joined_long, joined_short, joined_labelled, on_err}
-use Rattle.ew_model.specs.declared.node.Node.{Node}
+use Rattle.advance_retreat.proofs.Entered.{joined_enters, joined_long, joined_short, joined_labelled}
 use Rattle.advance_retreat.specs.Loose.{loose_in, loose_parted}
 use Rattle.advance_retreat.proofs.LooseEntries.{joined_told}
 use Rattle.advance_retreat.proofs.runs.Runs.lengthen.Goals as goal
@@ -57,10 +56,6 @@ returns-clause-enters g c =
     let sum : n ≡ total effect_of (lower ps c.args.label) + c.args.front.now.len = omega (arith, count, own) in
     subst (λ (xs : List (ℕ × Stretch)). EntersAt (chars_in ps) (chars_in xs) c.args.child.now (length (chars_in (up_to ps c.args.label))) n) (sym is)
     (joined_enters ps c.runs-runs.ensures.rising c.args.label c.args.front.now c.requires.held c.args.child.now c.requires.goes_on n sum)
-
-pub returns-in_err-attach-clause-loose : goal.returns-in_err-attach-clause-loose
-returns-in_err-attach-clause-loose g c =
-    on_err c.from_residual.result ((among : Node → Bool) → loose_in among (runs c.args.self.now.tree.pairs) ≤ loose_in among (runs c.args.self.now.tree.pairs) + 1) (λ among. omega arith)
 
 pub returns-clause-told : goal.returns-clause-told
 returns-clause-told g c among e =

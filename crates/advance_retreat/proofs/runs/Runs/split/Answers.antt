@@ -1,10 +1,11 @@
-use Rattle.std.proofs.Common.{List, ℕ, ap, ◌∙◌, subst, sym, refl, arith, inl, inr}
-use Rattle.walker_record.specs.Stretches.{Stretch}
-use Rattle.order_tree.specs.Pairs.{Tree, runs}
+use Rattle.std.proofs.Common.{◌≡◌, List, ◌++◌, ◌∷◌, ℕ, ap, ◌∙◌, subst, sym, refl, arith, inl, inr}
+use Rattle.walker_record.specs.Stretches.{Stretch, first_part, second_part}
+use Rattle.order_tree.specs.Pairs.{Tree, runs, lower, greater}
 use Rattle.advance_retreat.specs.Laid.{AreLabelled, BeginsRun}
 use Rattle.walker_record.specs.StretchLaws.{length-chars_of}
+use Rattle.advance_retreat.proofs.PartedRuns.{same_run}
 use Rattle.advance_retreat.proofs.Places.{not_root_on, laid_same}
-use Rattle.advance_retreat.proofs.Splits.{split_laid, split_chars, split_first, split_begins, taken_same, split_cut}
+use Rattle.advance_retreat.proofs.Splits.{split_laid, split_chars, split_first, split_begins, taken_same, split_cut, parts}
 use Rattle.advance_retreat.proofs.runs.Runs.split.Goals as goal
 
 pub insert-requires : goal.insert-requires
@@ -62,3 +63,13 @@ returns-in-Ok-clause-cut g c =
 
 pub returns-in-Err-clause-cut : goal.returns-in-Err-clause-cut
 returns-in-Err-clause-cut g c = inl (ap (λ (t : Tree Stretch). runs t.pairs) c.in-Err.ensures.err)
+
+pub returns-in-Ok-clause-parts : goal.returns-in-Ok-clause-parts
+returns-in-Ok-clause-parts g c run held =
+    let ps = c.args.self.now.tree.pairs in
+    let label = c.args.spot.label in
+    let offset = c.args.spot.offset in
+    subst (λ (r : Stretch). c.split.new.self.pairs ≡ lower ps label ++ (label, first_part r offset) ∷ (c.in-Ok.own, second_part r offset) ∷ greater ps label)
+    (same_run ps label c.requires.stands.run run c.runs-runs.ensures.rising c.requires.stands.held held)
+    (parts _ (λ s. refl) ps c.split.new.self.pairs c.args.self.now.labels c.insert.new.self c.set.new.self label c.in-Ok.own offset c.args.node
+    c.requires.laid c.runs-runs.ensures.rising c.requires.stands c.requires.inside c.in-Ok.ensures.pairs c.in-Ok.ensures.between.0 c.in_ok-insert.ensures.ok c.set.ensures)

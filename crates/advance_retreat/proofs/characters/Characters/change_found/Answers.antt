@@ -5,14 +5,14 @@ use Rattle.advance_retreat.specs.Kept.{knows, is_inserted}
 use Rattle.advance_retreat.specs.Laid.{InRuns, chars_in}
 use Rattle.advance_retreat.specs.Replacing.{Recounted, were_inserted, are_inserted}
 use Rattle.advance_retreat.proofs.Counters.{visible_fits, shown_fits, counted_again}
-use Rattle.advance_retreat.proofs.characters.Characters.change_by.Goals as goal
+use Rattle.advance_retreat.proofs.characters.Characters.change_found.Goals as goal
 
 pub visible-self-inside-requires-clause-some : goal.visible-self-inside-requires-clause-some
 visible-self-inside-requires-clause-some g c =
     let counts : Recounted (chars_in c.self.inside.runs.tree.pairs) (chars_in c.change.new.self.tree.pairs) c.in-Some.altered =
     subst (λ (o : Option Altered). IfSome o (Recounted (chars_in c.self.inside.runs.tree.pairs) (chars_in c.change.new.self.tree.pairs))) c.in-Some.is c.in_ok-altered.ensures.recounted in
     let most = counts.visible_there in
-    let so = c.self.invariant.visible_is in
+    let so = c.self.invariant.counted.visible_is in
     omega (arith, most, so)
 
 pub visible-self-inside-requires-clause-few : goal.visible-self-inside-requires-clause-few
@@ -20,14 +20,14 @@ visible-self-inside-requires-clause-few g c =
     let counts : Recounted (chars_in c.self.inside.runs.tree.pairs) (chars_in c.change.new.self.tree.pairs) c.in-Some.altered =
     subst (λ (o : Option Altered). IfSome o (Recounted (chars_in c.self.inside.runs.tree.pairs) (chars_in c.change.new.self.tree.pairs))) c.in-Some.is c.in_ok-altered.ensures.recounted in
     let inside = c.self.inside in
-    visible_fits inside.runs.tree.pairs inside.runs.labels inside.visible inside.shown c.self.invariant c.change.new.self.tree.pairs c.in-Some.altered counts
+    visible_fits inside.runs.tree.pairs inside.runs.labels inside.visible inside.shown c.self.invariant.counted c.change.new.self.tree.pairs c.in-Some.altered counts
 
 pub shown-self-inside-requires-clause-some : goal.shown-self-inside-requires-clause-some
 shown-self-inside-requires-clause-some g c =
     let counts : Recounted (chars_in c.self.inside.runs.tree.pairs) (chars_in c.change.new.self.tree.pairs) c.in-Some.altered =
     subst (λ (o : Option Altered). IfSome o (Recounted (chars_in c.self.inside.runs.tree.pairs) (chars_in c.change.new.self.tree.pairs))) c.in-Some.is c.in_ok-altered.ensures.recounted in
     let most = counts.shown_there in
-    let so = c.self.invariant.shown_is in
+    let so = c.self.invariant.counted.shown_is in
     omega (arith, most, so)
 
 pub shown-self-inside-requires-clause-few : goal.shown-self-inside-requires-clause-few
@@ -35,15 +35,18 @@ shown-self-inside-requires-clause-few g c =
     let counts : Recounted (chars_in c.self.inside.runs.tree.pairs) (chars_in c.change.new.self.tree.pairs) c.in-Some.altered =
     subst (λ (o : Option Altered). IfSome o (Recounted (chars_in c.self.inside.runs.tree.pairs) (chars_in c.change.new.self.tree.pairs))) c.in-Some.is c.in_ok-altered.ensures.recounted in
     let inside = c.self.inside in
-    shown_fits inside.runs.tree.pairs inside.runs.labels inside.visible inside.shown c.self.invariant c.change.new.self.tree.pairs c.in-Some.altered counts
+    shown_fits inside.runs.tree.pairs inside.runs.labels inside.visible inside.shown c.self.invariant.counted c.change.new.self.tree.pairs c.in-Some.altered counts
 
 pub invariant_of-self-2 : goal.invariant_of-self-2
 invariant_of-self-2 g c =
     let counts : Recounted (chars_in c.self.inside.runs.tree.pairs) (chars_in c.change.new.self.tree.pairs) c.in-Some.altered =
     subst (λ (o : Option Altered). IfSome o (Recounted (chars_in c.self.inside.runs.tree.pairs) (chars_in c.change.new.self.tree.pairs))) c.in-Some.is c.in_ok-altered.ensures.recounted in
     let inside = c.self.inside in
-    counted_again inside.runs.tree.pairs inside.runs.labels inside.visible inside.shown c.self.invariant c.change.new.self.tree.pairs c.in-Some.altered counts c.change.new.self.labels
-    c.visible-self-inside.result c.shown-self-inside.result c.change.ensures.laid c.visible-self-inside.ensures c.shown-self-inside.ensures
+    record {
+      counted = counted_again inside.runs.tree.pairs inside.runs.labels inside.visible inside.shown c.self.invariant.counted c.change.new.self.tree.pairs c.in-Some.altered counts c.change.new.self.labels
+          c.visible-self-inside.result c.shown-self-inside.result c.change.ensures.laid c.visible-self-inside.ensures c.shown-self-inside.ensures;
+      cursor = tt;
+    }
 
 pub returns-in_default-clause-was : goal.returns-in_default-clause-was
 returns-in_default-clause-was g c =

@@ -1,0 +1,60 @@
+-- The run at whose end characters are typed or deleted one after another.
+use Rattle.std.specs.Prelude.{◌≡◌, ◌⊎◌, ℕ, ◌+◌, ◌-◌, ◌<◌, true, false, List, ◌++◌, ◌∷◌, Contains, Option, Some, None}
+use Rattle.ew_model.specs.declared.node.Node.{Node}
+use Rattle.walker_record.specs.Stretches.{Stretch, node_on, prepared_of, effect_of, first_part}
+use Rattle.order_tree.specs.Pairs.{lower, total}
+use Rattle.advance_retreat.specs.declared.cursor.Cursor.{Cursor}
+use Rattle.advance_retreat.specs.declared.cursor.Struck.{Struck}
+use Rattle.advance_retreat.specs.declared.labels.Labels.{Labels}
+use Rattle.advance_retreat.specs.Laid.{AreCounted}
+
+-- the node of the run's last character
+abbrev pub last_of : Stretch → Node
+last_of r = node_on r.from (r.len - 1)
+
+-- the run without its last character
+abbrev pub shorter : Stretch → Stretch
+shorter r = first_part r (r.len - 1)
+
+-- the run of the characters that were deleted, one more of them, ahead of the others
+abbrev pub struck_with : Node → ℕ → Stretch
+struck_with v n = record { from = v; len = n + 1; prepared = 2; effect = false }
+
+-- how many characters were deleted from the end of the run
+abbrev pub struck_long : Option Struck → ℕ
+struck_long None = 0
+struck_long (Some s) = s.run.len
+
+-- the run that was deleted from the end of another stands right behind that one, and its nodes go on with those
+abbrev pub StandsBehind : List (ℕ × Stretch) → ℕ → Stretch → Option Struck → Type 0
+StandsBehind ps label run None = Unit {0}
+StandsBehind ps label run (Some s) =
+    (front : List (ℕ × Stretch)) × (back : List (ℕ × Stretch)) × (ps ≡ front ++ (label, run) ∷ (s.label, s.run) ∷ back)
+    × (s.run.from ≡ node_on run.from run.len) × (0 < s.run.len) × (s.run.prepared ≡ 2) × (s.run.effect ≡ false)
+
+-- the run stands at the label, visible in what is prepared and in the text, behind so many characters of both
+pub record IsCursor (ps : List (ℕ × Stretch)) (c : Cursor) : Type 0 where
+  pub held : Contains ps (c.label, c.run)
+  pub some : 0 < c.run.len
+  pub prepared : c.run.prepared ≡ 1
+  pub effect : c.run.effect ≡ true
+  pub before : c.before ≡ total effect_of (lower ps c.label)
+  pub index : c.index ≡ total prepared_of (lower ps c.label) + c.run.len
+  pub behind : StandsBehind ps c.label c.run c.struck
+
+abbrev pub MayBeCursor : List (ℕ × Stretch) → Option Cursor → Type 0
+MayBeCursor ps None = Unit {0}
+MayBeCursor ps (Some c) = IsCursor ps c
+
+-- the last character of the cursor's run went over to the deleted ones behind it
+pub record GaveEnd (old new : List (ℕ × Stretch)) (c : Cursor) (s : Struck) : Type 0 where
+  pub front : List (ℕ × Stretch)
+  pub back : List (ℕ × Stretch)
+  pub was : (old ≡ front ++ (c.label, c.run) ∷ back) ⊎ ((r : Struck) × (c.struck ≡ Some r) × (old ≡ front ++ (c.label, c.run) ∷ (r.label, r.run) ∷ back))
+  pub now : new ≡ front ++ (c.label, shorter c.run) ∷ (s.label, s.run) ∷ back
+  pub struck : s.run ≡ struck_with (last_of c.run) (struck_long c.struck)
+
+-- counted runs, and the cursor among them
+pub record AreKept (ps : List (ℕ × Stretch)) (t : Labels) (visible shown : ℕ) (at : Option Cursor) : Type 0 where
+  pub counted : AreCounted ps t visible shown
+  pub cursor : MayBeCursor ps at
