@@ -18,6 +18,8 @@ PAGE = ROOT / "docs" / "CALLS.md"
 # Crates of the programs of trials: nothing is claimed of them.
 UNCLAIMED = {"trial_rows"}
 # What is lent to a call and isn't used any more where it is refused, and steps of which nothing is claimed, those of a net.
+# Where a search begins, which changes no answer.
+HINT = ("near", "Near")
 LENT = {("walk", "state"), ("step", "steps"), ("run_script", "steps"), ("net", "steps")}
 HEAD = """# All calls and their clauses
 
@@ -27,8 +29,8 @@ of a refusal behind *Err*, and those of both, or of a call that refuses nothing,
 *this*. What is asked of the caller is behind *asks*.
 
 Each of these calls is proved to return, on whatever it is given that meets what is asked, and to keep all its clauses. What is given to
-be changed is told behind a refusal too, but for the state that is lent to `walk`, and for the steps of a net, of which no number
-is claimed. The methods of a trait keep the clauses of the trait, in every type that has it. `NoMem` is want of memory, and may come of any call that returns it.
+be changed is told behind a refusal too, but for the state that is lent to `walk`, for the steps of a net, of which no number is
+claimed, and for `near`, a place to look first, on which no answer rests. The methods of a trait keep the clauses of the trait, in every type that has it. `NoMem` is want of memory, and may come of any call that returns it.
 """
 
 RECURSION = """
@@ -248,7 +250,7 @@ def open_points(call):
     said = [text for kind, _, text in call.clauses if kind == "ensures"]
     of_both = [text for text in said if re.search(r"\bresult\b", text) and not OK.search(text) and not ERR.search(text)]
     refuses = call.returns.startswith("Result")
-    if call.returns and not any(re.search(r"\bresult\b", text) for text in said):
+    if call.returns and call.returns not in HINT and not any(re.search(r"\bresult\b", text) for text in said):
         yield "nothing tells what it returns"
     if refuses and not of_both and not any(OK.search(text) for text in said):
         yield "nothing tells Ok"
@@ -257,7 +259,7 @@ def open_points(call):
         yield f"nothing tells {fault}"
     for given in re.findall(r"(?:&mut (self)\b|(\w+): &mut )", call.takes):
         name = given[0] or given[1]
-        if (call.name, name) not in LENT and not any(f"{name}.new" in text and not (refuses and OK.search(text)) for text in said):
+        if name not in HINT and (call.name, name) not in LENT and not any(f"{name}.new" in text and not (refuses and OK.search(text)) for text in said):
             yield f"nothing tells {name}" + (" behind a refusal" if refuses else "")
 
 

@@ -1,5 +1,5 @@
 -- Ids in runs: neighbours of one agent.
-use Rattle.std.specs.Prelude.{◌≡◌, ℕ, suc, ◌+◌, ◌<◌, ◌^◌, Bool, false, ◌-◌, nat_lt, List, [], ◌∷◌, ◌++◌, map, if◌then◌else◌}
+use Rattle.std.specs.Prelude.{◌≡◌, ℕ, suc, ◌+◌, ◌<◌, ◌≤◌, ◌^◌, Bool, false, ◌-◌, nat_lt, List, [], ◌∷◌, ◌++◌, map, if◌then◌else◌, Some, slice_get}
 use Rattle.std.specs.List.{range_with_len}
 use Rattle.ew_model.specs.declared.id.Id.{Id}
 use Rattle.ew_model.specs.Ids.{id_eq}
@@ -60,3 +60,10 @@ abbrev pub shortened : List IdRun → ℕ → List IdRun
 shortened [] place = []
 shortened (r ∷ []) place = if nat_lt r.start place then record { start = r.start; agent = r.agent; seq = r.seq; more = place - 1 - r.start } ∷ [] else []
 shortened (r ∷ s ∷ runs) place = r ∷ shortened (s ∷ runs) place
+
+-- the run at one place has the id at another
+pub record IsHeldAt (runs : List IdRun) (at : ℕ) (place : ℕ) : Type 0 where
+  pub run : IdRun
+  pub there : slice_get runs at ≡ Some run
+  pub from : run.start ≤ place
+  pub to : place ≤ run.start + run.more

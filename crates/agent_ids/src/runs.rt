@@ -4,7 +4,7 @@ ghost use Rattle.std.specs.Prelude.{◌≡◌, ◌↔◌, ℕ, suc, ◌+◌, ◌
 ghost use Rattle.std.specs.List.{AllWithin};
 ghost use Rattle.ew_model.specs.declared.id.Id.{Id};
 ghost use Rattle.agent_ids.specs.declared.runs.IdRun.{IdRun};
-ghost use Rattle.agent_ids.specs.IdRuns.{id_runs, id_with, ids_in, is_next, last_of, AreRuns, goes_on, with_more, shortened, ids_from};
+ghost use Rattle.agent_ids.specs.IdRuns.{id_runs, id_with, ids_in, is_next, last_of, AreRuns, goes_on, with_more, shortened, ids_from, IsHeldAt};
 
 use ew_model::NoMem;
 use ew_model::id::Id;
@@ -69,13 +69,15 @@ impl IdRuns {
         self.runs.len() as u32
     }
 
-    /// The id at a place.
-    pub fn get(&self, place: u32) -> Id
+    /// The id at a place. The run at the place `near`, which is that of the run found last, and the next one are tried first.
+    pub fn get_near(&self, place: u32, near: &mut usize) -> Id
         requires { place < length self.now }
         ensures { slice_get self.now place ≡ Some result }
     {
-        let below = count_to(&self.runs, place);
-        let run = self.runs[below - 1];
+        let _count = self.count;
+        let found = find_run_near(&self.runs, place, *near);
+        *near = found;
+        let run = self.runs[found];
         Id {
             agent: run.agent,
             seq: run.seq + (place - run.start),
@@ -107,6 +109,31 @@ impl IdRuns {
             agent: run.agent,
             seq: run.seq + (cut - run.start),
         })
+    }
+}
+
+/// The place of the run that has the id at a place. The run at the place `near` and the next one are tried first.
+fn find_run_near(runs: &[IdRun], place: u32, near: usize) -> usize
+    requires { (end : ℕ) × AreRuns 0 runs.now end × (place < end) }
+    ensures { IsHeldAt runs.now result place }
+{
+    if is_held_at(runs, near, place) {
+        return near;
+    }
+    let next = near.wrapping_add(1);
+    if is_held_at(runs, next, place) {
+        return next;
+    }
+    count_to(runs, place) - 1
+}
+
+/// Whether the run at one place has the id at another.
+fn is_held_at(runs: &[IdRun], at: usize, place: u32) -> bool
+    ensures { IsTrue result → IsHeldAt runs.now at place }
+{
+    match runs.get(at) {
+        Some(run) => run.start <= place && place - run.start <= run.more,
+        None => false,
     }
 }
 

@@ -109,7 +109,17 @@ impl AgentTable {
         requires { lv < length self.now }
         ensures { slice_get self.now lv ≡ Some result }
     {
-        self.ids.get(lv)
+        let mut near = 0;
+        self.id_near(lv, &mut near)
+    }
+
+    /// The id at a position. The run of ids at the place `near`, which is that of the run found last, and the next one are tried
+    /// first.
+    pub fn id_near(&self, lv: u32, near: &mut usize) -> Id
+        requires { lv < length self.now }
+        ensures { slice_get self.now lv ≡ Some result }
+    {
+        self.ids.get_near(lv, near)
     }
 
     /// How many runs of neighbours of one agent there are. In a table the numbers in a run follow on each other, so an id goes on

@@ -10,7 +10,7 @@ ghost use Rattle.critical.specs.KeptCuts.{kept_for, with_whole, with_below};
 ghost use Rattle.critical.specs.Searches.{TellsHeads};
 
 use crate::spans::{
-    CutSpan, add_cut, copy_heads, ends_before, find_span, greatest_to, has_heads, keep_below,
+    CutSpan, add_cut, copy_heads, ends_before, find_span_near, greatest_to, has_heads, keep_below,
     list_span,
 };
 use ew_model::NoMem;
@@ -144,7 +144,25 @@ impl Cuts {
     pub fn is_cut(&self, k: u32) -> bool
         ensures { (history : List (List ℕ)) → self.now ≡ kept_for history → result ≡ is_cut_at history k }
     {
-        k == self.count || k < self.count && find_span(&self.spans, k).is_some()
+        let mut near = 0;
+        self.is_cut_near(k, &mut near)
+    }
+
+    /// Whether the cut is critical. The span at the place `near`, which is that of the span found last, and the next one are tried
+    /// first.
+    pub fn is_cut_near(&self, k: u32, near: &mut usize) -> bool
+        ensures { (history : List (List ℕ)) → self.now ≡ kept_for history → result ≡ is_cut_at history k }
+    {
+        if k >= self.count {
+            return k == self.count;
+        }
+        match find_span_near(&self.spans, k, *near) {
+            Some(place) => {
+                *near = place;
+                true
+            }
+            None => false,
+        }
     }
 
     /// The critical cuts, rising.

@@ -1,6 +1,6 @@
 //! Spans of neighbouring cuts.
 
-ghost use Rattle.std.specs.Prelude.{◌≡◌, ℕ, suc, ◌+◌, ◌-◌, ◌<◌, ◌≤◌, ◌^◌, List, [], ◌∷◌, ◌++◌, map, length, take, filter, nat_eq, nat_lt, true, IfOk, IfSome, IfNone, OnOk, OnErr};
+ghost use Rattle.std.specs.Prelude.{◌≡◌, ℕ, suc, ◌+◌, ◌-◌, ◌<◌, ◌≤◌, ◌^◌, List, [], ◌∷◌, ◌++◌, map, length, take, filter, nat_eq, nat_lt, true, IsTrue, IfOk, IfSome, IfNone, OnOk, OnErr};
 ghost use Rattle.std.specs.List.{AllWithin, range_with_len};
 ghost use Rattle.std.specs.Cmp.Lexicographic.{pointwise};
 ghost use Rattle.ew_model.specs.Sets.{Among};
@@ -29,7 +29,7 @@ fn count_below(spans: &[CutSpan], end: u32) -> usize
 }
 
 /// The place of the span that holds the number, if one does.
-pub fn find_span(spans: &[CutSpan], k: u32) -> Option<usize>
+fn find_span(spans: &[CutSpan], k: u32) -> Option<usize>
     requires rising { RiseFrom 0 spans.now }
     requires room { k + 1 < 2 ^ 32 }
     ensures some { IfSome result (λ place. IsHeldAt spans.now place k) }
@@ -40,6 +40,33 @@ pub fn find_span(spans: &[CutSpan], k: u32) -> Option<usize>
         Some(below - 1)
     } else {
         None
+    }
+}
+
+/// The place of the span that holds the number, if one does. The span at the place `near` and the next one are tried first.
+pub fn find_span_near(spans: &[CutSpan], k: u32, near: usize) -> Option<usize>
+    requires rising { RiseFrom 0 spans.now }
+    requires room { k + 1 < 2 ^ 32 }
+    ensures some { IfSome result (λ place. IsHeldAt spans.now place k) }
+    ensures none { IfNone result (Among k (cuts_in spans.now) → ⊥) }
+{
+    if is_held_at(spans, near, k) {
+        return Some(near);
+    }
+    let next = near.wrapping_add(1);
+    if is_held_at(spans, next, k) {
+        return Some(next);
+    }
+    find_span(spans, k)
+}
+
+/// Whether the span at a place holds the number.
+fn is_held_at(spans: &[CutSpan], place: usize, k: u32) -> bool
+    ensures { IsTrue result → IsHeldAt spans.now place k }
+{
+    match spans.get(place) {
+        Some(span) => span.first <= k && k <= span.last,
+        None => false,
     }
 }
 

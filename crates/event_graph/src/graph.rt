@@ -12,6 +12,7 @@ ghost use Rattle.ew_model.specs.Positions.{AreParents, IsHistoryOfParents, paren
 ghost use Rattle.ew_model.specs.Sound.{IsSoundId, IsSoundOp, IsSound, AreSound};
 ghost use Rattle.ew_model.specs.Verdicts.{id_rows, parent_rows, first_unknown, follows_its_agent, graph_verdict};
 ghost use Rattle.ew_model.specs.Verdicts.Ruling.{Good};
+ghost use Rattle.frontier.specs.Chains.{IsChain};
 ghost use Rattle.ancestors.specs.Floors.{HasAllBelow};
 ghost use Rattle.ancestors.specs.Spans as spans;
 ghost use Rattle.event_graph.specs.Keeping.{IsAdmitted};
@@ -20,6 +21,7 @@ ghost use Rattle.event_graph.specs.Rows.{row_in};
 ghost use Rattle.event_graph.specs.Summary.{summary_of};
 
 use crate::ids::{agents, ascend, counts, ids_at, is_among};
+use crate::near::Near;
 use crate::parts::{append, append_apart, only_head};
 use agent_ids::AgentTable;
 use ancestors::{Spans, contains, diff, is_reduced};
@@ -141,7 +143,16 @@ impl Graph {
         requires { lv < length self.now }
         ensures { slice_get (model.ids_of self.now) lv ≡ Some result }
     {
-        self.ids.id_at(lv)
+        let mut near = Near::start();
+        self.id_near(lv, &mut near)
+    }
+
+    /// The id of the event at a position, which is sought first where the last one was found.
+    pub fn id_near(&self, lv: u32, near: &mut Near) -> Id
+        requires { lv < length self.now }
+        ensures { slice_get (model.ids_of self.now) lv ≡ Some result }
+    {
+        self.ids.id_near(lv, &mut near.id)
     }
 
     /// The operation of the event at a position.
@@ -149,7 +160,25 @@ impl Graph {
         requires { lv < length self.now }
         ensures { slice_get (map (λ (e : Event). e.op) self.now) lv ≡ Some result }
     {
-        self.events.op_at(lv)
+        let mut near = Near::start();
+        self.op_near(lv, &mut near)
+    }
+
+    /// The operation of the event at a position, which is sought first where the last one was found.
+    pub fn op_near(&self, lv: u32, near: &mut Near) -> Op
+        requires { lv < length self.now }
+        ensures { slice_get (map (λ (e : Event). e.op) self.now) lv ≡ Some result }
+    {
+        self.events.op_near(lv, &mut near.event)
+    }
+
+    /// Where a chain to the event at a position begins, in which each event has the one before it as its only parent. It is sought
+    /// first where the last event was found.
+    pub fn chain_start_near(&self, lv: u32, near: &mut Near) -> u32
+        requires { lv < length self.now }
+        ensures { IsChain (parent_positions self.now) result lv }
+    {
+        self.events.chain_start_near(lv, &mut near.event)
     }
 
     /// The event at a position.
@@ -157,11 +186,20 @@ impl Graph {
         requires { lv < length self.now }
         ensures { IfOk result (λ e. slice_get self.now lv ≡ Some e) }
     {
-        let (op, positions) = self.events.event_at(lv);
+        let mut near = Near::start();
+        self.event_near(lv, &mut near)
+    }
+
+    /// The event at a position, which is sought first where the last one was found.
+    pub fn event_near(&self, lv: u32, near: &mut Near) -> Result<Event, NoMem>
+        requires { lv < length self.now }
+        ensures { IfOk result (λ e. slice_get self.now lv ≡ Some e) }
+    {
+        let (op, positions) = self.events.event_near(lv, &mut near.event);
         let mut parents = ids_at(self.alloc, &self.ids, positions.as_slice())?;
         parents.sort_unstable();
         Ok(Event {
-            id: self.ids.id_at(lv),
+            id: self.ids.id_near(lv, &mut near.id),
             parents: Parents::from_vec(parents),
             op,
         })
@@ -216,7 +254,15 @@ impl Graph {
     pub fn is_cut(&self, k: u32) -> bool
         ensures { result ≡ is_critical self.now k }
     {
-        self.cuts.is_cut(k)
+        let mut near = Near::start();
+        self.is_cut_near(k, &mut near)
+    }
+
+    /// Whether the cut at k is critical, which is sought first where the last one was found.
+    pub fn is_cut_near(&self, k: u32, near: &mut Near) -> bool
+        ensures { result ≡ is_critical self.now k }
+    {
+        self.cuts.is_cut_near(k, &mut near.cut)
     }
 
     /// How the event stands to the events held: the first row that holds, whatever its index. It is never OutOfRange.

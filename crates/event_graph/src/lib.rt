@@ -5,7 +5,9 @@ pub mod graph;
 mod ids;
 mod last;
 mod missing;
+pub mod near;
 mod parts;
 mod subgraph;
 
 pub use graph::{Graph, Tail};
+pub use near::Near;

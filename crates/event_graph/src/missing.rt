@@ -7,6 +7,7 @@ ghost use Rattle.ew_model.specs.Ids.{name_eq};
 ghost use Rattle.event_graph.specs.Missing.{count_in, missing};
 
 use crate::graph::Graph;
+use crate::near::Near;
 use ew_model::NoMem;
 use ew_model::event::Event;
 use ew_model::id::Id;
@@ -23,9 +24,10 @@ impl Graph {
     {
         let counted = by_agent(self.alloc(), counts)?;
         let mut missing = Vec::new(self.alloc());
+        let mut near = Near::start();
         for lv in 0..self.count() {
-            if !is_counted(&counted, &self.id_at(lv)) {
-                missing.push(self.event_at(lv)?)?;
+            if !is_counted(&counted, &self.id_near(lv, &mut near)) {
+                missing.push(self.event_near(lv, &mut near)?)?;
             }
         }
         Ok(missing)

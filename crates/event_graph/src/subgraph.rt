@@ -9,6 +9,7 @@ ghost use Rattle.event_graph.specs.Keeping.{AreAdmittedAfter, IsAdmitted};
 ghost use Rattle.event_graph.specs.Subgraphs.{events_at, subgraph_of};
 
 use crate::graph::Graph;
+use crate::near::Near;
 use ancestors::{Span, Spans, closure};
 use ew_model::NoMem;
 use ew_model::id::Id;
@@ -51,8 +52,9 @@ fn admit_span(graph: &Graph, part: &mut Graph, span: Span) -> Result<(), NoMem>
     requires few { length part.old + length (events_at graph.now (positions_in span)) < 2 ^ 32 }
     ensures { OnOk result (part.new ≡ part.old ++ events_at graph.now (positions_in span)) }
 {
+    let mut near = Near::start();
     for lv in span.from..span.to {
-        part.admit(&graph.event_at(lv)?)?;
+        part.admit(&graph.event_near(lv, &mut near)?)?;
     }
     Ok(())
 }

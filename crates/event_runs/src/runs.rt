@@ -168,6 +168,31 @@ pub fn find_run(runs: &[Run], position: u32) -> usize
     count_below(runs, position + 1) - 1
 }
 
+/// The place of the run that has the event at a position. The run at the place `near` and the next one are tried first.
+pub fn find_run_near(runs: &[Run], position: u32, near: usize) -> usize
+    requires { (lists : List (List ℕ)) × (count : ℕ) × (chars : ℕ) × AreRuns 0 0 runs.now lists count chars × (position < count) × (count < 2 ^ 32) }
+    ensures { IsHeldAt runs.now result position }
+{
+    if is_held_at(runs, near, position) {
+        return near;
+    }
+    let next = near.wrapping_add(1);
+    if is_held_at(runs, next, position) {
+        return next;
+    }
+    find_run(runs, position)
+}
+
+/// Whether the run at a place has the event at a position.
+fn is_held_at(runs: &[Run], place: usize, position: u32) -> bool
+    ensures { IsTrue result → IsHeldAt runs.now place position }
+{
+    match runs.get(place) {
+        Some(run) => run.start <= position && position - run.start <= run.more,
+        None => false,
+    }
+}
+
 /// Puts the event of a run of one behind the others: into the last run, where the two go together, or else as a run of
 /// its own.
 pub fn put(

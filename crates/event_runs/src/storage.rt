@@ -4,10 +4,11 @@ ghost use Rattle.std.specs.Prelude.{◌≡◌, ℕ, ◌+◌, ◌<◌, ◌≤◌,
 ghost use Rattle.ew_model.specs.Positions.{AreParents, IsHistoryOfParents, parents_at};
 ghost use Rattle.event_runs.specs.BareEvents.{BareEvent, bare, ops_in, parents_in};
 ghost use Rattle.event_runs.specs.KeptRuns.{op_chars};
-ghost use Rattle.event_runs.specs.Runs.{AreRunsOf, IsRunCount};
+ghost use Rattle.event_runs.specs.Runs.{AreRunsOf, IsRunCount, IsRunStart};
+ghost use Rattle.frontier.specs.Chains.{IsChain};
 
 use crate::lists::NumberLists;
-use crate::runs::{Run, find_run, keep_below, put};
+use crate::runs::{Run, find_run, find_run_near, keep_below, put};
 use ew_model::NoMem;
 use ew_model::event::Op;
 use frontier::Parentage;
@@ -89,9 +90,35 @@ impl EventRuns {
         requires { lv < length self.now }
         ensures { slice_get (ops_in self.now) lv ≡ Some result }
     {
+        let mut near = 0;
+        self.op_near(lv, &mut near)
+    }
+
+    /// The operation of the event at a position. The run at the place `near`, which is that of the run found last, and the next
+    /// one are tried first.
+    pub fn op_near(&self, lv: u32, near: &mut usize) -> Op
+        requires { lv < length self.now }
+        ensures { slice_get (ops_in self.now) lv ≡ Some result }
+    {
         let _count = self.count;
-        let run = self.runs[find_run(&self.runs, lv)];
+        let place = find_run_near(&self.runs, lv, *near);
+        *near = place;
+        let run = self.runs[place];
         run.op_behind(lv - run.start, &self.chars)
+    }
+
+    /// The position of the first event in the run of an event. The run at the place `near`, which is that of the run found last,
+    /// and the next one are tried first.
+    pub fn chain_start_near(&self, lv: u32, near: &mut usize) -> u32
+        requires { lv < length self.now }
+        ensures chain { IsChain (parents_in self.now) result lv }
+        ensures start { IsRunStart self.now lv result }
+        ensures only { (start : ℕ) → IsRunStart self.now lv start → start ≡ result }
+    {
+        let _count = self.count;
+        let place = find_run_near(&self.runs, lv, *near);
+        *near = place;
+        self.runs[place].start
     }
 
     /// The parents of the event at a position, rising.
@@ -110,8 +137,9 @@ impl EventRuns {
         }
     }
 
-    /// The operation and the parents of the event at a position: its run is sought once for both.
-    pub fn event_at(&self, lv: u32) -> (Op, SmallVec<u32, 16>)
+    /// The operation and the parents of the event at a position: its run is sought once for both. The run at the place `near`,
+    /// which is that of the run found last, and the next one are tried first.
+    pub fn event_near(&self, lv: u32, near: &mut usize) -> (Op, SmallVec<u32, 16>)
         requires { lv < length self.now }
         ensures op { slice_get (ops_in self.now) lv ≡ Some result.0 }
         ensures parents { result.1.items ≡ parents_at (parents_in self.now) lv }
@@ -119,7 +147,8 @@ impl EventRuns {
     {
         let _count = self.count;
         let alloc = *self.runs.allocator();
-        let place = find_run(&self.runs, lv);
+        let place = find_run_near(&self.runs, lv, *near);
+        *near = place;
         let run = self.runs[place];
         let op = run.op_behind(lv - run.start, &self.chars);
         if run.start == lv {
@@ -165,8 +194,8 @@ impl Parentage for EventRuns {
         ensures start { IsRunStart self.now lv result }
         ensures only { (start : ℕ) → IsRunStart self.now lv start → start ≡ result }
     {
-        let _count = self.count;
-        self.runs[find_run(&self.runs, lv)].start
+        let mut near = 0;
+        self.chain_start_near(lv, &mut near)
     }
 }
 

@@ -3,10 +3,10 @@ use Rattle.ew_model.specs.declared.id.Id.{Id}
 use Rattle.ew_model.specs.declared.event.Event.{Event}
 use Rattle.event_graph.specs.Keeping.{IsKeptOf}
 use Rattle.event_graph.proofs.Kept.{length_ids}
-use Rattle.event_graph.proofs.graph.Graph.id_at.Goals as goal
+use Rattle.event_graph.proofs.graph.Graph.id_near.Goals as goal
 
-pub id_at-requires : goal.id_at-requires
-id_at-requires c =
+pub id_near-requires : goal.id_near-requires
+id_near-requires c =
     let now = c.args.self.now in
     let inside = c.self.inside in
     let kept : IsKeptOf now inside.ids inside.events inside.heads inside.cuts = subst (λ (h : List Event). IsKeptOf h inside.ids inside.events inside.heads inside.cuts) c.self.view_is c.self.invariant in
@@ -17,4 +17,4 @@ returns c =
     let now = c.args.self.now in
     let inside = c.self.inside in
     let kept : IsKeptOf now inside.ids inside.events inside.heads inside.cuts = subst (λ (h : List Event). IsKeptOf h inside.ids inside.events inside.heads inside.cuts) c.self.view_is c.self.invariant in
-    subst (λ (ids : List Id). slice_get ids c.args.lv ≡ Some c.id_at.result) kept.ids_are c.id_at.ensures
+    subst (λ (ids : List Id). slice_get ids c.args.lv ≡ Some c.id_near.result) kept.ids_are c.id_near.ensures

@@ -3,10 +3,10 @@ use Rattle.ew_model.specs.declared.event.Op.{Op}
 use Rattle.ew_model.specs.declared.event.Event.{Event}
 use Rattle.event_graph.specs.Keeping.{IsKeptOf}
 use Rattle.event_graph.proofs.Kept.{length_events, ops_are}
-use Rattle.event_graph.proofs.graph.Graph.op_at.Goals as goal
+use Rattle.event_graph.proofs.graph.Graph.op_near.Goals as goal
 
-pub op_at-requires : goal.op_at-requires
-op_at-requires c =
+pub op_near-requires : goal.op_near-requires
+op_near-requires c =
     let now = c.args.self.now in
     let inside = c.self.inside in
     let kept : IsKeptOf now inside.ids inside.events inside.heads inside.cuts = subst (λ (h : List Event). IsKeptOf h inside.ids inside.events inside.heads inside.cuts) c.self.view_is c.self.invariant in
@@ -17,4 +17,4 @@ returns c =
     let now = c.args.self.now in
     let inside = c.self.inside in
     let kept : IsKeptOf now inside.ids inside.events inside.heads inside.cuts = subst (λ (h : List Event). IsKeptOf h inside.ids inside.events inside.heads inside.cuts) c.self.view_is c.self.invariant in
-    subst (λ (ops : List Op). slice_get ops c.args.lv ≡ Some c.op_at.result) (ops_are now inside.ids inside.events inside.heads inside.cuts kept) c.op_at.ensures
+    subst (λ (ops : List Op). slice_get ops c.args.lv ≡ Some c.op_near.result) (ops_are now inside.ids inside.events inside.heads inside.cuts kept) c.op_near.ensures

@@ -1,13 +1,13 @@
-use Rattle.std.proofs.Common.{◌∙◌, List, subst}
+use Rattle.std.proofs.Common.{ℕ, List, subst}
 use Rattle.ew_model.specs.declared.event.Event.{Event}
+use Rattle.frontier.specs.Chains.{IsChain}
 use Rattle.event_graph.specs.Keeping.{IsKeptOf}
-use Rattle.event_graph.proofs.Kept.{agreement}
-use Rattle.ew_model.specs.Positions.{parent_positions}
-use Rattle.event_graph.proofs.graph.Graph.is_cut.Goals as goal
+use Rattle.event_graph.proofs.Kept.{parents_are}
+use Rattle.event_graph.proofs.graph.Graph.chain_start_near.Goals as goal
 
 pub returns : goal.returns
 returns c =
     let now = c.args.self.now in
     let inside = c.self.inside in
     let kept : IsKeptOf now inside.ids inside.events inside.heads inside.cuts = subst (λ (h : List Event). IsKeptOf h inside.ids inside.events inside.heads inside.cuts) c.self.view_is c.self.invariant in
-    c.is_cut.ensures (parent_positions now) kept.cuts_are ∙ (agreement now inside.ids inside.events inside.heads inside.cuts kept).cut c.args.k
+    subst (λ (lists : List (List ℕ)). IsChain lists c.chain_start_near.result c.args.lv) (parents_are now inside.ids inside.events inside.heads inside.cuts kept) c.chain_start_near.ensures.chain
