@@ -7,7 +7,7 @@ ghost use Rattle.ew_model.specs.File.{agents_of};
 ghost use Rattle.history_words.specs.Listings as model;
 
 use crate::lines::{push_event, push_id, push_number};
-use event_graph::Graph;
+use event_graph::{Graph, Near};
 use ew_model::NoMem;
 use ew_model::id::Id;
 use replica::Replica;
@@ -24,8 +24,9 @@ fn log_of(alloc: Global, graph: &Graph) -> Result<Vec<u8>, NoMem>
     ensures { IfOk result (λ text. text.items ≡ model.log_text graph.now) }
 {
     let mut text = Vec::new(alloc);
+    let mut near = Near::start();
     for lv in 0..graph.count() {
-        push_event(&mut text, &graph.event_at(lv)?)?;
+        push_event(&mut text, &graph.event_near(lv, &mut near)?)?;
     }
     Ok(text)
 }

@@ -7,7 +7,7 @@ ghost use Rattle.ew_model.specs.File.{agents_of, file_of, record_bytes, IsWritab
 ghost use Rattle.opened_files.specs.Places.{place_of, places_of};
 
 use event_file::{Agents, FileWriter};
-use event_graph::Graph;
+use event_graph::{Graph, Near};
 use ew_model::NoMem;
 use ew_model::id::Id;
 use frontier::Parentage;
@@ -31,8 +31,9 @@ fn agents_in(alloc: Global, graph: &Graph) -> Result<Agents, NoMem>
     ensures { IfOk result (λ agents. agents ≡ agents_of graph.now) }
 {
     let mut agents = Agents::new(alloc);
+    let mut near = Near::start();
     for lv in 0..graph.count() {
-        agents.add(&graph.id_at(lv).agent)?;
+        agents.add(&graph.id_near(lv, &mut near).agent)?;
     }
     Ok(agents)
 }
@@ -49,17 +50,20 @@ fn put_events(
     ensures { OnOk result (writer.new ≡ writer.old ++ flat_map (record_bytes graph.now) graph.now) }
 {
     let mut parents = Vec::new(alloc);
+    let mut near = Near::start();
     for lv in 0..graph.count() {
-        put_event(graph, agents, lv, &mut parents, writer)?;
+        put_event(graph, agents, lv, &mut near, &mut parents, writer)?;
     }
     Ok(())
 }
 
-/// Puts the record of the event at a position behind the others. `parents` is room for the positions of its parents.
+/// Puts the record of the event at a position behind the others. `near` tells where the event before it was found, and `parents`
+/// is room for the positions of its parents.
 fn put_event(
     graph: &Graph,
     agents: &Agents,
     lv: u32,
+    near: &mut Near,
     parents: &mut Vec<u32>,
     writer: &mut FileWriter,
 ) -> Result<(), NoMem>
@@ -68,23 +72,28 @@ fn put_event(
     requires within { lv < length graph.now }
     ensures { (e : Event) → slice_get graph.now lv ≡ Some e → OnOk result (writer.new ≡ writer.old ++ record_bytes graph.now e) }
 {
-    find_parents(graph, lv, parents)?;
-    let id = graph.id_at(lv);
+    find_parents(graph, lv, near, parents)?;
+    let id = graph.id_near(lv, near);
     let agent = agents.number_of(&id.agent);
-    let op = graph.op_at(lv);
+    let op = graph.op_near(lv, near);
     writer.put(agent, id.seq, parents, &op)
 }
 
 /// Leaves the positions of the parents of the event at a position, in the order of their ids.
-fn find_parents(graph: &Graph, lv: u32, found: &mut Vec<u32>) -> Result<(), NoMem>
+fn find_parents(graph: &Graph, lv: u32, near: &mut Near, found: &mut Vec<u32>) -> Result<(), NoMem>
     requires writable { IsWritable graph.now }
     requires within { lv < length graph.now }
     ensures { (e : Event) → slice_get graph.now lv ≡ Some e → OnOk result (found.new.items ≡ places_of graph.now e.parents) }
 {
     let _count = graph.count();
+    if graph.chain_start_near(lv, near) < lv {
+        found.clear();
+        found.push(lv - 1)?;
+        return Ok(());
+    }
     let positions = graph.parents_of(lv);
     if positions.len() > 1 {
-        let event = graph.event_at(lv)?;
+        let event = graph.event_near(lv, near)?;
         return find_all(graph, event.parents.as_slice(), found);
     }
     found.clear();

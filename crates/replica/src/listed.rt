@@ -2,7 +2,7 @@
 
 ghost use Rattle.std.specs.Prelude.{◌≡◌, IfOk};
 
-use event_graph::Graph;
+use event_graph::{Graph, Near};
 use ew_model::NoMem;
 use ew_model::event::Event;
 use std::alloc::Global;
@@ -13,8 +13,9 @@ pub fn listed(alloc: Global, graph: &Graph) -> Result<Vec<Event>, NoMem>
 {
     let count = graph.count();
     let mut events = Vec::with_capacity(alloc, count as usize)?;
+    let mut near = Near::start();
     for lv in 0..count {
-        events.push(graph.event_at(lv)?)?;
+        events.push(graph.event_near(lv, &mut near)?)?;
     }
     Ok(events)
 }

@@ -19,7 +19,7 @@ use Rattle.ew_model.specs.Records.{next_of, prepared_entries}
 use Rattle.ew_model.specs.Places.Act.{InsertAs, DeleteAt}
 use Rattle.ew_model.specs.Sound.{IsSound, AreSound}
 use Rattle.ew_model.specs.Tree.{Applied, act_by, tree_of}
-use Rattle.ew_model.specs.Verdicts.{IsGood, is_outside, graph_verdict, next_verdict}
+use Rattle.ew_model.specs.Verdicts.{is_outside, graph_verdict}
 use Rattle.ew_model.specs.Verdicts.Ruling.{Good}
 use Rattle.ew_model.specs.Walks.{base_at, walked_from}
 use Rattle.ew_model.proofs.EntryLaws.{LaidOut}
@@ -34,7 +34,7 @@ use Rattle.event_graph.proofs.Admitted.{admitted_at, laid, let_in}
 use Rattle.event_graph.proofs.Tails.{all_first, front_after}
 use Rattle.transform.specs.Answering.{turn_by}
 use Rattle.transform.specs.declared.apply.Turn.TheVariants as turn
-use Rattle.transform.specs.Reaching.{IsBehind, IsReady, IsReadyAt, Turned, over_since}
+use Rattle.transform.specs.Reaching.{IsReady, IsReadyAt, Turned, over_since}
 use Rattle.transform.proofs.CutFronts.{critical_take, knows_ids, same_base}
 use Rattle.transform.proofs.Judging.{good_more, in_range, out_of_range}
 use Rattle.transform.proofs.Sides.{length_front, take_next}

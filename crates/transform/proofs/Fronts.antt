@@ -1,5 +1,5 @@
 -- What the versions of a history know of its first events.
-use Rattle.std.proofs.Common.{◌≡◌, ℕ, zero, suc, ◌+◌, Bool, true, false, cond, ◌||◌, ◌≤◌, List, [], ◌∷◌, ◌++◌, length, take, drop, refl, sym, ap, ◌∙◌, subst, arith, append_assoc, append-nil}
+use Rattle.std.proofs.Common.{◌≡◌, ℕ, suc, ◌+◌, Bool, true, false, cond, ◌||◌, ◌≤◌, List, [], ◌∷◌, ◌++◌, length, take, drop, refl, sym, ap, ◌∙◌, subst, arith, append_assoc, append-nil}
 use Rattle.std.proofs.lemmas.List.{take-append-drop, take-append-le, drop-append-le, length-drop}
 use Rattle.std.proofs.lemmas.Bool.{false≢true, false_from_ne_true, or_left, or_parts}
 use Rattle.ew_model.specs.declared.id.Id.{Id}
@@ -14,7 +14,6 @@ use Rattle.ew_model.proofs.AncestorLaws.{NoneNamed, ancestors_before, version_ev
 use Rattle.ew_model.proofs.EntryLaws.{LaidOut, NoneHeld, none_held, ancestors_held, all_mapped}
 use Rattle.ew_model.proofs.ClearingLaw.{laid_rest}
 use Rattle.ew_model.proofs.CoverLaws.{ids_alike}
-use Rattle.ew_model.proofs.SortingLaws.{all_from}
 use Rattle.ew_model.proofs.GraphOrder.{other_name}
 use Rattle.transform.specs.Reaching.{prepared_since, over_since}
 use Rattle.transform.proofs.WalkedEvents.{unheld_later}

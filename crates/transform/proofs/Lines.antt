@@ -1,6 +1,6 @@
 -- An event at a critical cut, which knows all events before it, does to the text what it says.
-use Rattle.std.proofs.Common.{◌≡◌, ℕ, ◌+◌, ◌-◌, ◌<◌, ◌≤◌, true, false, Bool, ◌||◌, List, [], ◌∷◌, ◌++◌, length, map, take, drop, Some, refl, sym, ap, ◌∙◌, subst, arith}
-use Rattle.std.specs.Prelude.{slice_get, insert, remove}
+use Rattle.std.proofs.Common.{◌≡◌, ℕ, ◌+◌, ◌<◌, ◌≤◌, true, false, ◌||◌, List, [], ◌∷◌, ◌++◌, length, map, take, drop, Some, refl, sym, ap, ◌∙◌, subst, arith}
+use Rattle.std.specs.Prelude.{slice_get}
 use Rattle.std.proofs.lemmas.Bool.{ltb-false, leb-false}
 use Rattle.std.proofs.lemmas.List.{drop_all, length-take, length-take-le}
 use Rattle.std.proofs.lemmas.List.Edits.{length-insert, length-remove}
@@ -19,9 +19,8 @@ use Rattle.ew_model.specs.TextLaws.{own_change}
 use Rattle.ew_model.specs.Touches.{touches}
 use Rattle.ew_model.specs.TouchLaws.{prepared_from}
 use Rattle.ew_model.specs.Tree.{applied, tree, tree_on}
-use Rattle.ew_model.specs.Verdicts.{IsGood, is_outside, next_verdict}
-use Rattle.ew_model.specs.Verdicts.Ruling.{Good}
-use Rattle.ew_model.specs.Walks.{base_at, positions_among, walked_after, walked_from}
+use Rattle.ew_model.specs.Verdicts.{IsGood, is_outside}
+use Rattle.ew_model.specs.Walks.{base_at, positions_among, walked_after}
 use Rattle.ew_model.proofs.EntryLaws.{LaidOut, ancestors_held}
 use Rattle.ew_model.proofs.KeptLaws.{held_joined}
 use Rattle.ew_model.proofs.ListTests.{same_truth}

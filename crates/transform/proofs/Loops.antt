@@ -1,5 +1,5 @@
 -- How a walk begins, goes on and ends.
-use Rattle.std.proofs.Common.{◌≡◌, ℕ, zero, suc, ◌+◌, ◌-◌, ◌<◌, ◌≤◌, nat_eq, nat_lt, nat_le, Bool, true, false, cond, List, [], ◌∷◌, ◌++◌, length, take, drop, Option, Some, None, option_map, IfOk, Result, refl, sym, ap, ◌∙◌, subst, arith, length-append, append-nil, eq-eqb, ne_eqb}
+use Rattle.std.proofs.Common.{◌≡◌, ℕ, zero, suc, ◌+◌, ◌-◌, ◌<◌, ◌≤◌, nat_eq, nat_lt, nat_le, Bool, true, false, cond, List, [], ◌∷◌, ◌++◌, length, take, drop, Option, Some, None, IfOk, Result, refl, sym, ap, ◌∙◌, subst, arith, length-append, append-nil, eq-eqb, ne_eqb}
 use Rattle.std.specs.Prelude.{slice_get}
 use Rattle.std.proofs.lemmas.Bool.{leb-true, leb-false, ltb-true, ltb-false}
 use Rattle.std.proofs.lemmas.List.{take-append-drop, drop-append-le, drop_all, take_all, length-take-le}
@@ -11,7 +11,7 @@ use Rattle.ew_model.specs.Ids.{id_eq}
 use Rattle.ew_model.specs.Ancestors.{ids_of}
 use Rattle.ew_model.specs.Cuts.{is_critical, latest_cut}
 use Rattle.ew_model.specs.Entries.{visible}
-use Rattle.ew_model.specs.Operations.{operations_of, operations}
+use Rattle.ew_model.specs.Operations.{operations}
 use Rattle.ew_model.specs.Records.{applied_entries, prepared_entries}
 use Rattle.ew_model.specs.Tree.{Applied as Given, based, tree_of}
 use Rattle.ew_model.specs.Sound.{AreSound}

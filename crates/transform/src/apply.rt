@@ -6,7 +6,7 @@ ghost use Rattle.transform.specs.Reaching.{IsReadyAt, Turned};
 ghost use Rattle.transform.specs.Answering.{turn_by};
 
 use advance_retreat::{ApplyFault, State};
-use event_graph::Graph;
+use event_graph::{Graph, Near};
 use ew_model::NoMem;
 use ew_model::event::Op;
 use ew_model::steps::Steps;
@@ -23,11 +23,12 @@ pub enum Turn {
     OutOfRange(u32),
 }
 
-/// Applies the event at a position, whose ancestors are prepared.
+/// Applies the event at a position, whose ancestors are prepared. `near` tells where in the graph the last event was found.
 pub fn apply<L: Ledger>(
     graph: &Graph,
     state: &mut State,
     lv: u32,
+    near: &mut Near,
     steps: &mut Steps<L>,
 ) -> Result<Turn, NoMem>
     requires within { lv < length graph.now }
@@ -36,8 +37,11 @@ pub fn apply<L: Ledger>(
     ensures steps { steps.new ≡ steps.old + 1 }
 {
     let _count = graph.count();
-    match graph.op_at(lv) {
-        Op::Ins { at, ch } => turn_of(state.apply_ins(lv, graph.id_at(lv), at, ch, steps)),
+    match graph.op_near(lv, near) {
+        Op::Ins { at, ch } => {
+            let id = graph.id_near(lv, near);
+            turn_of(state.apply_ins(lv, id, at, ch, steps))
+        }
         Op::Del { at } => turn_of(state.apply_del(lv, at, steps)),
     }
 }

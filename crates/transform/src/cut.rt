@@ -11,7 +11,7 @@ ghost use Rattle.transform.specs.Reaching.{IsBehind, TurnedTo};
 
 use crate::apply::{Turn, apply};
 use advance_retreat::State;
-use event_graph::Graph;
+use event_graph::{Graph, Near};
 use ew_model::NoMem;
 use ew_model::event::Op;
 use ew_model::steps::Steps;
@@ -29,6 +29,7 @@ pub fn pass_cut<L: Ledger>(
     line: &mut Option<u32>,
     lv: u32,
     len: u32,
+    near: &mut Near,
     steps: &mut Steps<L>,
 ) -> Result<Turn, NoMem>
     requires within { lv < length graph.now }
@@ -39,8 +40,8 @@ pub fn pass_cut<L: Ledger>(
     ensures most { steps.new ≤ steps.old + 1 }
 {
     let _count = graph.count();
-    if stands_alone(graph, lv) {
-        if let Some((op, len)) = change_by(graph.op_at(lv), len) {
+    if stands_alone(graph, lv, near) {
+        if let Some((op, len)) = change_by(graph.op_near(lv, near), len) {
             steps.tick();
             *line = Some(len);
             return Ok(Turn::Applied(op));
@@ -48,16 +49,16 @@ pub fn pass_cut<L: Ledger>(
     }
     *state = State::base(alloc, len)?;
     *line = None;
-    apply(graph, state, lv, steps)
+    apply(graph, state, lv, near, steps)
 }
 
 /// Whether there are events behind the one at a position, which all know all events up to it.
-fn stands_alone(graph: &Graph, lv: u32) -> bool
+fn stands_alone(graph: &Graph, lv: u32, near: &mut Near) -> bool
     requires { lv < length graph.now }
     ensures { IsTrue result ↔ ((lv + 1 < length graph.now) × (is_critical graph.now (lv + 1) ≡ true)) }
 {
     let count = graph.count();
-    lv + 1 < count && graph.is_cut(lv + 1)
+    lv + 1 < count && graph.is_cut_near(lv + 1, near)
 }
 
 /// What an operation in range does to a text of so many characters, and the length after it.

@@ -13,7 +13,7 @@ use crate::cut::pass_cut;
 use crate::moves::{advance_all, retreat_all};
 use advance_retreat::State;
 use ancestors::Spans;
-use event_graph::Graph;
+use event_graph::{Graph, Near};
 use ew_model::NoMem;
 use ew_model::steps::Steps;
 use frontier::Parentage;
@@ -28,6 +28,7 @@ pub fn take_turn<L: Ledger>(
     state: &mut State,
     line: &mut Option<u32>,
     lv: u32,
+    near: &mut Near,
     steps: &mut Steps<L>,
 ) -> Result<Turn, NoMem>
     requires within { lv < length graph.now }
@@ -36,9 +37,9 @@ pub fn take_turn<L: Ledger>(
     ensures steps { (from : ℕ) → from ≤ lv → WalkedTo graph.now from lv line.old state.old → OnOk result (steps.new + touches (take lv graph.now) from ≡ steps.old + touches (take (lv + 1) graph.now) from) }
     ensures most { (from : ℕ) → from ≤ lv → WalkedTo graph.now from lv line.old state.old → steps.new + touches (take lv graph.now) from ≤ steps.old + touches (take (lv + 1) graph.now) from }
 {
-    match reach(graph, state, *line, lv, steps)? {
-        Some(len) => pass_cut(alloc, graph, state, line, lv, len, steps),
-        None => apply(graph, state, lv, steps),
+    match reach(graph, state, *line, lv, near, steps)? {
+        Some(len) => pass_cut(alloc, graph, state, line, lv, len, near, steps),
+        None => apply(graph, state, lv, near, steps),
     }
 }
 
@@ -49,6 +50,7 @@ fn reach<L: Ledger>(
     state: &mut State,
     line: Option<u32>,
     lv: u32,
+    near: &mut Near,
     steps: &mut Steps<L>,
 ) -> Result<Option<u32>, NoMem>
     requires within { lv < length graph.now }
@@ -62,8 +64,8 @@ fn reach<L: Ledger>(
     if line.is_some() {
         return Ok(line);
     }
-    prepare(graph, state, lv, steps)?;
-    if graph.is_cut(lv) {
+    prepare(graph, state, lv, near, steps)?;
+    if graph.is_cut_near(lv, near) {
         Ok(Some(state.prepared_len()))
     } else {
         Ok(None)
@@ -75,6 +77,7 @@ fn prepare<L: Ledger>(
     graph: &Graph,
     state: &mut State,
     lv: u32,
+    near: &mut Near,
     steps: &mut Steps<L>,
 ) -> Result<(), NoMem>
     requires within { lv < length graph.now }
@@ -84,7 +87,7 @@ fn prepare<L: Ledger>(
     ensures most { (from : ℕ) → from < lv → steps.new + touches (take lv graph.now) from + 1 ≤ steps.old + touches (take (lv + 1) graph.now) from }
 {
     let _count = graph.count();
-    if follows(graph, lv) {
+    if follows(graph, lv, near) {
         Ok(())
     } else {
         move_to(graph, state, lv, steps)
@@ -92,12 +95,12 @@ fn prepare<L: Ledger>(
 }
 
 /// Whether the one parent of the event at a position is the event before it.
-fn follows(graph: &Graph, lv: u32) -> bool
+fn follows(graph: &Graph, lv: u32, near: &mut Near) -> bool
     requires some { 0 < lv }
     requires within { lv < length graph.now }
     ensures { IsTrue result ↔ (parents_at (parent_positions graph.now) lv ≡ (lv - 1) ∷ []) }
 {
-    if graph.chain_start(lv) < lv {
+    if graph.chain_start_near(lv, near) < lv {
         return true;
     }
     let parents = graph.parents_of(lv);

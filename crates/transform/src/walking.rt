@@ -13,7 +13,7 @@ use crate::answer::Walk;
 use crate::apply::Turn;
 use crate::turn::take_turn;
 use advance_retreat::State;
-use event_graph::Graph;
+use event_graph::{Graph, Near};
 use ew_model::NoMem;
 use ew_model::steps::Steps;
 use ew_model::text_op::TextOp;
@@ -51,8 +51,9 @@ pub fn walk<L: Ledger>(
 {
     let mut ops = Vec::new(alloc);
     let mut line = Some(state.effect_len());
+    let mut near = Near::start();
     for lv in from_cut..graph.count() {
-        match take_turn(alloc, graph, state, &mut line, lv, steps)? {
+        match take_turn(alloc, graph, state, &mut line, lv, &mut near, steps)? {
             Turn::Applied(op) => emit(&mut ops, lv, emit_from, op)?,
             Turn::OutOfRange(len) => {
                 return Ok(Walk {

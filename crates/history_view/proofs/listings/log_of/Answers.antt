@@ -5,5 +5,5 @@ use Rattle.history_view.proofs.listings.log_of.Goals as goal
 
 pub loop-lv-preserved : goal.loop-lv-preserved
 loop-lv-preserved c =
-    c.in_ok-push_event.ensures ∙ ap (λ t. t ++ event_line c.in_ok-event_at.field-0) c.loop-lv.invariant
-    ∙ sym (log_next c.args.graph.now c.loop-lv.lv c.in_ok-event_at.field-0 c.in_ok-event_at.ensures)
+    c.in_ok-push_event.ensures ∙ ap (λ t. t ++ event_line c.in_ok-event_near.field-0) c.loop-lv.invariant
+    ∙ sym (log_next c.args.graph.now c.loop-lv.lv c.in_ok-event_near.field-0 c.in_ok-event_near.ensures)

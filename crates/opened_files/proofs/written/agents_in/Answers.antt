@@ -12,4 +12,4 @@ add-requires c =
 
 pub loop-lv-preserved : goal.loop-lv-preserved
 loop-lv-preserved c =
-    c.in_ok-add.ensures.ok ∙ ap (λ agents. with_name agents c.id_at.result.agent) c.loop-lv.invariant ∙ agents_next c.args.graph.now c.loop-lv.lv c.id_at.result c.id_at.ensures
+    c.in_ok-add.ensures.ok ∙ ap (λ agents. with_name agents c.id_near.result.agent) c.loop-lv.invariant ∙ agents_next c.args.graph.now c.loop-lv.lv c.id_near.result c.id_near.ensures

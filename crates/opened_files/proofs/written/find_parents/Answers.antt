@@ -1,4 +1,6 @@
-use Rattle.std.proofs.Common.{◌≡◌, ◌∙◌, ◌++◌, ◌≤◌, true, All, ap, sym, subst, length, arith}
+use Rattle.std.proofs.Common.{◌≡◌, ◌∙◌, ◌++◌, ◌∷◌, [], ◌-◌, ◌<◌, ◌≤◌, suc, true, All, ap, sym, subst, length, arith}
+use Rattle.std.proofs.lemmas.List.Elements.{All-cons, All-nil}
+use Rattle.ew_model.specs.Positions.{parent_positions, parents_at}
 use Rattle.ew_model.specs.declared.id.Id.{Id}
 use Rattle.ew_model.specs.Ancestors.{is_held}
 use Rattle.opened_files.specs.Places.{places_of}
@@ -16,4 +18,16 @@ returns c e at =
     let few : length positions ≤ 1 = omega (arith, c.if-len-gt1.false, c.len.ensures.value) in
     let same : positions ≡ places_of history e.parents =
     one_place history c.args.lv e positions c.requires.writable c.count-count.ensures.admitted at c.parents_of-positions.ensures.value c.parents_of-positions.ensures.lower.lower few in
-    c.in_ok-extend_from_slice.ensures.items ∙ (ap (λ xs. xs ++ c.as_slice-2.result.now) c.clear.ensures.items ∙ c.as_slice-2.ensures ∙ same)
+    c.in_ok-extend_from_slice.ensures.items ∙ (ap (λ xs. xs ++ c.as_slice-2.result.now) c.clear-2.ensures.items ∙ c.as_slice-2.ensures ∙ same)
+
+pub returns-then-chain_start_near-lv : goal.returns-then-chain_start_near-lv
+returns-then-chain_start_near-lv c e at =
+    let history = c.args.graph.now in
+    let lv = c.args.lv in
+    let low = c.if-chain_start_near-lv.true in
+    let next : suc (lv - 1) ≡ lv = omega (arith, low) in
+    let told : (lv - 1) ∷ [] ≡ parents_at (parent_positions history) lv =
+    sym (c.chain_start_near.ensures.links (lv - 1) (omega (arith, low)) (omega (arith, low))) ∙ ap (parents_at (parent_positions history)) next in
+    let lower : All (λ p. p < lv) ((lv - 1) ∷ []) = All-cons (λ p. p < lv) (lv - 1) [] (omega (arith, low)) (All-nil (λ p. p < lv)) in
+    let same = one_place history lv e ((lv - 1) ∷ []) c.requires.writable c.count-count.ensures.admitted at told lower (omega arith) in
+    c.in_ok-push.ensures.items ∙ (ap (λ xs. xs ++ (lv - 1) ∷ []) c.clear.ensures.items ∙ same)

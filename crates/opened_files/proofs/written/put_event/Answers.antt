@@ -17,7 +17,7 @@ pub number_of-agent-requires : goal.number_of-agent-requires
 number_of-agent-requires c =
     let history = c.args.graph.now in
     let here = element_there history c.args.lv c.requires.within in
-    let same = same_made (λ (e : Event). e.id) history c.args.lv here.0 c.id_at-id.result here.1 c.id_at-id.ensures in
+    let same = same_made (λ (e : Event). e.id) history c.args.lv here.0 c.id_near-id.result here.1 c.id_near-id.ensures in
     ap (λ (x : Id). list_any (name_eq x.agent) c.args.agents.now) same ∙ ap (list_any (name_eq here.0.id.agent)) c.requires.agents ∙ (asked history c.args.lv here.0 c.requires.writable here.1).agent
 
 pub put-requires : goal.put-requires
@@ -31,11 +31,11 @@ put-requires c =
 pub returns : goal.returns
 returns c e at =
     let history = c.args.graph.now in
-    let id = c.id_at-id.result in
-    let op = c.op_at-op.result in
+    let id = c.id_near-id.result in
+    let op = c.op_near-op.result in
     let parents = c.deref.result.now in
-    let same = same_made (λ (f : Event). f.id) history c.args.lv e id at c.id_at-id.ensures in
-    let same_op = same_made (λ (f : Event). f.op) history c.args.lv e op at c.op_at-op.ensures in
+    let same = same_made (λ (f : Event). f.id) history c.args.lv e id at c.id_near-id.ensures in
+    let same_op = same_made (λ (f : Event). f.op) history c.args.lv e op at c.op_near-op.ensures in
     let fields = ap (λ n. fields_of n id.seq parents op) (c.number_of-agent.ensures ∙ ap (position_or_len (name_eq id.agent)) c.requires.agents)
     ∙ ap (λ (x : Id). fields_of (position_or_len (name_eq x.agent) (agents_of history)) x.seq parents op) same
     ∙ ap (λ ps. fields_of (position_or_len (name_eq e.id.agent) (agents_of history)) e.id.seq ps op) (c.deref.ensures.value ∙ c.in_ok-find_parents.ensures e at)

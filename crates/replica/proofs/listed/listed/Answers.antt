@@ -8,7 +8,7 @@ pub loop-lv-preserved : goal.loop-lv-preserved
 loop-lv-preserved c =
     let now = c.args.graph.now in
     let lv = c.loop-lv.lv in
-    let e = c.in_ok-event_at.field-0 in
+    let e = c.in_ok-event_near.field-0 in
     let more : take (lv + 1) now ≡ take lv now ++ e ∷ [] =
-    take_more now lv e (slice_get_within now lv e c.in_ok-event_at.ensures) ∙ ap (λ (x : Event). take lv now ++ x ∷ []) (get_or_from_slice_get now lv e e c.in_ok-event_at.ensures) in
+    take_more now lv e (slice_get_within now lv e c.in_ok-event_near.ensures) ∙ ap (λ (x : Event). take lv now ++ x ∷ []) (get_or_from_slice_get now lv e e c.in_ok-event_near.ensures) in
     c.in_ok-push.ensures.items ∙ ap (λ es. es ++ e ∷ []) c.loop-lv.invariant ∙ sym more

@@ -1,4 +1,4 @@
-use Rattle.std.proofs.Common.{IfOk, refl, sym, subst, take, ◌∙◌}
+use Rattle.std.proofs.Common.{IfOk, sym, subst, take, ◌∙◌}
 use Rattle.ew_model.specs.Walks.{base_at, walked_from}
 use Rattle.ew_model.proofs.ListParts.{element_there}
 use Rattle.transform.specs.Reaching.{Turned, over_since}
@@ -15,7 +15,7 @@ apply_ins-requires g c =
     let found = element_there now lv c.requires.within in
     let e = found.0 in
     let r = ready now cut lv e c.args.state.now c.count-count.ensures.admitted c.count-count.ensures.sound found.1 c.requires.ready.1 in
-    (base_at front cut, walked_from front cut, over_since front cut e, r.stands, may_insert front cut e lv c.id_at.result r.low r.admitted (id_is now lv e c.id_at.result found.1 c.id_at.ensures) (length_front now lv e found.1))
+    (base_at front cut, walked_from front cut, over_since front cut e, r.stands, may_insert front cut e lv c.id_near-id.result r.low r.admitted (id_is now lv e c.id_near-id.result found.1 c.id_near-id.ensures) (length_front now lv e found.1))
 
 pub apply_del-requires : goal.apply_del-requires
 apply_del-requires g c =
@@ -37,11 +37,11 @@ returns-in-Ins-clause-turned g c = λ cut e is_ready at.
     let events = walked_from front cut in
     let over = over_since front cut e in
     let long = length_front now lv e at in
-    let id = id_is now lv e c.id_at.result at c.id_at.ensures in
+    let id = id_is now lv e c.id_near-id.result at c.id_near-id.ensures in
     let r = ready now cut lv e c.args.state.now c.count-count.ensures.admitted c.count-count.ensures.sound at is_ready in
-    let may = may_insert front cut e lv c.id_at.result r.low r.admitted id long in
+    let may = may_insert front cut e lv c.id_near-id.result r.low r.admitted id long in
     let answers =
-    insertion_answers front cut e c.args.state.now c.apply_ins.new.self c.apply_ins.result lv c.id_at.result c.in-Ins.at c.in-Ins.ch long id (op_is now lv e _ at c.op_at.ensures ∙ c.in-Ins.is)
+    insertion_answers front cut e c.args.state.now c.apply_ins.new.self c.apply_ins.result lv c.id_near-id.result c.in-Ins.at c.in-Ins.ch long id (op_is now lv e _ at c.op_near.ensures ∙ c.in-Ins.is)
     (c.apply_ins.ensures.op b events over r.stands may) (c.apply_ins.ensures.ok b events over r.stands may) (c.apply_ins.ensures.out_of_range b events over r.stands) c.apply_ins.ensures.err in
     subst (λ a. IfOk a (Turned front cut e c.apply_ins.new.self)) (sym c.turn_of.ensures) (turned front cut e c.args.state.now c.apply_ins.new.self c.apply_ins.result r answers)
 
@@ -57,6 +57,6 @@ returns-in-Del-clause-turned g c = λ cut e is_ready at.
     let r = ready now cut lv e c.args.state.now c.count-count.ensures.admitted c.count-count.ensures.sound at is_ready in
     let may = may_delete front cut lv r.low long in
     let answers =
-    deletion_answers front cut e c.args.state.now c.apply_del.new.self c.apply_del.result lv c.in-Del.at long (op_is now lv e _ at c.op_at.ensures ∙ c.in-Del.is)
+    deletion_answers front cut e c.args.state.now c.apply_del.new.self c.apply_del.result lv c.in-Del.at long (op_is now lv e _ at c.op_near.ensures ∙ c.in-Del.is)
     (c.apply_del.ensures.op b events over r.stands may) (c.apply_del.ensures.ok b events over r.stands may) (c.apply_del.ensures.out_of_range b events over r.stands) c.apply_del.ensures.err in
     subst (λ a. IfOk a (Turned front cut e c.apply_del.new.self)) (sym c.turn_of-in-Del.ensures) (turned front cut e c.args.state.now c.apply_del.new.self c.apply_del.result r answers)

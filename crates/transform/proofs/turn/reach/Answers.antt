@@ -1,4 +1,4 @@
-use Rattle.std.proofs.Common.{◌≡◌, ℕ, ◌-◌, take, true, false, arith, sym, ◌∙◌, subst}
+use Rattle.std.proofs.Common.{◌≡◌, ◌-◌, take, true, false, arith, sym, ◌∙◌, subst}
 use Rattle.ew_model.specs.Cuts.{latest_cut}
 use Rattle.ew_model.specs.Walks.{base_at, walked_from}
 use Rattle.ew_model.proofs.ListParts.{element_there, none_from_is_some}
@@ -26,20 +26,20 @@ returns-then-is_some-clause-most g c = λ from low walked.
 pub returns-in_err-prepare-clause-most : goal.returns-in_err-prepare-clause-most
 returns-in_err-prepare-clause-most g c = λ from low walked. c.prepare.ensures.most from (not_in_line c.args.graph.now from c.args.lv c.args.line c.args.state.now (sym c.is_some.ensures ∙ c.if-is_some.false) walked).0
 
-pub returns-then-is_cut-clause-steps : goal.returns-then-is_cut-clause-steps
-returns-then-is_cut-clause-steps g c = λ from low walked. c.in_ok-prepare.ensures.steps from (not_in_line c.args.graph.now from c.args.lv c.args.line c.args.state.now (sym c.is_some.ensures ∙ c.if-is_some.false) walked).0
+pub returns-then-is_cut_near-clause-steps : goal.returns-then-is_cut_near-clause-steps
+returns-then-is_cut_near-clause-steps g c = λ from low walked. c.in_ok-prepare.ensures.steps from (not_in_line c.args.graph.now from c.args.lv c.args.line c.args.state.now (sym c.is_some.ensures ∙ c.if-is_some.false) walked).0
 
-pub returns-then-is_cut-clause-most : goal.returns-then-is_cut-clause-most
-returns-then-is_cut-clause-most g c = λ from low walked. c.prepare.ensures.most from (not_in_line c.args.graph.now from c.args.lv c.args.line c.args.state.now (sym c.is_some.ensures ∙ c.if-is_some.false) walked).0
+pub returns-then-is_cut_near-clause-most : goal.returns-then-is_cut_near-clause-most
+returns-then-is_cut_near-clause-most g c = λ from low walked. c.prepare.ensures.most from (not_in_line c.args.graph.now from c.args.lv c.args.line c.args.state.now (sym c.is_some.ensures ∙ c.if-is_some.false) walked).0
 
-pub returns-else-is_cut-clause-steps : goal.returns-else-is_cut-clause-steps
-returns-else-is_cut-clause-steps g c = λ from low walked. c.in_ok-prepare.ensures.steps from (not_in_line c.args.graph.now from c.args.lv c.args.line c.args.state.now (sym c.is_some.ensures ∙ c.if-is_some.false) walked).0
+pub returns-else-is_cut_near-clause-steps : goal.returns-else-is_cut_near-clause-steps
+returns-else-is_cut_near-clause-steps g c = λ from low walked. c.in_ok-prepare.ensures.steps from (not_in_line c.args.graph.now from c.args.lv c.args.line c.args.state.now (sym c.is_some.ensures ∙ c.if-is_some.false) walked).0
 
-pub returns-else-is_cut-clause-most : goal.returns-else-is_cut-clause-most
-returns-else-is_cut-clause-most g c = λ from low walked. c.prepare.ensures.most from (not_in_line c.args.graph.now from c.args.lv c.args.line c.args.state.now (sym c.is_some.ensures ∙ c.if-is_some.false) walked).0
+pub returns-else-is_cut_near-clause-most : goal.returns-else-is_cut_near-clause-most
+returns-else-is_cut_near-clause-most g c = λ from low walked. c.prepare.ensures.most from (not_in_line c.args.graph.now from c.args.lv c.args.line c.args.state.now (sym c.is_some.ensures ∙ c.if-is_some.false) walked).0
 
-pub returns-then-is_cut-clause-ready : goal.returns-then-is_cut-clause-ready
-returns-then-is_cut-clause-ready g c = λ from walked.
+pub returns-then-is_cut_near-clause-ready : goal.returns-then-is_cut_near-clause-ready
+returns-then-is_cut_near-clause-ready g c = λ from walked.
     let now = c.args.graph.now in
     let lv = c.args.lv in
     let front = take lv now in
@@ -48,17 +48,17 @@ returns-then-is_cut-clause-ready g c = λ from walked.
     let e = found.0 in
     let reached = (not_in_line now from lv c.args.line c.args.state.now (sym c.is_some.ensures ∙ c.if-is_some.false) walked).1 in
     let moved = c.in_ok-prepare.ensures.moved cut e reached found.1 in
-    ready_at_cut now cut lv c.prepared_len.result e c.args.state.now c.prepare.new.state c.count-count.ensures.admitted c.count-count.ensures.sound found.1 (subst (λ b. b ≡ true) c.is_cut.ensures c.if-is_cut.true) reached moved
+    ready_at_cut now cut lv c.prepared_len.result e c.args.state.now c.prepare.new.state c.count-count.ensures.admitted c.count-count.ensures.sound found.1 (subst (λ b. b ≡ true) c.is_cut_near.ensures c.if-is_cut_near.true) reached moved
     (c.prepared_len.ensures (base_at now cut) (walked_from front cut) (over_since front cut e) moved)
 
-pub returns-else-is_cut-clause-ready : goal.returns-else-is_cut-clause-ready
-returns-else-is_cut-clause-ready g c = λ from walked.
+pub returns-else-is_cut_near-clause-ready : goal.returns-else-is_cut_near-clause-ready
+returns-else-is_cut_near-clause-ready g c = λ from walked.
     let now = c.args.graph.now in
     let lv = c.args.lv in
     let cut = latest_cut now (lv - 1) in
     let found = element_there now lv c.requires.within in
     let reached = (not_in_line now from lv c.args.line c.args.state.now (sym c.is_some.ensures ∙ c.if-is_some.false) walked).1 in
-    ready_between now lv found.0 c.args.state.now c.prepare.new.state found.1 (subst (λ b. b ≡ false) c.is_cut.ensures c.if-is_cut.false) reached (c.in_ok-prepare.ensures.moved cut found.0 reached found.1)
+    ready_between now lv found.0 c.args.state.now c.prepare.new.state found.1 (subst (λ b. b ≡ false) c.is_cut_near.ensures c.if-is_cut_near.false) reached (c.in_ok-prepare.ensures.moved cut found.0 reached found.1)
 
-pub returns-else-is_cut-clause-line : goal.returns-else-is_cut-clause-line
-returns-else-is_cut-clause-line g c = λ none. none_from_is_some c.args.line (sym c.is_some.ensures ∙ c.if-is_some.false)
+pub returns-else-is_cut_near-clause-line : goal.returns-else-is_cut_near-clause-line
+returns-else-is_cut_near-clause-line g c = λ none. none_from_is_some c.args.line (sym c.is_some.ensures ∙ c.if-is_some.false)
