@@ -226,7 +226,7 @@ impl<L: Ledger> Beside<L> {
 }
 
 /// What is known of a list's runs on the way from its end: the characters before them, and the next labels.
-#[derive(Clone, Copy, Debug)]
+#[derive(Clone, Copy)]
 struct Behind {
     prepared: u32,
     effect: u32,

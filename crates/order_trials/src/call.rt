@@ -4,7 +4,7 @@ use ew_model::node::Node;
 use walker_record::Record;
 
 /// What a run's characters are in both states.
-#[derive(Clone, Copy, Debug, PartialEq, Eq)]
+#[derive(Clone, Copy)]
 pub struct States {
     pub prepared: u32,
     pub effect: bool,
@@ -19,7 +19,7 @@ impl States {
 }
 
 /// A label: that of the run at a place, or the one behind it.
-#[derive(Clone, Copy, Debug, PartialEq, Eq)]
+#[derive(Clone, Copy)]
 pub struct Spot {
     pub place: usize,
     pub is_behind: bool,
@@ -34,7 +34,7 @@ impl Spot {
     }
 }
 
-#[derive(Clone, Copy, Debug, PartialEq, Eq)]
+#[derive(Clone, Copy)]
 pub enum Call {
     /// A run of so many new characters.
     InsertAfter {
@@ -60,7 +60,7 @@ pub enum Call {
     HasRoom(Spot),
 }
 
-#[derive(Clone, Copy, Debug, PartialEq, Eq)]
+#[derive(Clone, Copy, PartialEq)]
 pub enum Answer {
     /// The conditions of the call don't hold.
     Refused,
@@ -78,7 +78,7 @@ pub enum Answer {
 }
 
 /// An answer, and whether the plain list agrees.
-#[derive(Clone, Copy, Debug, PartialEq, Eq)]
+#[derive(Clone, Copy)]
 pub struct Told {
     pub answer: Answer,
     pub agrees: bool,

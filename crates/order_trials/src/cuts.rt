@@ -13,7 +13,7 @@ const FULL: u32 = 16;
 const HALF: u32 = 8;
 
 /// What came of the cuts: the levels before, and in how many trees there was a level more, and all runs in their places.
-#[derive(Clone, Copy, Debug)]
+#[derive(Clone, Copy)]
 struct Cuts {
     before: u32,
     deeper: u32,

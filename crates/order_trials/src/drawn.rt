@@ -118,7 +118,10 @@ fn draw_below(bound: usize, draws: &mut Draws) -> usize {
 /// A run of one character is looked up.
 fn draw_split(list: &Plain, draws: &mut Draws) -> Call {
     let place = draw_run(list.len(), draws);
-    let size = list.run_at(place).map_or(0, |run| run.len);
+    let size = match list.run_at(place) {
+        Some(run) => run.len,
+        None => 0,
+    };
     let at = draws.below(size.saturating_sub(1)).saturating_add(1);
     if at < size {
         Call::Split { place, at }

@@ -13,7 +13,7 @@ use std::sync::ledger::Ledger;
 use walker_record::Record;
 
 /// The characters of some runs, counted.
-#[derive(Clone, Copy, Debug, PartialEq, Eq)]
+#[derive(Clone, Copy)]
 struct Counts {
     known: u32,
     prepared: u32,

@@ -9,7 +9,7 @@ use std::alloc::Global;
 use walker_record::Record;
 
 /// The characters visible in what is prepared, or those in the text.
-#[derive(Clone, Copy, Debug, PartialEq, Eq)]
+#[derive(Clone, Copy)]
 enum Counted {
     Prepared,
     Effect,
@@ -56,11 +56,15 @@ impl Plain {
 
     /// The label of the run at a place, and 0 where there is none.
     pub fn label_at(&self, place: usize) -> u64 {
-        self.entry_at(place).map_or(0, |entry| entry.0)
+        match self.entry_at(place) {
+            Some((label, _)) => label,
+            None => 0,
+        }
     }
 
     pub fn run_at(&self, place: usize) -> Option<Record> {
-        self.entry_at(place).map(|entry| entry.1)
+        let (_, run) = self.entry_at(place)?;
+        Some(run)
     }
 
     pub fn label_of(&self, spot: Spot) -> u64 {
@@ -86,8 +90,10 @@ impl Plain {
     pub fn rises_at(&self, place: usize) -> bool {
         let label = self.label_at(place);
         let before = self.label_at(place.saturating_sub(1));
-        let behind = self.entry_at(place.saturating_add(1));
-        before < label && behind.is_none_or(|entry| label < entry.0)
+        match self.entry_at(place.saturating_add(1)) {
+            Some((next, _)) => before < label && label < next,
+            None => before < label,
+        }
     }
 
     pub fn insert_after(&mut self, place: usize, own: u64, run: Record) -> Result<(), NoMem> {
@@ -99,8 +105,10 @@ impl Plain {
 
     /// Whether the run at a place can be cut there.
     pub fn is_inside(&self, place: usize, at: u32) -> bool {
-        self.run_at(place)
-            .is_some_and(|run| 0 < at && at < run.size())
+        match self.run_at(place) {
+            Some(run) => 0 < at && at < run.size(),
+            None => false,
+        }
     }
 
     pub fn split(&mut self, place: usize, at: u32, own: u64) -> Result<(), NoMem> {

@@ -86,6 +86,12 @@ fn read_call(text: &str) -> Option<Call> {
         "split" => read_split(rest),
         "change" => read_change(rest),
         "relabel" => Some(Call::Relabel),
+        _ => read_question(name, rest),
+    }
+}
+
+fn read_question(name: &str, rest: &str) -> Option<Call> {
+    match name {
         "run" => Some(Call::Locate(read_place(rest)?)),
         "prepared" => Some(Call::FindPrepared(read_number(rest)?)),
         "effect" => Some(Call::FindEffect(read_number(rest)?)),

@@ -4,7 +4,7 @@ use crate::call::{Answer, Call, Told, number_of};
 use std::fmt;
 use walker_record::Record;
 
-#[derive(Clone, Copy, Debug)]
+#[derive(Clone, Copy)]
 struct Count {
     made: u32,
     agreed: u32,
@@ -58,6 +58,22 @@ impl Tally {
             has_room: Count::NONE,
             answers: 0,
         }
+    }
+
+    /// The count of each call, with its name.
+    fn named(&self) -> [(&'static str, Count); 10] {
+        [
+            ("insert_after", self.insert_after),
+            ("split", self.split),
+            ("change", self.change),
+            ("relabel", self.relabel),
+            ("locate", self.locate),
+            ("find_prepared", self.find_prepared),
+            ("find_effect", self.find_effect),
+            ("effect_before", self.effect_before),
+            ("next_known", self.next_known),
+            ("has_room", self.has_room),
+        ]
     }
 
     pub fn note(&mut self, call: Call, told: Told) {
@@ -116,27 +132,11 @@ impl Tally {
 
 impl fmt::Display for Tally {
     fn fmt<W: fmt::Write>(&self, f: &mut fmt::Formatter<W>) -> fmt::Result {
-        write!(
-            f,
-            "insert_after {}, split {}, ",
-            self.insert_after, self.split
-        )?;
-        write!(f, "change {}, relabel {}, ", self.change, self.relabel)?;
-        write!(
-            f,
-            "locate {}, find_prepared {}, ",
-            self.locate, self.find_prepared
-        )?;
-        write!(
-            f,
-            "find_effect {}, effect_before {}, ",
-            self.find_effect, self.effect_before
-        )?;
-        write!(
-            f,
-            "next_known {}, has_room {}; ",
-            self.next_known, self.has_room
-        )?;
-        write!(f, "answers {}", self.answers)
+        let mut parting = "";
+        for (name, count) in &self.named() {
+            write!(f, "{parting}{name} {count}")?;
+            parting = ", ";
+        }
+        write!(f, "; answers {}", self.answers)
     }
 }

@@ -9,7 +9,7 @@ use std::sync::ledger::Ledger;
 use walker_record::Record;
 
 /// Where the next character goes.
-#[derive(Clone, Copy, Debug, PartialEq, Eq)]
+#[derive(Clone, Copy)]
 pub enum Order {
     /// Behind the one before.
     Behind,
