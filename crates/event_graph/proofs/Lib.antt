@@ -18,3 +18,4 @@ pub mod Summing
 pub mod Tails
 pub mod Subgraphs
 pub mod SpanEvents
+pub mod MissingPlaces

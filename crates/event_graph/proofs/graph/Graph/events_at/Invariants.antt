@@ -1,0 +1,6 @@
+use Rattle.std.proofs.Common.{◌≡◌, take}
+use Rattle.event_graph.specs.Subgraphs.{events_at}
+use Rattle.event_graph.proofs.graph.Graph.events_at.Given as goal
+
+abbrev pub invariant-loop-lv : goal.invariant-loop-lv
+invariant-loop-lv l = l.events.items ≡ events_at l.self (take l.lv-index l.positions)
