@@ -15,6 +15,7 @@ pub mod Knowing
 pub mod LengthLaws
 pub mod LengthSteps
 pub mod NotOut
+pub mod OfferedPlaces
 pub mod PastTexts
 pub mod Received
 pub mod ReceivedCounts

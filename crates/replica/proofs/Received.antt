@@ -17,7 +17,7 @@ use Rattle.replica.specs.Counting.{Counted}
 use Rattle.replica.specs.Desks.{desk_of_replica}
 use Rattle.replica.specs.Fronts.{IsFront}
 use Rattle.replica.specs.Reaching.{Reaches}
-use Rattle.replica.specs.Receiving.{ComesTo, Receives, StopsBetween}
+use Rattle.replica.specs.Receiving.{ComesTo, Receives, StandsBetween, StopsBetween, state_at}
 use Rattle.history_words.specs.Tallies.{accepted_in}
 use Rattle.replica.proofs.RoundWays.{all_made}
 use Rattle.replica.proofs.Ways.{counts_joined, counts_none}
@@ -100,6 +100,15 @@ front_of_all limits n from to answers h =
     ∙ judgements_joined limits true n (most_judgements from) from
     ∙ ap (λ (o : Outcome). behind o.answers (judgements limits true (most_judgements from) o.desk)) h in
     (grown.0, ap (λ (o : Outcome). o.desk.held) all ∙ grown.1)
+
+-- what stands, where the rest isn't handed back
+pub stands_between : (old new : ReplicaState) (events : List Event) (c : Counted) → Reaches old.limits (desk_of_replica old events none_counted) (desk_of_replica new events c) none_counted c → new.limits ≡ old.limits → StandsBetween old events new
+unfolding arrive
+stands_between old new events c r limits = record {
+  number = r.number;
+  state = (λ i. record { limits = limits i; held = new.held; waiting = new.waiting }) ∙ ap (state_at old.limits) (sym r.judged);
+  front = front_of_all old.limits r.number (desk_of old.held old.waiting events) (desk_of_replica new events c) r.answers r.judged;
+}
 
 pub stops_between : (old new : ReplicaState) (events : List Event) (c : Counted) (stopped : Stopped) → Reaches old.limits (desk_of_replica old events none_counted) (desk_of_replica new events c) none_counted c → new.limits ≡ old.limits
     → IsTold (length old.held) new.held new.waiting c stopped.took → stopped.rest.items ≡ (desk_of_replica new events c).coming → StopsBetween old events new stopped

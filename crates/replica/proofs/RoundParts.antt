@@ -1,5 +1,5 @@
 -- The parts of a round, known by other names.
-use Rattle.std.proofs.Common.{◌≡◌, ℕ, Bool, false, List, take, length, Option, Some, None, Result, Ok, Err, OnOk, is_some, refl, sym, ap, ◌∙◌, subst}
+use Rattle.std.proofs.Common.{◌≡◌, ℕ, Bool, false, List, take, length, Option, Some, None, Result, Ok, Err, OnErr, OnOk, is_some, refl, sym, ap, ◌∙◌, subst}
 use Rattle.std.proofs.Math.Seq.{take-append_seam}
 use Rattle.std.proofs.lemmas.Bool.{false≢true}
 use Rattle.ew_model.specs.declared.event.Event.{Event}
@@ -28,6 +28,11 @@ begun_at limits out held graph events pool w c k to after b g p h l =
 pub on_ok : {T E P : Type 0} (r : Result T E) → P → OnOk r P
 on_ok (Ok x) p = p
 on_ok (Err e) p = tt
+
+-- and of one that is an error
+pub on_err : {T E P : Type 0} (r : Result T E) → P → OnErr r P
+on_err (Ok x) p = tt
+on_err (Err e) p = p
 
 -- an option that isn't Some is None
 pub none_by : (o : Option (ℕ × ℕ)) → is_some o ≡ false → o ≡ None

@@ -11,14 +11,13 @@ use Rattle.ew_model.specs.Ancestors.{ids_of, is_held, version_events, ancestors}
 use Rattle.ew_model.specs.Cuts.{are_among, is_critical}
 use Rattle.ew_model.specs.Sets.{Among}
 use Rattle.ew_model.specs.Touches.{number_outside, difference, touches, touches_after}
-use Rattle.ew_model.proofs.AncestorLaws.{among-append, parents_of, version_events-append, version_events_of_last}
+use Rattle.ew_model.proofs.AncestorLaws.{among-append, parents_of, version_events-append}
 use Rattle.ew_model.proofs.Clearing.{AllKnow}
 use Rattle.ew_model.proofs.ClearingLaw.{know_before, laid_rest}
 use Rattle.ew_model.proofs.CoverLaws.{among_here, event_of, held_by, ids_alike}
 use Rattle.ew_model.proofs.EntryLaws.{LaidOut, NoneHeld, ancestors_held, none_held}
 use Rattle.ew_model.proofs.GoodLaws.{good_laid_out}
 use Rattle.ew_model.proofs.GraphAlike.{laid_distinct, version_filtered}
-use Rattle.ew_model.proofs.IndexLaw.{unheld}
 use Rattle.ew_model.proofs.LocalEdit.{KnowsAll}
 use Rattle.ew_model.proofs.OperationLaws.{laid_part}
 use Rattle.ew_model.proofs.SetLaws.{joined_left, joined_right}

@@ -31,6 +31,12 @@ pub record ComesTo (old new : ReplicaState) (o : Outcome) (took : Took) : Type 0
 abbrev pub Receives : ReplicaState → List Event → ReplicaState → Took → Type 0
 Receives old events new took = ComesTo old new (arrive old.limits old.held old.waiting events) took
 
+-- Some judgements were made and no other. What is held is a front of what would be, were all judged.
+pub record StandsBetween (old : ReplicaState) (events : List Event) (new : ReplicaState) : Type 0 where
+  pub number : ℕ
+  pub state : new ≡ state_at old.limits (judgements old.limits true number (desk_of old.held old.waiting events))
+  pub front : IsFront new.held (arrive old.limits old.held old.waiting events).desk.held
+
 -- Some judgements were made and no other. What was answered by them is told, and the events that are still to come are handed
 -- back, in order: the events received are those that were settled and these. What is held is a front of what would be, were all judged.
 pub record StopsBetween (old : ReplicaState) (events : List Event) (new : ReplicaState) (stopped : Stopped) : Type 0 where

@@ -3,7 +3,7 @@
 ghost use Rattle.std.specs.Prelude.{◌≡◌, ℕ, List, ◌+◌, ◌≤◌, ◌<◌, ◌^◌, nat_le, true, false, length, find, Some, None, IfOk, OnOk, OnErr};
 ghost use Rattle.ew_model.specs.declared.event.Event.{Event};
 ghost use Rattle.ew_model.specs.Ancestors.{is_held};
-ghost use Rattle.ew_model.specs.Arrival.{is_ready, without_ready};
+ghost use Rattle.ew_model.specs.Arrival.{is_ready};
 ghost use Rattle.ew_model.specs.Kept.{AreFresh};
 ghost use Rattle.ew_model.specs.Verdicts as model;
 ghost use Rattle.replica.specs.Counting.{with_more};
@@ -15,7 +15,8 @@ ghost use Rattle.waiting_pool.specs.Waiting.{events_of};
 
 use crate::answer::{Answer, rule, unless_known};
 use crate::desk::Desk;
-use event_graph::Graph;
+use crate::offered::Offered;
+use event_graph::{Graph, Near};
 use ew_model::NoMem;
 use ew_model::event::Event;
 use ew_model::limits::Limits;
@@ -98,7 +99,8 @@ fn judge_next(
     out: Option<(u32, u32)>,
     graph: &mut Graph,
     desk: &mut Desk,
-    events: &[Event],
+    events: &Offered,
+    near: &mut Near,
 ) -> Result<Option<Answer>, NoMem>
     requires desk { IsDesk limits.now graph.old events.now desk.old.pool desk.old.progress }
     requires few { length events.now < 2 ^ 32 }
@@ -107,9 +109,9 @@ fn judge_next(
     ensures front { OnErr result (IsFront graph.old graph.new) }
 {
     if desk.progress.is_settling() {
-        judge_settling(limits, out, graph, desk, events)
+        judge_settling(limits, out, graph, desk, events, near)
     } else {
-        judge_received(limits, out, graph, desk, events)
+        judge_received(limits, out, graph, desk, events, near)
     }
 }
 
@@ -119,7 +121,8 @@ fn judge_settling(
     out: Option<(u32, u32)>,
     graph: &mut Graph,
     desk: &mut Desk,
-    events: &[Event],
+    events: &Offered,
+    near: &mut Near,
 ) -> Result<Option<Answer>, NoMem>
     requires desk { IsDesk limits.now graph.old events.now desk.old.pool desk.old.progress }
     requires few { length events.now < 2 ^ 32 }
@@ -131,7 +134,7 @@ fn judge_settling(
     let _waiting = desk.pool.len();
     match desk.pool.take_ready(graph)? {
         Some(e) => Ok(Some(judge(limits, out, graph, desk, &e)?)),
-        None => judge_received(limits, out, graph, desk, events),
+        None => judge_received(limits, out, graph, desk, events, near),
     }
 }
 
@@ -141,7 +144,8 @@ fn judge_received(
     out: Option<(u32, u32)>,
     graph: &mut Graph,
     desk: &mut Desk,
-    events: &[Event],
+    events: &Offered,
+    near: &mut Near,
 ) -> Result<Option<Answer>, NoMem>
     requires desk { IsDesk limits.now graph.old events.now desk.old.pool desk.old.progress }
     requires few { length events.now < 2 ^ 32 }
@@ -150,11 +154,11 @@ fn judge_received(
     ensures desk { OnOk result (IsDesk limits.now graph.new events.now desk.new.pool desk.new.progress) }
     ensures front { OnErr result (IsFront graph.old graph.new) }
 {
-    let Some(e) = events.get(desk.progress.judged()) else {
+    let Some(e) = events.get(desk.progress.judged(), near)? else {
         return Ok(None);
     };
     desk.progress.go_on();
-    Ok(Some(judge(limits, out, graph, desk, e)?))
+    Ok(Some(judge(limits, out, graph, desk, &e)?))
 }
 
 /// Makes judgements until none is left to make, or the event that is known to be out of range was answered. Answers whether it
@@ -164,7 +168,7 @@ pub fn judge_all(
     out: Option<(u32, u32)>,
     graph: &mut Graph,
     desk: &mut Desk,
-    events: &[Event],
+    events: &Offered,
 ) -> Result<bool, NoMem>
     requires desk { IsDesk limits.now graph.old events.now desk.old.pool desk.old.progress }
     requires few { length events.now < 2 ^ 32 }
@@ -172,7 +176,8 @@ pub fn judge_all(
     ensures desk { OnOk result (IsDesk limits.now graph.new events.now desk.new.pool desk.new.progress) }
     ensures front { IsFront graph.old graph.new }
 {
-    while let Some(answer) = judge_next(limits, out, graph, desk, events)? {
+    let mut near = Near::start();
+    while let Some(answer) = judge_next(limits, out, graph, desk, events, &mut near)? {
         if is_stop(answer) {
             return Ok(true);
         }

@@ -17,9 +17,9 @@ ghost use Rattle.waiting_pool.specs.Waiting.{events_of};
 use crate::desk::{Desk, Progress};
 use crate::judging::judge_all;
 use crate::lengths::{length_below, write};
+use crate::offered::Offered;
 use event_graph::Graph;
 use ew_model::NoMem;
-use ew_model::event::Event;
 use ew_model::limits::Limits;
 use ew_model::steps::Steps;
 use rope::Rope;
@@ -37,7 +37,7 @@ pub fn round<L: Ledger>(
     lengths: &mut Vec<u32>,
     pool: &Pool,
     progress: &Progress,
-    events: &[Event],
+    events: &Offered,
     steps: &mut Steps<L>,
 ) -> Result<(Desk, bool), NoMem>
     requires desk { IsDesk limits.now graph.old events.now pool.now progress.now }
@@ -75,7 +75,7 @@ fn try_round<L: Ledger>(
     lengths: &mut Vec<u32>,
     pool: &Pool,
     progress: &Progress,
-    events: &[Event],
+    events: &Offered,
     steps: &mut Steps<L>,
 ) -> Result<(Desk, bool), NoMem>
     requires desk { IsDesk limits.now graph.old events.now pool.now progress.now }
@@ -106,7 +106,7 @@ fn reach<L: Ledger>(
     lengths: &[u32],
     pool: &Pool,
     progress: &Progress,
-    events: &[Event],
+    events: &Offered,
     steps: &mut Steps<L>,
 ) -> Result<(Desk, Walk), NoMem>
     requires desk { IsDesk limits.now graph.old events.now pool.now progress.now }
@@ -140,7 +140,7 @@ fn look<L: Ledger>(
     graph: &mut Graph,
     lengths: &[u32],
     desk: &mut Desk,
-    events: &[Event],
+    events: &Offered,
     steps: &mut Steps<L>,
 ) -> Result<Walk, NoMem>
     requires desk { IsDesk limits.now graph.old events.now desk.old.pool desk.old.progress }

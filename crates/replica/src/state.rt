@@ -1,6 +1,7 @@
 //! The replica itself.
 
 ghost use Rattle.std.specs.Prelude.{◌≡◌, ◌+◌, ◌≤◌, ◌<◌, ◌^◌, [], ◌++◌, drop, length, take, None, Some, true, false, IfOk, IfErr, OnOk, OnErr, encode_utf8_all, ◌↔◌, IsTrue};
+ghost use Rattle.std.specs.List.{All};
 ghost use Rattle.std.specs.Option.{option_and_then};
 ghost use Rattle.std.specs.Str.{chars};
 ghost use Rattle.ew_model.specs.Ancestors.{heads, version_events};
@@ -18,16 +19,16 @@ ghost use Rattle.ew_model.specs.Sorting.{sort_by};
 ghost use Rattle.ew_model.specs.Texts.{text_at, text_of};
 ghost use Rattle.ew_model.specs.TouchLaws.{NoneOutOfRange};
 ghost use Rattle.ew_model.specs.Touches.{touches};
-ghost use Rattle.ew_model.specs.Verdicts.{IsGood, first_bad, first_unknown};
+ghost use Rattle.ew_model.specs.Verdicts.{first_bad, first_unknown};
+ghost use Rattle.event_graph.specs.Subgraphs.{events_at};
 ghost use Rattle.replica.specs.Answers.{EditsBy, Loads, refusal_of};
 ghost use Rattle.replica.specs.Appending.{CanAppend};
-ghost use Rattle.replica.specs.Counting.{Counted};
 ghost use Rattle.replica.specs.Desks.{desk_of_replica, IsBegun};
 ghost use Rattle.replica.specs.Editing.{edit_view};
 ghost use Rattle.replica.specs.Keeping.{head_positions};
 ghost use Rattle.replica.specs.Lengths.{prefix_lengths};
 ghost use Rattle.replica.specs.Reaching.{Reaches};
-ghost use Rattle.replica.specs.Receiving.{Receives, StopsBetween};
+ghost use Rattle.replica.specs.Receiving.{Receives, StandsBetween, StopsBetween};
 ghost use Rattle.replica.specs.Refusing.{refusal_by};
 ghost use Rattle.waiting_pool.specs.Waiting.{events_of};
 
@@ -41,6 +42,7 @@ use crate::lengths::length_below;
 use crate::listed::listed;
 use crate::loading::given;
 use crate::made::events_by;
+use crate::offered::Offered;
 use crate::past::text_at;
 use crate::rounds::round;
 use crate::took::{Stopped, Took};
@@ -173,7 +175,8 @@ impl Replica {
     {
         let before = self.count();
         let mut progress = Progress::new(self.alloc);
-        match self.receive_all(&events, &mut progress, steps) {
+        let offered = Offered::listed(&events);
+        match self.receive_all(&offered, &mut progress, steps) {
             Ok(()) => Ok(self.took(progress, before)),
             Err(_) => {
                 let rest = rest(events, progress.judged());
@@ -183,10 +186,32 @@ impl Replica {
         }
     }
 
+    /// Receives the events at some positions of another graph, as `receive` does, but that no list of them is made. For want of
+    /// memory receiving stops between two judgements, and what was judged stands; nothing is told of it then, or handed back.
+    pub fn receive_from<L: Ledger>(
+        &mut self,
+        other: &Graph,
+        positions: &[u32],
+        steps: &mut Steps<L>,
+    ) -> Result<Took, NoMem>
+        requires within { All (λ p. p < length other.now) positions.now }
+        requires few { length positions.now < 2 ^ 32 }
+        ensures received { IfOk result (Receives self.old (events_at other.now positions.now) self.new) }
+        ensures stands { OnErr result (StandsBetween self.old (events_at other.now positions.now) self.new) }
+        ensures touches { IfOk result (λ took. NoneOutOfRange (arrive self.old.limits self.old.held self.old.waiting (events_at other.now positions.now)).answers → steps.new ≡ steps.old + touches self.new.held took.cut) }
+        ensures most { steps.new ≤ steps.old + most_touches self.old.limits self.old.held self.old.waiting (events_at other.now positions.now) }
+    {
+        let before = self.count();
+        let mut progress = Progress::new(self.alloc);
+        let offered = Offered::held(other, positions);
+        self.receive_all(&offered, &mut progress, steps)?;
+        Ok(self.took(progress, before))
+    }
+
     /// Goes through rounds until nothing is left to judge. For want of memory it stops between two of them.
     fn receive_all<L: Ledger>(
         &mut self,
-        events: &[Event],
+        events: &Offered,
         progress: &mut Progress,
         steps: &mut Steps<L>,
     ) -> Result<(), NoMem>
@@ -206,7 +231,7 @@ impl Replica {
     /// One round. Answers whether there is more to do.
     fn round<L: Ledger>(
         &mut self,
-        events: &[Event],
+        events: &Offered,
         progress: &mut Progress,
         steps: &mut Steps<L>,
     ) -> Result<bool, NoMem>
@@ -332,6 +357,21 @@ impl Replica {
         ensures kept { IsKept self.now.limits self.now.held self.now.waiting }
     {
         &self.graph
+    }
+
+    /// The events held, as a graph. The rest isn't needed any more.
+    pub fn into_graph(self) -> Graph
+        ensures { result ≡ self.held }
+    {
+        let Replica {
+            alloc: _,
+            limits: _,
+            graph,
+            text: _,
+            lengths: _,
+            pool: _,
+        } = self;
+        graph
     }
 
     /// How many events are held.

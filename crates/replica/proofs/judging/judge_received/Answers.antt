@@ -1,5 +1,9 @@
-use Rattle.std.proofs.Common.{◌≡◌, ◌∙◌, ◌+◌, false, [], option_map, length, drop, nat_le, refl, sym, ap}
+use Rattle.std.proofs.Common.{◌≡◌, ◌∙◌, ◌+◌, false, [], Option, option_map, get_or, length, drop, nat_le, refl, sym, ap, subst}
 use Rattle.std.proofs.lemmas.List.{drop_all}
+use Rattle.std.specs.Cow.{cow_value}
+use Rattle.std.specs.List.{ItemBy}
+use Rattle.std.specs.declared.borrow.Cow.{Cow}
+use Rattle.ew_model.specs.declared.event.Event.{Event}
 use Rattle.ew_model.specs.Verdicts.{verdict}
 use Rattle.waiting_pool.specs.Waiting.{events_of}
 use Rattle.replica.specs.Counting.{Counted, one_judged, with_more}
@@ -11,8 +15,9 @@ pub returns-in_default-clause-judged : goal.returns-in_default-clause-judged
 returns-in_default-clause-judged c =
     let a = c.args in
     let d = desk_as a.graph.now a.events.now a.desk.now in
+    let past = subst (λ (o : Option (Cow Event)). ItemBy cow_value a.events.now c.judged.result c.judged.result o) c.in_default.is c.in_ok-e.ensures in
     let none : drop a.desk.now.progress.judged a.events.now ≡ [] =
-    ap (λ n. drop n a.events.now) (sym c.judged.ensures) ∙ drop_all c.judged.result a.events.now c.in_default.ensures.lookup.3 in
+    ap (λ n. drop n a.events.now) (sym c.judged.ensures) ∙ drop_all c.judged.result a.events.now past.3 in
     (ap (option_map (with_known a.out d)) (coming_none a.limits.now false d c.requires.none none), refl, refl)
 
 pub returns-clause-judged : goal.returns-clause-judged
@@ -22,12 +27,14 @@ returns-clause-judged c =
     let pool = a.desk.now.pool in
     let before = a.desk.now.progress in
     let events = a.events.now in
-    let e = c.in-Some.e.now in
+    let e = c.deref.result.now in
     let given = c.in_ok-judge.field-0 in
     let told = c.in_ok-judge.ensures in
     let d = desk_as held events a.desk.now in
     let v = verdict a.limits.now false held (events_of pool) e in
-    let coming = next_coming events before.judged c.judged.result e c.judged.ensures c.in-Some.ensures.lookup.3.0 c.in-Some.ensures.lookup.1 in
+    let there = subst (λ (o : Option (Cow Event)). ItemBy cow_value events c.judged.result c.judged.result o) c.in-Some.is c.in_ok-e.ensures in
+    let read = subst (λ (x : Event). x ≡ get_or events c.judged.result x) (sym c.deref.ensures) there.1 in
+    let coming = next_coming events before.judged c.judged.result e c.judged.ensures there.3.0 read in
     let after : c.judge.new.desk.progress ≡ with_more (one_judged before) (repeats_at given) (refused_at e.id given) =
     told.progress ∙ ap (λ (k : Counted). with_more k (repeats_at given) (refused_at e.id given)) c.go_on.ensures in
     judges a.limits.now a.out d (desk_as c.judge.new.graph events c.judge.new.desk) before c.judge.new.desk.progress (events_of pool) (drop (before.judged + 1) events) e v given

@@ -10,7 +10,7 @@ use Rattle.replica.proofs.state.Replica.receive.Goals as goal
 pub took-requires : goal.took-requires
 took-requires g c =
     let old = c.args.self.now in
-    let r = reached old c.receive_all.new.self c.deref.result.now c.args.events.items c.new-progress.result c.receive_all.new.progress c.new-progress.ensures c.deref.ensures.value c.receive_all.ensures.reaches in
+    let r = reached old c.receive_all.new.self c.listed-offered.result c.args.events.items c.new-progress.result c.receive_all.new.progress c.new-progress.ensures (c.listed-offered.ensures ∙ c.deref.ensures.value) c.receive_all.ensures.reaches in
     let more = more_held old c.receive_all.new.self c.args.events.items c.receive_all.new.progress r in
     let before = c.count-before.ensures in
     omega (arith, more, before)
@@ -18,7 +18,7 @@ took-requires g c =
 pub took-took-requires : goal.took-took-requires
 took-took-requires g c =
     let old = c.args.self.now in
-    let r = reached old c.receive_all.new.self c.deref.result.now c.args.events.items c.new-progress.result c.receive_all.new.progress c.new-progress.ensures c.deref.ensures.value c.receive_all.ensures.reaches in
+    let r = reached old c.receive_all.new.self c.listed-offered.result c.args.events.items c.new-progress.result c.receive_all.new.progress c.new-progress.ensures (c.listed-offered.ensures ∙ c.deref.ensures.value) c.receive_all.ensures.reaches in
     let more = more_held old c.receive_all.new.self c.args.events.items c.receive_all.new.progress r in
     let before = c.count-before.ensures in
     omega (arith, more, before)
@@ -29,8 +29,8 @@ returns-in-Ok-clause-received g c =
     let new = c.receive_all.new.self in
     let counted = c.receive_all.new.progress in
     let events = c.args.events.items in
-    let r = reached old new c.deref.result.now events c.new-progress.result counted c.new-progress.ensures c.deref.ensures.value c.receive_all.ensures.reaches in
-    let end : next_judgement old.limits true (desk_of_replica new events counted) ≡ None = ap (λ (es : List Event). next_judgement old.limits true (desk_of_replica new es counted)) (sym c.deref.ensures.value) ∙ c.in-Ok.ensures.ends in
+    let r = reached old new c.listed-offered.result events c.new-progress.result counted c.new-progress.ensures (c.listed-offered.ensures ∙ c.deref.ensures.value) c.receive_all.ensures.reaches in
+    let end : next_judgement old.limits true (desk_of_replica new events counted) ≡ None = ap (λ (es : List Event). next_judgement old.limits true (desk_of_replica new es counted)) (sym (c.listed-offered.ensures ∙ c.deref.ensures.value)) ∙ c.in-Ok.ensures.ends in
     let now = c.took.ensures in
     let told : IsTold (length old.held) new.held new.waiting counted c.took.result =
     subst (λ n. IsTold n new.held new.waiting counted c.took.result) c.count-before.ensures (record { accepted = now.accepted; waits = now.waiting; repeats = now.repeats; refused = now.refused; cut = now.cut }) in
@@ -42,7 +42,7 @@ returns-in-Err-clause-stopped g c =
     let new = c.receive_all.new.self in
     let counted = c.receive_all.new.progress in
     let events = c.args.events.items in
-    let r = reached old new c.deref.result.now events c.new-progress.result counted c.new-progress.ensures c.deref.ensures.value c.receive_all.ensures.reaches in
+    let r = reached old new c.listed-offered.result events c.new-progress.result counted c.new-progress.ensures (c.listed-offered.ensures ∙ c.deref.ensures.value) c.receive_all.ensures.reaches in
     let now = c.took-took.ensures in
     let told : IsTold (length old.held) new.held new.waiting counted c.took-took.result =
     subst (λ n. IsTold n new.held new.waiting counted c.took-took.result) c.count-before.ensures (record { accepted = now.accepted; waits = now.waiting; repeats = now.repeats; refused = now.refused; cut = now.cut }) in
@@ -55,18 +55,18 @@ returns-in-Ok-clause-touches g c none =
     let new = c.receive_all.new.self in
     let counted = c.receive_all.new.progress in
     let events = c.args.events.items in
-    let r = reached old new c.deref.result.now events c.new-progress.result counted c.new-progress.ensures c.deref.ensures.value c.receive_all.ensures.reaches in
-    let end : next_judgement old.limits true (desk_of_replica new events counted) ≡ None = ap (λ (es : List Event). next_judgement old.limits true (desk_of_replica new es counted)) (sym c.deref.ensures.value) ∙ c.in-Ok.ensures.ends in
+    let r = reached old new c.listed-offered.result events c.new-progress.result counted c.new-progress.ensures (c.listed-offered.ensures ∙ c.deref.ensures.value) c.receive_all.ensures.reaches in
+    let end : next_judgement old.limits true (desk_of_replica new events counted) ≡ None = ap (λ (es : List Event). next_judgement old.limits true (desk_of_replica new es counted)) (sym (c.listed-offered.ensures ∙ c.deref.ensures.value)) ∙ c.in-Ok.ensures.ends in
     let now = c.took.ensures in
     let told : IsTold (length old.held) new.held new.waiting counted c.took.result =
     subst (λ n. IsTold n new.held new.waiting counted c.took.result) c.count-before.ensures (record { accepted = now.accepted; waits = now.waiting; repeats = now.repeats; refused = now.refused; cut = now.cut }) in
     let is : Receives old events new c.took.result = receives old new events counted c.took.result r c.receive_all.ensures.limits end told in
-    touches_taken old new c.deref.result.now events c.new-progress.result c.took.result c.args.steps.now c.receive_all.new.steps c.new-progress.ensures c.deref.ensures.value none is c.in-Ok.ensures.touches
+    touches_taken old new c.listed-offered.result events c.new-progress.result c.took.result c.args.steps.now c.receive_all.new.steps c.new-progress.ensures (c.listed-offered.ensures ∙ c.deref.ensures.value) none is c.in-Ok.ensures.touches
 
 pub returns-in-Ok-clause-most : goal.returns-in-Ok-clause-most
 returns-in-Ok-clause-most g c =
-    most_taken c.args.self.now c.deref.result.now c.args.events.items c.new-progress.result c.args.steps.now c.receive_all.new.steps c.new-progress.ensures c.deref.ensures.value c.receive_all.ensures.most
+    most_taken c.args.self.now c.listed-offered.result c.args.events.items c.new-progress.result c.args.steps.now c.receive_all.new.steps c.new-progress.ensures (c.listed-offered.ensures ∙ c.deref.ensures.value) c.receive_all.ensures.most
 
 pub returns-in-Err-clause-most : goal.returns-in-Err-clause-most
 returns-in-Err-clause-most g c =
-    most_taken c.args.self.now c.deref.result.now c.args.events.items c.new-progress.result c.args.steps.now c.receive_all.new.steps c.new-progress.ensures c.deref.ensures.value c.receive_all.ensures.most
+    most_taken c.args.self.now c.listed-offered.result c.args.events.items c.new-progress.result c.args.steps.now c.receive_all.new.steps c.new-progress.ensures (c.listed-offered.ensures ∙ c.deref.ensures.value) c.receive_all.ensures.most
