@@ -1,8 +1,11 @@
 -- What receiving the events that are lacking comes to, where the others are repeats.
-use Rattle.std.proofs.Common.{◌≡◌, ◌≤◌, ℕ, ◌+◌, ⊎_elim, List, [], ◌++◌, length, sym, ap, ◌∙◌, subst, arith}
+use Rattle.std.proofs.Common.{◌≡◌, ◌≤◌, ℕ, ◌+◌, true, cond, nat_le, ⊎_elim, List, [], ◌∷◌, ◌++◌, length, refl, sym, ap, ◌∙◌, subst, arith}
+use Rattle.std.specs.List.{IsDistinct}
+use Rattle.std.proofs.lemmas.Bool.{true_from_ne_false, leb-false}
 use Rattle.ew_model.specs.declared.event.Event.{Event}
 use Rattle.ew_model.specs.ArrivalLaw.{NoneReady, OneEach}
 use Rattle.ew_model.specs.Cuts.{latest_cut}
+use Rattle.ew_model.specs.Ids.{name_eq}
 use Rattle.ew_model.specs.Kept.{IsKept, ReplicaState}
 use Rattle.ew_model.specs.Rounds.{most_touches}
 use Rattle.ew_model.specs.Sets.{Among}
@@ -84,3 +87,15 @@ module _ (old other : ReplicaState) (held known events : List Event) (counts : L
       let long = ap (λ (w : List Event). length w) offered in
       let fewer = no_more old.held other.held in
       omega (arith, long, fewer)
+
+-- no counts leave all out
+pub all_missing : (history : List Event) → missing history [] ≡ history
+all_missing [] = refl
+all_missing (e ∷ history) =
+    let left : nat_le 0 e.id.seq ≡ true = true_from_ne_false (nat_le 0 e.id.seq) (λ no. omega (arith, leb-false 0 e.id.seq no)) in
+    ap (λ b. cond b (e ∷ missing history []) (missing history [])) left ∙ ap (λ (es : List Event). e ∷ es) (all_missing history)
+
+-- and no agent stands twice in none
+pub none_twice : IsDistinct name_eq []
+unfolding IsDistinct
+none_twice = tt

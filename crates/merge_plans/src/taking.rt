@@ -1,13 +1,15 @@
 //! Receiving the events of another replica.
 ghost use Rattle.std.specs.Prelude.{◌≡◌, ◌<◌, ◌≤◌, ◌+◌, ◌^◌, [], ◌++◌, length, IfOk};
+ghost use Rattle.std.specs.List.{All};
 ghost use Rattle.arrival_laws.specs.Repeats.{without_held};
 ghost use Rattle.ew_model.specs.ArrivalLaw.{OneEach};
 ghost use Rattle.ew_model.specs.Rounds.{most_touches};
+ghost use Rattle.event_graph.specs.Subgraphs.{events_at};
 ghost use Rattle.replica.specs.Receiving.{Receives};
 
 use agreement::are_consistent;
+use event_graph::Graph;
 use ew_model::NoMem;
-use ew_model::event::Event;
 use ew_model::steps::Steps;
 use replica::{Replica, Took};
 use std::sync::ledger::Ledger;
@@ -26,8 +28,8 @@ pub fn take<L: Ledger>(
     if are_consistent(other.graph(), replica.graph()) {
         take_lacking(replica, other, steps)
     } else {
-        let events = events_of(other)?;
-        receive_events(replica, events, steps)
+        let offer = offer_of_all(other)?;
+        receive_offer(replica, &offer, steps)
     }
 }
 
@@ -42,53 +44,66 @@ fn take_lacking<L: Ledger>(
     ensures received { IfOk result (Receives replica.old other.held replica.new) }
     ensures most { steps.new ≤ steps.old + most_touches replica.old.limits replica.old.held [] other.held }
 {
-    let Offer { lacking, held } = offer_of(replica, other)?;
-    let mut took = receive_events(replica, lacking, steps)?;
-    took.repeats += held;
+    let offer = offer_of(replica, other)?;
+    let mut took = receive_offer(replica, &offer, steps)?;
+    took.repeats += offer.held;
     Ok(took)
 }
 
-/// What another replica has: the events that are lacking here, and how many others.
+/// What another replica has: the positions of the events that are to be received in its graph, and how many others there are.
 #[derive(Drop)]
 struct Offer {
-    lacking: Vec<Event>,
+    graph: Graph,
+    positions: Vec<u32>,
     held: u32,
 }
 
-/// What another replica has. It isn't needed any more.
+/// What another replica has that is lacking here. The rest of the other replica isn't needed any more.
 fn offer_of(replica: &Replica, other: Replica) -> Result<Offer, NoMem>
-    ensures lacking { IfOk result (λ o. o.lacking.items ≡ without_held replica.now.held other.held) }
-    ensures held { IfOk result (λ o. o.held + length o.lacking.items ≡ length other.held) }
+    ensures within { IfOk result (λ o. All (λ p. p < length o.graph) o.positions.items) }
+    ensures lacking { IfOk result (λ o. events_at o.graph o.positions.items ≡ without_held replica.now.held other.held) }
+    ensures held { IfOk result (λ o. o.held + length (events_at o.graph o.positions.items) ≡ length other.held) }
+    ensures short { IfOk result (λ o. length o.positions.items < 2 ^ 32) }
     ensures few { IfOk result (λ o. length other.held < 2 ^ 32) }
 {
     let count = other.count();
     let known = replica.graph().summary()?;
-    let lacking = other.graph().missing(&known)?;
-    let held = count - lacking.len() as u32;
-    Ok(Offer { lacking, held })
+    let graph = other.into_graph();
+    let positions = graph.missing_positions(&known)?;
+    let held = count - positions.len() as u32;
+    Ok(Offer {
+        graph,
+        positions,
+        held,
+    })
 }
 
-/// The events of a replica that isn't needed any more.
-fn events_of(replica: Replica) -> Result<Vec<Event>, NoMem>
-    ensures events { IfOk result (λ v. v.items ≡ replica.held) }
-    ensures few { IfOk result (λ v. length v.items < 2 ^ 32) }
+/// All that another replica holds. The rest of it isn't needed any more.
+fn offer_of_all(other: Replica) -> Result<Offer, NoMem>
+    ensures within { IfOk result (λ o. All (λ p. p < length o.graph) o.positions.items) }
+    ensures all { IfOk result (λ o. events_at o.graph o.positions.items ≡ other.held) }
+    ensures short { IfOk result (λ o. length o.positions.items < 2 ^ 32) }
 {
-    let _count = replica.count();
-    replica.events()
+    let _count = other.count();
+    let graph = other.into_graph();
+    let positions = graph.missing_positions(&[])?;
+    Ok(Offer {
+        graph,
+        positions,
+        held: 0,
+    })
 }
 
-/// Receives events. What wasn't judged for want of memory is let go of.
-fn receive_events<L: Ledger>(
+/// Receives what is offered.
+fn receive_offer<L: Ledger>(
     replica: &mut Replica,
-    events: Vec<Event>,
+    offer: &Offer,
     steps: &mut Steps<L>,
 ) -> Result<Took, NoMem>
-    requires { length events.items < 2 ^ 32 }
-    ensures received { IfOk result (Receives replica.old events.items replica.new) }
-    ensures most { steps.new ≤ steps.old + most_touches replica.old.limits replica.old.held replica.old.waiting events.items }
+    requires within { All (λ p. p < length offer.now.graph) offer.now.positions.items }
+    requires short { length offer.now.positions.items < 2 ^ 32 }
+    ensures received { IfOk result (Receives replica.old (events_at offer.now.graph offer.now.positions.items) replica.new) }
+    ensures most { steps.new ≤ steps.old + most_touches replica.old.limits replica.old.held replica.old.waiting (events_at offer.now.graph offer.now.positions.items) }
 {
-    match replica.receive(events, steps) {
-        Ok(took) => Ok(took),
-        Err(_) => Err(NoMem),
-    }
+    replica.receive_from(&offer.graph, offer.positions.as_slice(), steps)
 }
