@@ -9,7 +9,7 @@ use Rattle.advance_retreat.specs.declared.change.Change.TheVariants.{Strike}
 use Rattle.advance_retreat.specs.declared.cursor.Cursor.{Cursor}
 use Rattle.advance_retreat.specs.declared.cursor.Struck.{Struck}
 use Rattle.advance_retreat.specs.declared.labels.Labels.{Labels}
-use Rattle.advance_retreat.specs.Cursors.{IsCursor, StandsBehind, GaveEnd, AreKept, last_of, shorter, struck_with, struck_long}
+use Rattle.advance_retreat.specs.Cursors.{IsCursor, MayBeCursor, StandsBehind, GaveEnd, AreKept, last_of, shorter, struck_with, struck_long}
 use Rattle.advance_retreat.specs.Kept.{knows, changed_at}
 use Rattle.advance_retreat.specs.Laid.{AreLabelled, AreCounted, chars_in}
 use Rattle.advance_retreat.specs.Loose.{loose_behind, loose_in}
@@ -20,6 +20,7 @@ use Rattle.advance_retreat.proofs.LooseEnds.{alone_loose, alone_told, joined_loo
 use Rattle.advance_retreat.proofs.Moves.{is_first, is_second}
 use Rattle.advance_retreat.proofs.PartedRuns.{lower_of}
 use Rattle.advance_retreat.proofs.RunChars.{node_on_none, visible-chars, shown-chars}
+use Rattle.advance_retreat.proofs.Settled.{kept_same}
 use Rattle.advance_retreat.proofs.Splits.{runs-append}
 
 -- WHAT A RUN COUNTS
@@ -44,7 +45,8 @@ two_total count front back x y = let all = one_total count front (y ∷ back) x 
 
 -- what a deletion at the end of the cursor's run leaves
 pub record Gives (old new : List (ℕ × Stretch)) (t u : Labels) (visible shown : ℕ) (c : Cursor) (s : Struck) : Type 0 where
-  pub kept : AreKept old t visible shown (Some c)
+  pub counted : AreCounted old t visible shown
+  pub cursor : IsCursor old c
   pub long : 1 < c.run.len
   pub laid : AreLabelled new u
   pub up : IsRising old
@@ -52,10 +54,11 @@ pub record Gives (old new : List (ℕ × Stretch)) (t u : Labels) (visible shown
   pub gave : GaveEnd old new c s
   pub chars : chars_in new ≡ map (changed_at (last_of c.run) Strike) (chars_in old)
 
-pub gives : (old new : List (ℕ × Stretch)) (t u : Labels) (visible shown : ℕ) (at : Option Cursor) → AreKept old t visible shown at → (c : Cursor) → at ≡ Some c → 1 < c.run.len → AreLabelled new u → IsRising old → IsRising new
+pub gives : (old new : List (ℕ × Stretch)) (t u : Labels) (visible shown : ℕ) (at : Option Cursor) → AreCounted old t visible shown → MayBeCursor old at → (c : Cursor) → at ≡ Some c → 1 < c.run.len → AreLabelled new u → IsRising old → IsRising new
     → (found : Option Struck) → IfSome found (GaveEnd old new c) → IfSome found (λ _. chars_in new ≡ map (changed_at (last_of c.run) Strike) (chars_in old)) → (s : Struck) → found ≡ Some s → Gives old new t u visible shown c s
-gives old new t u visible shown at kept c here long laid up rises found gave chars s is = record {
-  kept = subst (λ (o : Option Cursor). AreKept old t visible shown o) here kept;
+gives old new t u visible shown at counted cursor c here long laid up rises found gave chars s is = record {
+  counted = counted;
+  cursor = subst (MayBeCursor old) here cursor;
   long = long;
   laid = laid;
   up = up;
@@ -66,10 +69,10 @@ gives old new t u visible shown at kept c here long laid up rises found gave cha
 
 module _ (old new : List (ℕ × Stretch)) (t u : Labels) (visible shown : ℕ) (c : Cursor) (s : Struck) (so : Gives old new t u visible shown c s) where
   counted : AreCounted old t visible shown
-  counted = so.kept.counted
+  counted = so.counted
 
   at : IsCursor old c
-  at = so.kept.cursor
+  at = so.cursor
 
   abbrev gave : GaveEnd old new c s
   gave = so.gave
@@ -187,16 +190,16 @@ module _ (old new : List (ℕ × Stretch)) (t u : Labels) (visible shown : ℕ) 
   pub shown_some : 1 ≤ shown
   shown_some = let is = counted.shown_is in let sum = shown-chars old in omega (arith, is, sum, fewer_effect)
 
-  pub kept_less : (d : Cursor) → d.label ≡ c.label → d.run ≡ shorter c.run → d.before ≡ c.before → d.index + 1 ≡ c.index → d.struck ≡ Some s → AreKept new u (visible - 1) (shown - 1) (Some d)
-  kept_less d label run before index struck = record {
-    counted = record {
-      labelled = so.laid;
-      visible_is = let is = counted.visible_is in let sum = visible-chars old in let less = visible-chars new in omega (arith, is, sum, less, fewer_prepared);
-      shown_is = let is = counted.shown_is in let sum = shown-chars old in let less = shown-chars new in omega (arith, is, sum, less, fewer_effect);
-      few = let few = counted.few in omega (arith, few, same_long);
-    };
-    cursor = cursor_behind d label run before index struck;
+  less_counted : AreCounted new u (visible - 1) (shown - 1)
+  less_counted = record {
+    labelled = so.laid;
+    visible_is = let is = counted.visible_is in let sum = visible-chars old in let less = visible-chars new in omega (arith, is, sum, less, fewer_prepared);
+    shown_is = let is = counted.shown_is in let sum = shown-chars old in let less = shown-chars new in omega (arith, is, sum, less, fewer_effect);
+    few = let few = counted.few in omega (arith, few, same_long);
   }
+
+  pub kept_less : (d : Cursor) → d.label ≡ c.label → d.run ≡ shorter c.run → d.before ≡ c.before → d.index + 1 ≡ c.index → d.struck ≡ Some s → (pending : Bool) → AreKept new u (visible - 1) (shown - 1) (Some d) pending
+  kept_less d label run before index struck pending = kept_same new u (visible - 1) (shown - 1) (Some d) pending so.rises less_counted (cursor_behind d label run before index struck)
 
   -- RUNS THAT STAND APART
   -- none was struck before where it went behind no others

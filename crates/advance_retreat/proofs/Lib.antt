@@ -23,6 +23,7 @@ pub mod ExchangedChars
 pub mod FewCalls
 pub mod FewRuns
 pub mod Found
+pub mod FoundCuts
 pub mod GivenEnds
 pub mod Hanging
 pub mod Holding
@@ -62,6 +63,7 @@ pub mod Room
 pub mod RunChars
 pub mod RunsAt
 pub mod SameTrees
+pub mod Settled
 pub mod ShiftedEnds
 pub mod SpanMoves
 pub mod Splits

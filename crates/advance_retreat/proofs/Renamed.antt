@@ -8,10 +8,9 @@ use Rattle.order_tree.specs.Pairs.{IsRising, labels, runs}
 use Rattle.advance_retreat.specs.declared.labels.Labels.{Labels}
 use Rattle.advance_retreat.specs.Labelled.{label_of, Sets}
 use Rattle.advance_retreat.specs.Laid.{AreLabelled}
-use Rattle.advance_retreat.proofs.PartedRuns.{same_run}
 use Rattle.advance_retreat.proofs.CutRuns.{alike, set_own, set_other}
 use Rattle.advance_retreat.proofs.Standings.{some_same, is_some_by}
-use Rattle.advance_retreat.proofs.RunsAt.{At, at_held, held_at, at_less, at_one, run_at, label_at, one_number, run_held, stands_too, given_at, given_long}
+use Rattle.advance_retreat.proofs.RunsAt.{At, at_held, held_at, at_less, at_one, run_at, one_number, run_held, stands_too, given_at, given_long}
 
 -- the first k runs are known by their new labels, the others by the old ones, and no other node has one
 pub record AreRenamed (ps qs : List (ℕ × Stretch)) (t u : Labels) (k : ℕ) : Type 0 where
@@ -146,26 +145,17 @@ module _ (ps qs : List (ℕ × Stretch)) (t : Labels) (laid : AreLabelled ps t) 
       by (suc n) e = let some : 0 < r.len = omega (arith, e) in renamed_one u w k l r so h some (set some)
 
 -- the step to the next label that is given
-module _ (ps qs : List (ℕ × Stretch)) (t u : Labels) (laid : AreLabelled ps t) (rising : IsRising ps) (up : IsRising qs) (same : runs qs ≡ runs ps) (given : List (ℕ × ℕ))
-    (is : given ≡ zip (labels ps) (labels qs)) (k : ℕ) (so : AreRenamed ps qs t u k) where
-  module _ (x : ℕ × ℕ) (lt : k < length given) (e : x ≡ slice_index_or given k x) where
-    here : At (labels qs) k x.1
+module _ (ps qs : List (ℕ × Stretch)) (t u : Labels) (laid : AreLabelled ps t) (rising : IsRising ps) (same : runs qs ≡ runs ps) (given : List (ℕ × (ℕ × Stretch)))
+    (is : given ≡ zip (labels ps) qs) (k : ℕ) (so : AreRenamed ps qs t u k) where
+  module _ (x : ℕ × (ℕ × Stretch)) (lt : k < length given) (e : x ≡ slice_index_or given k x) where
+    here : At qs k x.1
     here = given_at ps qs given k x is lt (sym e)
 
-    run : (r : Stretch) × At qs k (x.1, r)
-    run = label_at qs k x.1 here
+    pub step_some : 0 < x.1.1.len → IsSome (label_of u x.1.1.from)
+    step_some some = next_label ps qs t laid rising same u k x.1.0 x.1.1 so here some
 
-    at : (r : Stretch) → Contains qs (x.1, r) → At qs k (x.1, r)
-    at r h = subst (λ (q : Stretch). At qs k (x.1, q)) (same_run qs x.1 run.0 r up (at_held qs k (x.1, run.0) run.1) h) run.1
-
-    pub step_held : Contains (labels qs) x.1
-    step_held = at_held (labels qs) k x.1 here
-
-    pub step_some : (r : Stretch) → Contains qs (x.1, r) → 0 < r.len → IsSome (label_of u r.from)
-    step_some r h some = next_label ps qs t laid rising same u k x.1 r so (at r h) some
-
-    pub step_next : (w : Labels) → ((r : Stretch) → Contains qs (x.1, r) → 0 < r.len → Sets u w r.from (Some x.1)) → ((r : Stretch) → Contains qs (x.1, r) → r.len ≡ 0 → w ≡ u) → AreRenamed ps qs t w (k + 1)
-    step_next w set none = let h = at_held qs k (x.1, run.0) run.1 in renamed_step ps qs t laid rising same u w k x.1 run.0 so run.1 (set run.0 h) (none run.0 h)
+    pub step_next : (w : Labels) → (0 < x.1.1.len → Sets u w x.1.1.from (Some x.1.0)) → (x.1.1.len ≡ 0 → w ≡ u) → AreRenamed ps qs t w (k + 1)
+    step_next w set none = renamed_step ps qs t laid rising same u w k x.1.0 x.1.1 so here set none
 
   pub last_laid : length given ≤ k → AreLabelled qs u
   last_laid le = let long = given_long ps qs given is same in renamed_laid ps qs t laid rising same u k so (omega (arith, le, long))

@@ -37,15 +37,6 @@ module _ {X : Type 0} where
   at_one (z ∷ zs) zero x y h i = sym h ∙ i
   at_one (z ∷ zs) (suc k) x y h i = at_one zs k x y h i
 
--- the label of the one with a number, and its run
-pub label_at : (ps : List (ℕ × Stretch)) (k l : ℕ) → At (labels ps) k l → (r : Stretch) × At ps k (l, r)
-label_at [] k l h = absurd h
-label_at (p ∷ ps) zero l h = (p.1, pair p l h)
-  where
-    pair : (p : ℕ × Stretch) (l : ℕ) → p.0 ≡ l → p ≡ (l, p.1)
-    pair p l e = let as_pair : ℕ → ℕ × Stretch = λ k. (k, p.1) in ap as_pair e
-label_at (p ∷ ps) (suc k) l h = label_at ps k l h
-
 -- the same runs stand at the same numbers
 pub run_at : (ps qs : List (ℕ × Stretch)) → runs ps ≡ runs qs → (k l : ℕ) (r : Stretch) → At ps k (l, r) → (own : ℕ) × At qs k (own, r)
 run_at [] qs e k l r h = absurd h
@@ -104,27 +95,27 @@ same_length (p ∷ ps) (q ∷ qs) e = ap suc (same_length ps qs rest)
     rest : runs ps ≡ runs qs
     rest = cc
 
--- beside the labels of some runs stand those of others
-zip_at : (xs ys : List ℕ) (k : ℕ) (x : ℕ × ℕ) → slice_get (zip xs ys) k ≡ Some x → At ys k x.1
+-- beside the labels of some runs stand others with theirs
+zip_at : (xs : List ℕ) (ys : List (ℕ × Stretch)) (k : ℕ) (x : ℕ × (ℕ × Stretch)) → slice_get (zip xs ys) k ≡ Some x → At ys k x.1
 zip_at [] ys k x e = absurd (cc)
 zip_at (x ∷ xs) [] k z e = absurd (cc)
 zip_at (x ∷ xs) (y ∷ ys) zero z e = second x y z e
   where
-    second : (x y : ℕ) (z : ℕ × ℕ) → Some (x, y) ≡ Some z → y ≡ z.1
-    second x y z e = ap (λ (p : ℕ × ℕ). p.1) (inside (x, y) z e)
+    second : (x : ℕ) (y : ℕ × Stretch) (z : ℕ × (ℕ × Stretch)) → Some (x, y) ≡ Some z → y ≡ z.1
+    second x y z e = ap (λ (p : ℕ × (ℕ × Stretch)). p.1) (inside (x, y) z e)
       where
-        inside : (p q : ℕ × ℕ) → Some p ≡ Some q → p ≡ q
+        inside : (p q : ℕ × (ℕ × Stretch)) → Some p ≡ Some q → p ≡ q
         inside p q e = cc
 zip_at (x ∷ xs) (y ∷ ys) (suc k) z e = zip_at xs ys k z e
 
-pub given_at : (ps qs : List (ℕ × Stretch)) (given : List (ℕ × ℕ)) (k : ℕ) (x : ℕ × ℕ) → given ≡ zip (labels ps) (labels qs) → k < length given → slice_index_or given k x ≡ x → At (labels qs) k x.1
+pub given_at : (ps qs : List (ℕ × Stretch)) (given : List (ℕ × (ℕ × Stretch))) (k : ℕ) (x : ℕ × (ℕ × Stretch)) → given ≡ zip (labels ps) qs → k < length given → slice_index_or given k x ≡ x → At qs k x.1
 given_at ps qs given k x is lt e =
-    zip_at (labels ps) (labels qs) k x (ap (λ (xs : List (ℕ × ℕ)). slice_get xs k) (sym is) ∙ slice_get-get_or given k x lt ∙ ap (λ (y : ℕ × ℕ). Some y) e)
+    zip_at (labels ps) qs k x (ap (λ (xs : List (ℕ × (ℕ × Stretch))). slice_get xs k) (sym is) ∙ slice_get-get_or given k x lt ∙ ap (λ (y : ℕ × (ℕ × Stretch)). Some y) e)
 
-pub given_long : (ps qs : List (ℕ × Stretch)) (given : List (ℕ × ℕ)) → given ≡ zip (labels ps) (labels qs) → runs qs ≡ runs ps → length given ≡ length qs
+pub given_long : (ps qs : List (ℕ × Stretch)) (given : List (ℕ × (ℕ × Stretch))) → given ≡ zip (labels ps) qs → runs qs ≡ runs ps → length given ≡ length qs
 given_long ps qs given is same = ap length is ∙ long ps qs same
   where
-    long : (ps qs : List (ℕ × Stretch)) → runs qs ≡ runs ps → length (zip (labels ps) (labels qs)) ≡ length qs
+    long : (ps qs : List (ℕ × Stretch)) → runs qs ≡ runs ps → length (zip (labels ps) qs) ≡ length qs
     long [] [] e = refl
     long [] (q ∷ qs) e = absurd (cc)
     long (p ∷ ps) [] e = absurd (cc)

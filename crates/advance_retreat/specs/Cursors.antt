@@ -1,8 +1,8 @@
 -- The run at whose end characters are typed or deleted one after another.
-use Rattle.std.specs.Prelude.{◌≡◌, ◌⊎◌, ℕ, ◌+◌, ◌-◌, ◌<◌, true, false, List, ◌++◌, ◌∷◌, Contains, Option, Some, None}
+use Rattle.std.specs.Prelude.{◌≡◌, ◌⊎◌, ℕ, ◌+◌, ◌-◌, ◌<◌, Bool, true, false, List, ◌++◌, ◌∷◌, Contains, Option, Some, None}
 use Rattle.ew_model.specs.declared.node.Node.{Node}
 use Rattle.walker_record.specs.Stretches.{Stretch, node_on, prepared_of, effect_of, first_part}
-use Rattle.order_tree.specs.Pairs.{lower, total}
+use Rattle.order_tree.specs.Pairs.{lower, total, changed}
 use Rattle.advance_retreat.specs.declared.cursor.Cursor.{Cursor}
 use Rattle.advance_retreat.specs.declared.cursor.Struck.{Struck}
 use Rattle.advance_retreat.specs.declared.labels.Labels.{Labels}
@@ -16,7 +16,7 @@ last_of r = node_on r.from (r.len - 1)
 abbrev pub shorter : Stretch → Stretch
 shorter r = first_part r (r.len - 1)
 
--- the run of the characters that were deleted, one more of them, ahead of the others
+-- the run of a node's character and n more behind it, all deleted once and not in the text
 abbrev pub struck_with : Node → ℕ → Stretch
 struck_with v n = record { from = v; len = n + 1; prepared = 2; effect = false }
 
@@ -25,14 +25,14 @@ abbrev pub struck_long : Option Struck → ℕ
 struck_long None = 0
 struck_long (Some s) = s.run.len
 
--- the run that was deleted from the end of another stands right behind that one, and its nodes go on with those
+-- the run that was deleted from the end of another stands right behind that one, its nodes go on with those, and all of them are deleted once, and not in the text
 abbrev pub StandsBehind : List (ℕ × Stretch) → ℕ → Stretch → Option Struck → Type 0
 StandsBehind ps label run None = Unit {0}
 StandsBehind ps label run (Some s) =
     (front : List (ℕ × Stretch)) × (back : List (ℕ × Stretch)) × (ps ≡ front ++ (label, run) ∷ (s.label, s.run) ∷ back)
     × (s.run.from ≡ node_on run.from run.len) × (0 < s.run.len) × (s.run.prepared ≡ 2) × (s.run.effect ≡ false)
 
--- the run stands at the label, visible in what is prepared and in the text, behind so many characters of both
+-- The run stands at the label, with characters, all visible in what is prepared and in the text. So many of the text are ahead of it, so many are visible up to its end, and what was deleted from its end stands behind it.
 pub record IsCursor (ps : List (ℕ × Stretch)) (c : Cursor) : Type 0 where
   pub held : Contains ps (c.label, c.run)
   pub some : 0 < c.run.len
@@ -54,7 +54,13 @@ pub record GaveEnd (old new : List (ℕ × Stretch)) (c : Cursor) (s : Struck) :
   pub now : new ≡ front ++ (c.label, shorter c.run) ∷ (s.label, s.run) ∷ back
   pub struck : s.run ≡ struck_with (last_of c.run) (struck_long c.struck)
 
--- counted runs, and the cursor among them
-pub record AreKept (ps : List (ℕ × Stretch)) (t : Labels) (visible shown : ℕ) (at : Option Cursor) : Type 0 where
-  pub counted : AreCounted ps t visible shown
-  pub cursor : MayBeCursor ps at
+-- the runs, but at the cursor's label the run that the cursor has
+abbrev pub settled : List (ℕ × Stretch) → Option Cursor → List (ℕ × Stretch)
+settled ps None = ps
+settled ps (Some c) = changed ps c.label c.run
+
+-- The settled runs are counted, and the cursor stands among them. Where nothing that was typed at it is pending, they are the runs themselves.
+pub record AreKept (ps : List (ℕ × Stretch)) (t : Labels) (visible shown : ℕ) (at : Option Cursor) (pending : Bool) : Type 0 where
+  pub counted : AreCounted (settled ps at) t visible shown
+  pub cursor : MayBeCursor (settled ps at) at
+  pub told : pending ≡ false → settled ps at ≡ ps

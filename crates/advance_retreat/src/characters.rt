@@ -9,10 +9,10 @@ ghost use Rattle.walker_record.specs.Stretches.{Stretch, is_continued, prepared_
 ghost use Rattle.fugue_place.specs.Attachments.{is_attached, is_there, has_id};
 ghost use Rattle.order_tree.specs.Pairs.{IsPlace, lower, total};
 ghost use Rattle.advance_retreat.specs.declared.target.Target.{Target};
-ghost use Rattle.advance_retreat.specs.Cursors.{MayBeCursor, last_of};
+ghost use Rattle.advance_retreat.specs.Cursors.{MayBeCursor, last_of, settled};
 ghost use Rattle.advance_retreat.specs.Kept.{is_of, knows, visible_in, shown_in, base_records, changed_at, HasRoom};
 ghost use Rattle.advance_retreat.specs.Entering.{attached_by, run_of, IsNewChild};
-ghost use Rattle.advance_retreat.specs.Laid.{records_in};
+ghost use Rattle.advance_retreat.specs.Laid.{chars_in, records_in};
 ghost use Rattle.advance_retreat.specs.Loose.{loose_in, is_told};
 ghost use Rattle.advance_retreat.specs.Replacing.{ArePart, changed_in};
 ghost use Rattle.advance_retreat.specs.Rights.{counted};
@@ -40,17 +40,19 @@ pub struct Characters {
     visible: u32,
     shown: u32,
     cursor: Option<Cursor>,
+    /// Whether characters were typed at the cursor that the runs lack.
+    pending: bool,
 }
 
 impl Model for Characters {
-    ghost use Rattle.advance_retreat.specs.Cursors.{AreKept};
+    ghost use Rattle.advance_retreat.specs.Cursors.{AreKept, settled};
     ghost use Rattle.advance_retreat.specs.Laid.{InRuns, in_runs};
 
     ghost Value = { InRuns };
 
-    ghost view = { λ s. in_runs s.runs.tree.pairs };
+    ghost view = { λ s. in_runs (settled s.runs.tree.pairs s.cursor) };
 
-    ghost invariant = { λ s. AreKept s.runs.tree.pairs s.runs.labels s.visible s.shown s.cursor };
+    ghost invariant = { λ s. AreKept s.runs.tree.pairs s.runs.labels s.visible s.shown s.cursor s.pending };
 }
 
 /// The deletion of a character, and what that does to the text.
@@ -195,20 +197,23 @@ fn base_by<L: Ledger>(alloc: Global, len: u32, blank: Blank) -> Result<Character
         visible: len,
         shown: len,
         cursor: None,
+        pending: false,
     })
 }
 
 impl Characters {
-    fn first_hold<L: Ledger>(&self, base: u32, rights: &Rights, blank: Blank) -> Hold
+    fn first_hold<L: Ledger>(&mut self, base: u32, rights: &Rights, blank: Blank) -> Hold
         requires name { blank.name ≡ L.name }
         requires parts { blank.parts ≡ L.parts }
         requires some { 0 < blank.parts }
-        ensures { IsHold (has_counted_right base (counted rights.now)) self.now.records 0 result }
+        ensures hold { IsHold (has_counted_right base (counted rights.now)) self.old.records 0 result }
+        ensures same { self.new ≡ self.old }
     {
         if !has_known_right(base, rights, Node::Root) {
             return Hold::right_of(Node::Root);
         }
         let mut visits: Steps<L> = Steps::new(blank);
+        settle(&mut self.runs, &self.cursor, &mut self.pending, &mut visits);
         let _runs = self.runs.count();
         Hold::behind(Node::Root, self.runs.first_known(0, &mut visits))
     }
@@ -222,12 +227,19 @@ impl Characters {
         ensures same { self.new ≡ self.old }
     {
         let mut visits: Steps<L> = Steps::new(blank);
+        let found = find(
+            &mut self.runs,
+            &mut self.cursor,
+            &mut self.pending,
+            at,
+            &mut visits,
+        );
         let _runs = self.runs.count();
-        let found = find(&self.runs, &mut self.cursor, at, &mut visits);
         let left = found.node();
         if !has_known_right(base, rights, left) {
             return Hold::right_of(left);
         }
+        settle(&mut self.runs, &self.cursor, &mut self.pending, &mut visits);
         Hold::behind(left, self.runs.known_behind(&found, &mut visits))
     }
 
@@ -240,8 +252,15 @@ impl Characters {
         ensures same { self.new ≡ self.old }
     {
         let mut visits: Steps<L> = Steps::new(blank);
+        let found = find(
+            &mut self.runs,
+            &mut self.cursor,
+            &mut self.pending,
+            at,
+            &mut visits,
+        );
+        settle(&mut self.runs, &self.cursor, &mut self.pending, &mut visits);
         let _runs = self.runs.count();
-        let found = find(&self.runs, &mut self.cursor, at, &mut visits);
         Deletion {
             node: found.node(),
             op: self.runs.deletion(&found),
@@ -294,6 +313,7 @@ impl Characters {
         if !cursor.gives_up(node, change) {
             return Ok(None);
         }
+        settle(&mut self.runs, &self.cursor, &mut self.pending, visits);
         let _runs = self.runs.count();
         let Some(struck) = self.runs.delete_last(&cursor, visits)? else {
             return Ok(None);
@@ -323,6 +343,7 @@ impl Characters {
         ensures loose { (among : Nodes → Bool) → loose_in among self.new.runs ≤ loose_in among self.old.runs + 2 }
         ensures told { (among : Nodes → Bool) → among node ≡ true → loose_in among self.new.runs ≤ loose_in among self.old.runs }
     {
+        settle(&mut self.runs, &self.cursor, &mut self.pending, visits);
         self.cursor = None;
         let Some(altered) = self.runs.change(node, change, visits)? else {
             return Ok(Known {
@@ -355,6 +376,7 @@ impl Characters {
         ensures loose { (among : Nodes → Bool) → loose_in among self.new.runs ≡ loose_in among self.old.runs }
     {
         let mut visits: Steps<L> = Steps::new(blank);
+        settle(&mut self.runs, &self.cursor, &mut self.pending, &mut visits);
         self.cursor = None;
         let recast = self.runs.change_run(lv, within, change, &mut visits)?;
         self.visible = recast.altered.visible(self.visible);
@@ -381,46 +403,118 @@ impl Characters {
         ensures loose { OnErr result ((among : Nodes → Bool) → loose_in among self.new.runs ≤ loose_in among self.old.runs + 2) }
     {
         let mut visits: Steps<L> = Steps::new(blank);
+        match self.type_behind(siblings, child, place)? {
+            Some(at) => Ok(at),
+            None => self.insert_found(siblings, child, place, &mut visits),
+        }
+    }
+
+    /// Attaches a new child, and puts its character at the end of the cursor's run, where it goes on with that. The runs get it
+    /// later. Answers its index in the text. Else nothing has changed.
+    fn type_behind(
+        &mut self,
+        siblings: &mut Siblings,
+        child: &Child,
+        place: Place,
+    ) -> Result<Option<u32>, NoMem>
+        requires new { IsNewChild self.old.records siblings.old child.now }
+        ensures comes { IfOk result (λ o. IfSome o (Comes self.old.records self.new.records place child.now.lv)) }
+        ensures attached { IfOk result (λ o. IfSome o (λ _. siblings.new ≡ siblings.old ++ attached_by child.now ∷ [])) }
+        ensures told { IfOk result (λ o. IfSome o (λ _. (among : Nodes → Bool) → among (nodes.Event child.now.lv) ≡ true → loose_in among self.new.runs ≤ loose_in among self.old.runs)) }
+        ensures none { IfOk result (λ o. IfNone o (self.new ≡ self.old)) }
+        ensures unattached { IfOk result (λ o. IfNone o (siblings.new ≡ siblings.old)) }
+        ensures err { OnErr result (self.new ≡ self.old) }
+        ensures detached { OnErr result (siblings.new ≡ siblings.old) }
+    {
         let _runs = self.runs.count();
-        let at = match cursor_for(&self.cursor, child, place) {
-            Some(cursor) => {
-                let at = self
-                    .runs
-                    .type_behind(&cursor, siblings, child, &mut visits)?;
-                self.cursor = Some(cursor.typed(child));
-                at
-            }
-            None => {
-                self.cursor = None;
-                self.runs.insert(siblings, child, place, &mut visits)?
-            }
+        let Some(cursor) = cursor_for(&self.cursor, child, place) else {
+            return Ok(None);
         };
+        let at = cursor.shown();
+        child.attach(siblings)?;
+        self.visible += 1;
+        self.shown += 1;
+        self.cursor = Some(cursor.typed(child));
+        self.pending = true;
+        Ok(Some(at))
+    }
+
+    /// Puts the character of a new child at a place, which is searched for, and attaches its node. There is no cursor after it.
+    fn insert_found<L: Ledger>(
+        &mut self,
+        siblings: &mut Siblings,
+        child: &Child,
+        place: Place,
+        visits: &mut Steps<L>,
+    ) -> Result<u32, NoMem>
+        requires new { IsNewChild self.old.records siblings.old child.now }
+        ensures comes { IfOk result (Comes self.old.records self.new.records place child.now.lv) }
+        ensures attached { OnOk result (siblings.new ≡ siblings.old ++ attached_by child.now ∷ []) }
+        ensures err { OnErr result (self.new.records ≡ self.old.records) }
+        ensures detached { OnErr result (siblings.new ≡ siblings.old) }
+        ensures told { OnOk result ((among : Nodes → Bool) → among (nodes.Event child.now.lv) ≡ true → loose_in among self.new.runs ≤ loose_in among self.old.runs) }
+        ensures loose { OnErr result ((among : Nodes → Bool) → loose_in among self.new.runs ≤ loose_in among self.old.runs + 2) }
+    {
+        settle(&mut self.runs, &self.cursor, &mut self.pending, visits);
+        self.cursor = None;
+        let at = self.runs.insert(siblings, child, place, visits)?;
         self.visible += 1;
         self.shown += 1;
         Ok(at)
     }
 }
 
+/// Gives the runs what was typed at the cursor.
+fn settle<L: Ledger>(
+    runs: &mut Runs,
+    cursor: &Option<Cursor>,
+    pending: &mut bool,
+    visits: &mut Steps<L>,
+)
+    requires few { length (chars_in (settled runs.old.tree.pairs cursor.now)) ≤ 2 ^ 25 }
+    requires cursor { MayBeCursor (settled runs.old.tree.pairs cursor.now) cursor.now }
+    requires told { pending.old ≡ false → settled runs.old.tree.pairs cursor.now ≡ runs.old.tree.pairs }
+    ensures pairs { runs.new.tree.pairs ≡ settled runs.old.tree.pairs cursor.now }
+    ensures labels { runs.new.labels ≡ runs.old.labels }
+    ensures pending { pending.new ≡ false }
+{
+    if !*pending {
+        return;
+    }
+    *pending = false;
+    if let Some(cursor) = cursor {
+        runs.take_in(cursor, visits);
+    }
+}
+
 /// The visible character with this index: the cursor's, or else one that is searched for, and the cursor comes to it where it is
-/// the last of its run.
+/// the last of its run and in the text. Else there is none.
 fn find<L: Ledger>(
-    runs: &Runs,
+    runs: &mut Runs,
     cursor: &mut Option<Cursor>,
+    pending: &mut bool,
     at: u32,
     visits: &mut Steps<L>,
 ) -> Found
-    requires within { at < total prepared_of runs.now.tree.pairs }
-    requires few { at + 1 < 2 ^ 32 }
-    requires cursor { MayBeCursor runs.now.tree.pairs cursor.old }
-    ensures cursor { MayBeCursor runs.now.tree.pairs cursor.new }
-    ensures place { IsPlace prepared_of runs.now.tree.pairs at result.spot.label result.spot.offset }
-    ensures held { Contains runs.now.tree.pairs (result.spot.label, result.run) }
+    requires within { at < total prepared_of (settled runs.old.tree.pairs cursor.old) }
+    requires index { at + 1 < 2 ^ 32 }
+    requires few { length (chars_in (settled runs.old.tree.pairs cursor.old)) ≤ 2 ^ 25 }
+    requires cursor { MayBeCursor (settled runs.old.tree.pairs cursor.old) cursor.old }
+    requires told { pending.old ≡ false → settled runs.old.tree.pairs cursor.old ≡ runs.old.tree.pairs }
+    ensures same { settled runs.new.tree.pairs cursor.new ≡ settled runs.old.tree.pairs cursor.old }
+    ensures labels { runs.new.labels ≡ runs.old.labels }
+    ensures cursor { MayBeCursor (settled runs.old.tree.pairs cursor.old) cursor.new }
+    ensures told { pending.new ≡ false → settled runs.old.tree.pairs cursor.old ≡ runs.new.tree.pairs }
+    ensures place { IsPlace prepared_of (settled runs.old.tree.pairs cursor.old) at result.spot.label result.spot.offset }
+    ensures held { Contains (settled runs.old.tree.pairs cursor.old) (result.spot.label, result.run) }
     ensures inside { result.spot.offset < result.run.len }
-    ensures before { result.before ≡ total effect_of (lower runs.now.tree.pairs result.spot.label) }
+    ensures before { result.before ≡ total effect_of (lower (settled runs.old.tree.pairs cursor.old) result.spot.label) }
 {
     if let Some(found) = at_cursor(cursor, at) {
         return found;
     }
+    settle(runs, cursor, pending, visits);
+    let _runs = runs.count();
     let found = runs.visible_at(at, visits);
     *cursor = Cursor::behind(&found, at);
     found

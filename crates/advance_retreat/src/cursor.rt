@@ -1,12 +1,11 @@
 //! The run at whose end characters are typed or deleted one after another.
 
-ghost use Rattle.std.specs.Prelude.{◌≡◌, ◌+◌, ◌-◌, ◌<◌, ◌^◌, ℕ, List, IfSome, IsTrue, Contains, true};
-ghost use Rattle.ew_model.specs.declared.node.Node.{Node as Nodes};
+ghost use Rattle.std.specs.Prelude.{◌≡◌, ◌+◌, ◌<◌, ◌^◌, ℕ, List, IsTrue, Contains, true};
 ghost use Rattle.fugue_place.specs.declared.neighbour.Place.TheVariants as places;
 ghost use Rattle.walker_record.specs.Stretches.{Stretch, is_continued, joined_of, prepared_of, effect_of};
 ghost use Rattle.order_tree.specs.Pairs.{IsPlace, lower, total};
 ghost use Rattle.advance_retreat.specs.declared.change.Change.TheVariants as changes;
-ghost use Rattle.advance_retreat.specs.Cursors.{IsCursor, MayBeCursor, GaveEnd, last_of, shorter};
+ghost use Rattle.advance_retreat.specs.Cursors.{MayBeCursor, last_of, shorter};
 ghost use Rattle.advance_retreat.specs.Entering.{run_of};
 
 use crate::change::Change;
@@ -57,6 +56,14 @@ impl Cursor {
         } else {
             None
         }
+    }
+
+    /// How many characters of the text there are up to the end of its run.
+    pub fn shown(&self) -> u32
+        requires few { self.now.before + self.now.run.len < 2 ^ 32 }
+        ensures { result ≡ self.now.before + self.now.run.len }
+    {
+        self.before + self.run.len
     }
 
     /// The last character of its run.

@@ -23,7 +23,7 @@ module _ {R : Type 0} (step : ℕ) where
 
   pub renamed-append : (low : ℕ) (xs ys : List (ℕ × R)) → renamed step low (xs ++ ys) ≡ renamed step low xs ++ renamed step (reached step low xs) ys
   renamed-append low [] ys = refl
-  renamed-append low (x ∷ xs) ys = ap (λ (qs : List (ℕ × ℕ)). (x.0, low + step) ∷ qs) (renamed-append (low + step) xs ys)
+  renamed-append low (x ∷ xs) ys = ap (λ (qs : List (ℕ × (ℕ × R))). (x.0, (low + step, x.1)) ∷ qs) (renamed-append (low + step) xs ys)
 
   pub reached-append : (low : ℕ) (xs ys : List (ℕ × R)) → reached step low (xs ++ ys) ≡ reached step (reached step low xs) ys
   reached-append low [] ys = refl
@@ -73,13 +73,13 @@ module _ {X : Type 0} (old now : List X) (k : ℕ) (x : X) where
       let both : (slice_index_or now k x ∷ drop (k + 1) now) ≡ (slice_index_or old k x ∷ drop (k + 1) old) = sym (drop_more now k x (omega (arith, lt, long))) ∙ rest ∙ drop_more old k x lt in
       cc
 
-module _ {R T : Type 0} (pairs : T → List (ℕ × R)) (known : R → ℕ) (step low : ℕ) (old now : List T) (noted given : List (ℕ × ℕ)) (at : Reached) where
+module _ {R T : Type 0} (pairs : T → List (ℕ × R)) (known : R → ℕ) (step low : ℕ) (old now : List T) (noted given : List (ℕ × (ℕ × R))) (at : Reached) where
   module _ (k : ℕ) (part : T) (lt : k < length old) (is : part ≡ slice_index_or now k part) (h : IsOnward pairs known step low k old now noted given at) where
     was : part ≡ slice_index_or old k part
     was = same_there old now k part lt h.long h.rest is
 
     -- one part more
-    pub onward : (new : T) (more : List (ℕ × ℕ)) (own next : Reached) → pairs new ≡ relabelled step at.last (pairs part) → more ≡ given ++ renamed step at.last (pairs part) → own.last ≡ reached step at.last (pairs part)
+    pub onward : (new : T) (more : List (ℕ × (ℕ × R))) (own next : Reached) → pairs new ≡ relabelled step at.last (pairs part) → more ≡ given ++ renamed step at.last (pairs part) → own.last ≡ reached step at.last (pairs part)
         → own.last_known ≡ last_known known (pairs new) → next.last ≡ own.last → next.last_known ≡ (if nat_eq own.last_known 0 then at.last_known else own.last_known) → IsOnward pairs known step low (k + 1) old (slice_set now k new) noted more next
     onward new more own next there notes end found same later =
         let front = all_pairs pairs (take k old) in
@@ -92,8 +92,8 @@ module _ {R T : Type 0} (pairs : T → List (ℕ × R)) (known : R → ℕ) (ste
           front = taken ∙ ap (λ (xs : List (ℕ × R)). xs ++ pairs new) h.front ∙ ap (λ (xs : List (ℕ × R)). relabelled step low front ++ xs) (there ∙ ap (λ (n : ℕ). relabelled step n (pairs part)) (sym at_front))
               ∙ sym (ap (relabelled step low) longer ∙ relabelled-append step low front (pairs part));
           rest = drop-set-lt (k + 1) now k new (omega arith) ∙ drop_more_same now old k h.rest;
-          given_is = notes ∙ ap (λ (xs : List (ℕ × ℕ)). xs ++ renamed step at.last (pairs part)) h.given_is ∙ append_assoc noted (renamed step low front) (renamed step at.last (pairs part))
-              ∙ ap (λ (xs : List (ℕ × ℕ)). noted ++ xs) (ap (λ (n : ℕ). renamed step low front ++ renamed step n (pairs part)) (sym at_front) ∙ sym (ap (renamed step low) longer ∙ renamed-append step low front (pairs part)));
+          given_is = notes ∙ ap (λ (xs : List (ℕ × (ℕ × R))). xs ++ renamed step at.last (pairs part)) h.given_is ∙ append_assoc noted (renamed step low front) (renamed step at.last (pairs part))
+              ∙ ap (λ (xs : List (ℕ × (ℕ × R))). noted ++ xs) (ap (λ (n : ℕ). renamed step low front ++ renamed step n (pairs part)) (sym at_front) ∙ sym (ap (renamed step low) longer ∙ renamed-append step low front (pairs part)));
           last_is = same ∙ end ∙ ap (λ (n : ℕ). reached step n (pairs part)) (sym at_front) ∙ sym (ap (reached step low) longer ∙ reached-append step low front (pairs part));
           known_is = later ∙ ap (λ (n : ℕ). if nat_eq n 0 then at.last_known else n) found ∙ ap (λ (m : ℕ). if nat_eq (last_known known (pairs new)) 0 then m else last_known known (pairs new)) h.known_is
               ∙ sym (ap (last_known known) taken ∙ last_known-append known (all_pairs pairs (take k now)) (pairs new));
@@ -151,7 +151,7 @@ module _ {R : Type 0} where
       (ap (λ (n : ℕ). n + 1) same ∙ h.0, subst (λ (n : ℕ). 2 ^ w.depth ≤ 2 * n) (sym many) (subst (λ (n : ℕ). 2 ^ n ≤ 2 * length x.pairs) (sym same) h.1), h.2)
   AllBelow-set d (x ∷ xs) (suc k) kid w h lt is deep long = (h.0, h.1, AllBelow-set d xs k kid w h.2 (omega (arith, lt)) is deep long)
 
-  pub relabelling_none : (known : R → ℕ) (step low : ℕ) (old now : List (Tree R)) (noted : Vec (ℕ × ℕ) Global) (at : Reached) (visits : ℕ) → now ≡ old → at.last ≡ low → at.last_known ≡ 0 → IsRelabelling known step low 0 old now noted noted at visits visits
+  pub relabelling_none : (known : R → ℕ) (step low : ℕ) (old now : List (Tree R)) (noted : Vec (ℕ × (ℕ × R)) Global) (at : Reached) (visits : ℕ) → now ≡ old → at.last ≡ low → at.last_known ≡ 0 → IsRelabelling known step low 0 old now noted noted at visits visits
   relabelling_none known step low old now noted at visits same here found =
       record {
         onward = onward_none (λ (t : Tree R). t.pairs) known step low old now noted.items noted.items at same refl here found;
@@ -161,9 +161,9 @@ module _ {R : Type 0} where
         cost = omega arith;
       }
 
-  module _ (known : R → ℕ) (step low k : ℕ) (old now : List (Tree R)) (noted given : Vec (ℕ × ℕ) Global) (at : Reached) (before visits : ℕ) (kid : Tree R) (lt : k < length old) (is : kid ≡ slice_index_or now k kid)
+  module _ (known : R → ℕ) (step low k : ℕ) (old now : List (Tree R)) (noted given : Vec (ℕ × (ℕ × R)) Global) (at : Reached) (before visits : ℕ) (kid : Tree R) (lt : k < length old) (is : kid ≡ slice_index_or now k kid)
       (h : IsRelabelling known step low k old now noted given at before visits) where
-    pub relabelling_more : (w : Tree R) (more : Vec (ℕ × ℕ) Global) (own next : Reached) (after : ℕ) → w.pairs ≡ relabelled step at.last kid.pairs → w.depth ≡ kid.depth → more.items ≡ given.items ++ renamed step at.last kid.pairs
+    pub relabelling_more : (w : Tree R) (more : Vec (ℕ × (ℕ × R)) Global) (own next : Reached) (after : ℕ) → w.pairs ≡ relabelled step at.last kid.pairs → w.depth ≡ kid.depth → more.items ≡ given.items ++ renamed step at.last kid.pairs
         → vec_capacity given ≤ vec_capacity more → own.last ≡ reached step at.last kid.pairs → own.last_known ≡ last_known known w.pairs → next.last ≡ own.last → next.last_known ≡ (if nat_eq own.last_known 0 then at.last_known else own.last_known)
         → visits ≤ after → after + 1 ≤ visits + 2 * length kid.pairs → IsRelabelling known step low (k + 1) old (slice_set now k w) noted more next before after
     relabelling_more w more own next after pairs deep notes room end found same later grows cost =

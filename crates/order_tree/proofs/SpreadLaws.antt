@@ -45,9 +45,9 @@ module _ {R : Type 0} (step : ℕ) where
   runs-relabelled low [] = refl
   runs-relabelled low (p ∷ ps) = ap (λ (rs : List R). p.1 ∷ rs) (runs-relabelled (low + step) ps)
 
-  pub zip-relabelled : (low : ℕ) (ps : List (ℕ × R)) → zip (labels ps) (labels (relabelled step low ps)) ≡ renamed step low ps
+  pub zip-relabelled : (low : ℕ) (ps : List (ℕ × R)) → zip (labels ps) (relabelled step low ps) ≡ renamed step low ps
   zip-relabelled low [] = refl
-  zip-relabelled low (p ∷ ps) = ap (λ (ls : List (ℕ × ℕ)). (p.0, low + step) ∷ ls) (zip-relabelled (low + step) ps)
+  zip-relabelled low (p ∷ ps) = ap (λ (ls : List (ℕ × (ℕ × R))). (p.0, (low + step, p.1)) ∷ ls) (zip-relabelled (low + step) ps)
 
   each_label : (low : ℕ) (ps : List (ℕ × R)) (k : ℕ) → k < length ps → slice_index (labels (relabelled step low ps)) k ≡ low + (k + 1) * step
   each_label low [] k lt = absurd (omega (arith, lt))

@@ -13,18 +13,18 @@ module _ {R : Type 0} where
   relabelled step low [] = []
   relabelled step low (p ∷ ps) = (low + step, p.1) ∷ relabelled step (low + step) ps
 
-  -- the old label of each beside the new
-  abbrev pub renamed : ℕ → ℕ → List (ℕ × R) → List (ℕ × ℕ)
+  -- the old label of each beside the new and its run
+  abbrev pub renamed : ℕ → ℕ → List (ℕ × R) → List (ℕ × (ℕ × R))
   renamed step low [] = []
-  renamed step low (p ∷ ps) = (p.0, low + step) ∷ renamed step (low + step) ps
+  renamed step low (p ∷ ps) = (p.0, (low + step, p.1)) ∷ renamed step (low + step) ps
 
   -- the last of the new labels, and `low` without runs
   abbrev pub reached : ℕ → ℕ → List (ℕ × R) → ℕ
   reached step low [] = low
   reached step low (p ∷ ps) = reached step (low + step) ps
 
-  -- the first k parts of a node have new labels, the others the old ones; each new label is noted, and so far they have come
-  pub record IsOnward {T : Type 0} (pairs : T → List (ℕ × R)) (known : R → ℕ) (step low k : ℕ) (old now : List T) (noted given : List (ℕ × ℕ)) (at : Reached) : Type 0 where
+  -- the first k parts of a node have new labels, the others the old ones; of each run the old label, the new and the run are noted, and so far the labels have come
+  pub record IsOnward {T : Type 0} (pairs : T → List (ℕ × R)) (known : R → ℕ) (step low k : ℕ) (old now : List T) (noted given : List (ℕ × (ℕ × R))) (at : Reached) : Type 0 where
     pub long : length now ≡ length old
     pub front : all_pairs pairs (take k now) ≡ relabelled step low (all_pairs pairs (take k old))
     pub rest : drop k now ≡ drop k old
@@ -32,8 +32,8 @@ module _ {R : Type 0} where
     pub last_is : at.last ≡ reached step low (all_pairs pairs (take k old))
     pub known_is : at.last_known ≡ last_known known (all_pairs pairs (take k now))
 
-  -- the same of branches: they stay as deep, the list of labels keeps its room, and each node that is done was counted once
-  pub record IsRelabelling (known : R → ℕ) (step low k : ℕ) (old now : List (Tree R)) (noted given : Vec (ℕ × ℕ) Global) (at : Reached) (before visits : ℕ) : Type 0 where
+  -- the same of branches: they stay as deep, the list of what is noted keeps its room, and the visits with one more for each of the k are at most two for each run with a new label
+  pub record IsRelabelling (known : R → ℕ) (step low k : ℕ) (old now : List (Tree R)) (noted given : Vec (ℕ × (ℕ × R)) Global) (at : Reached) (before visits : ℕ) : Type 0 where
     pub onward : IsOnward (λ t. t.pairs) known step low k old now noted.items given.items at
     pub below : (d : ℕ) → AllBelow d old → AllBelow d now
     pub capacity : vec_capacity noted ≤ vec_capacity given

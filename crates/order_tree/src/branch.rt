@@ -2,7 +2,7 @@
 
 ghost use Rattle.std.specs.Prelude.{◌≡◌, ℕ, ◌+◌, ◌*◌, ◌^◌, ◌<◌, ◌≤◌, Some, ◌++◌, length, Contains, vec_capacity, IfOk, OnErr};
 ghost use Rattle.order_tree.specs.Pairs.{labels, IsRising, total, lower, up_to, next_label, first_label, counted_after, IsPlace, SumsFit, HasRoomBelow, changed};
-ghost use Rattle.order_tree.specs.Parts.{first_or_zero, last_known, sums_of, summary_of, all_pairs, IsMoved};
+ghost use Rattle.order_tree.specs.Parts.{last_known, sums_of, summary_of, all_pairs, IsMoved};
 ghost use Rattle.order_tree.specs.Counts.{count_of};
 ghost use Rattle.order_tree.specs.Shape.{AllBelow, IsNode, pairs_in};
 ghost use Rattle.order_tree.specs.Edits.{IsPlaced, StaysFit};
@@ -341,13 +341,13 @@ impl<R: Run + Drop> Branch<R> {
     }
 }
 
-impl<R: Run> Branch<R> {
-    /// Gives the runs new labels, each a step above the one before, and notes the old and the new of each.
+impl<R: Run + Copy> Branch<R> {
+    /// Gives the runs new labels, each a step above the one before, and notes of each the old label and the new, and the run.
     pub fn relabel<L: Ledger>(
         &mut self,
         before: u64,
         step: u64,
-        given: &mut Vec<(u64, u64)>,
+        given: &mut Vec<(u64, (u64, R))>,
         visits: &mut Steps<L>,
     ) -> Reached
         requires room { length given.old.items + length self.old.pairs ≤ vec_capacity given.old }

@@ -5,6 +5,9 @@ ghost use Rattle.std.specs.Prelude.{◌+◌, ◌<◌, ◌≤◌, ◌^◌};
 /// How many streaks are kept: one for each place where somebody types.
 const MOST_STREAKS: usize = 8;
 
+/// How many characters more than it has the second part of a cut run counts for, where the parts share what is free.
+const SPARE: u64 = 4;
+
 /// On which side of a run another one comes.
 #[derive(Clone, Copy, Debug, PartialEq, Eq)]
 enum Side {
@@ -137,7 +140,8 @@ impl Recent {
 }
 
 /// A label above `label` and up to `most` for the second part of a run of so many characters, cut at one of them. Each part keeps
-/// its share of what is free: then a run may be cut between all its characters, in any order.
+/// a share of what is free that goes by its length, so a run may be cut often, in any order, before it needs new labels. The second
+/// part counts for `SPARE` characters more than it has, since more runs come in behind it than between the parts.
 pub fn share(label: u64, most: u64, at: u32, size: u32) -> u64
     requires free { label < most }
     requires inside { at < size }
@@ -152,5 +156,5 @@ fn share_of(gap: u64, at: u32, size: u32) -> u64
     requires { at < size }
     ensures { result ≤ gap }
 {
-    gap / u64::from(size) * u64::from(at)
+    gap / (u64::from(size) + SPARE) * u64::from(at)
 }

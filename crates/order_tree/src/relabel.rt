@@ -41,12 +41,13 @@ impl Reached {
     }
 }
 
-/// Gives the runs of a leaf new labels, each a step above the one before, and notes the old and the new of each.
-pub fn relabel_entries<R: Run>(
+/// Gives the runs of a leaf new labels, each a step above the one before, and notes of each run the old label and
+/// the new, and the run.
+pub fn relabel_entries<R: Run + Copy>(
     entries: &mut Vec<(u64, R)>,
     before: u64,
     step: u64,
-    given: &mut Vec<(u64, u64)>,
+    given: &mut Vec<(u64, (u64, R))>,
 ) -> Reached
     requires room { length given.old.items + length entries.old.items ≤ vec_capacity given.old }
     requires small { reached step before entries.old.items < 2 ^ 64 }
@@ -64,7 +65,7 @@ pub fn relabel_entries<R: Run>(
     for entry in entries.iter_mut() {
         let label = reached.last + step;
         reached = reached.then(Reached::by(&entry.1, label));
-        given.push_reserved((entry.0, label));
+        given.push_reserved((entry.0, (label, entry.1)));
         entry.0 = label;
     }
     reached

@@ -118,12 +118,12 @@ fn plant<R: Run + Drop>(
     Ok(own)
 }
 
-/// Gives the runs of a tree new labels, the first a step above 0 and each a step above the one before, and notes the old and the
-/// new of each.
-pub fn relabel_root<R: Run, L: Ledger>(
+/// Gives the runs of a tree new labels, the first a step above 0 and each a step above the one before, and notes of each
+/// run the old label and the new, and the run.
+pub fn relabel_root<R: Run + Copy, L: Ledger>(
     root: &mut Option<Branch<R>>,
     step: u64,
-    given: &mut Vec<(u64, u64)>,
+    given: &mut Vec<(u64, (u64, R))>,
     visits: &mut Steps<L>,
 )
     requires room { length given.old.items + length (tree_of root.old).pairs ≤ vec_capacity given.old }

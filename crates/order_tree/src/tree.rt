@@ -1,6 +1,6 @@
 //! The counted tree.
 
-ghost use Rattle.std.specs.Prelude.{◌≡◌, ℕ, ◌+◌, ◌-◌, ◌*◌, ◌^◌, ◌<◌, ◌≤◌, ◌↔◌, ◌⊎◌, IsTrue, Option, List, [], ◌∷◌, ◌++◌, length, map, zip, All, Contains, IfOk, IsOkAnd, OnErr};
+ghost use Rattle.std.specs.Prelude.{◌≡◌, ℕ, ◌+◌, ◌-◌, ◌*◌, ◌^◌, ◌<◌, ◌≤◌, ◌↔◌, ◌⊎◌, IsTrue, Option, [], length, zip, All, Contains, IfOk, IsOkAnd, OnErr};
 ghost use Rattle.order_tree.specs.Pairs.{Tree, labels, runs, IsRising, lower, first_label, next_label, HasRoom, counted_after, total, SumsFit, IsPlace, changed, inserted, IsCut, AreSpread};
 
 use crate::branch::Branch;
@@ -235,13 +235,16 @@ impl<R: Run + Drop> OrderTree<R> {
     }
 }
 
-impl<R: Run> OrderTree<R> {
-    /// Gives all runs new labels, spread evenly, and answers the old and the new label of each, in order.
-    pub fn relabel<L: Ledger>(&mut self, visits: &mut Steps<L>) -> Result<Vec<(u64, u64)>, NoMem>
+impl<R: Run + Copy> OrderTree<R> {
+    /// Gives all runs new labels, spread evenly, and answers of each the old label, the new, and the run, in order.
+    pub fn relabel<L: Ledger>(
+        &mut self,
+        visits: &mut Steps<L>,
+    ) -> Result<Vec<(u64, (u64, R))>, NoMem>
         ensures runs { runs self.new.pairs ≡ runs self.old.pairs }
         ensures spread { IfOk result (λ _. AreSpread self.new.pairs) }
         ensures room { IfOk result (λ _. (label : ℕ) → (label ≡ 0) ⊎ Contains (labels self.new.pairs) label → HasRoom self.new.pairs label) }
-        ensures given { IfOk result (λ given. given.items ≡ zip (labels self.old.pairs) (labels self.new.pairs)) }
+        ensures given { IfOk result (λ given. given.items ≡ zip (labels self.old.pairs) self.new.pairs) }
         ensures depth { self.new.depth ≡ self.old.depth }
         ensures err { OnErr result (self.new ≡ self.old) }
         ensures onward { visits.old ≤ visits.new }

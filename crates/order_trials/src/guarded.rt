@@ -188,7 +188,7 @@ impl<L: Ledger> Guarded<L> {
         true
     }
 
-    pub fn relabel(&mut self) -> Result<Vec<(u64, u64)>, NoMem> {
+    pub fn relabel(&mut self) -> Result<Vec<(u64, (u64, Record))>, NoMem> {
         Ok(self.tree.relabel(&mut self.visits)?)
     }
 }

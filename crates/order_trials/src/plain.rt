@@ -130,13 +130,13 @@ impl Plain {
         }
     }
 
-    /// Takes the new labels. Answers whether the old ones are those in the list, and the new ones rise.
-    pub fn relabel(&mut self, given: &[(u64, u64)]) -> bool {
+    /// Takes the new labels. Answers whether the old ones and the runs are those in the list, and the new ones rise.
+    pub fn relabel(&mut self, given: &[(u64, (u64, Record))]) -> bool {
         let mut agrees = given.len() == self.entries.len();
         let mut last = 0;
-        for (k, (old, new)) in given.iter().enumerate() {
+        for (k, (old, (new, run))) in given.iter().enumerate() {
             if k < self.entries.len() {
-                agrees = agrees && self.entries[k].0 == *old && last < *new;
+                agrees = agrees && self.entries[k] == (*old, *run) && last < *new;
                 self.entries[k].0 = *new;
                 last = *new;
             }

@@ -111,11 +111,13 @@ impl Runs {
         let Some(found) = self.run_of(node, visits) else {
             return Ok(None);
         };
-        if found.run.len == 1 {
-            return Ok(Some(found));
-        }
-        self.part(node, visits)?;
-        Ok(self.run_of(node, visits))
+        let Some(begun) = self.begin_found(node, found, visits)? else {
+            let _runs = self.tree.runs();
+            return Ok(None);
+        };
+        let lone = self.end_found(node, begun, visits)?;
+        let _runs = self.tree.runs();
+        Ok(lone)
     }
 
     /// Changes the states of a run's characters.

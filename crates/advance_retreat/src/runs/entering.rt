@@ -1,12 +1,11 @@
 //! Characters of new children that come in.
 
-ghost use Rattle.std.specs.Prelude.{◌≡◌, ◌+◌, ◌<◌, ◌≤◌, Bool, true, [], ◌∷◌, ◌++◌, IfOk, IfSome, OnOk, OnErr, length, Contains};
+ghost use Rattle.std.specs.Prelude.{◌≡◌, ◌+◌, ◌<◌, ◌≤◌, ◌^◌, Bool, true, [], ◌∷◌, ◌++◌, IfOk, IfSome, OnOk, OnErr, length, Contains};
 ghost use Rattle.ew_model.specs.declared.node.Node.{Node as Nodes};
 ghost use Rattle.ew_model.specs.declared.node.Node.TheVariants as nodes;
-ghost use Rattle.walker_record.specs.Stretches.{Stretch, effect_of, is_continued, joined_of};
+ghost use Rattle.walker_record.specs.Stretches.{effect_of, is_continued, joined_of};
 ghost use Rattle.fugue_place.specs.declared.neighbour.Place.TheVariants as place;
-ghost use Rattle.order_tree.specs.Pairs.{HasRoom, changed, total, lower, up_to, runs};
-ghost use Rattle.advance_retreat.specs.Cursors.{IsCursor, last_of};
+ghost use Rattle.order_tree.specs.Pairs.{HasRoom, labels, changed, total, lower, up_to, runs};
 ghost use Rattle.advance_retreat.specs.Entering.{run_of, attached_by, IsNewChild, EntersAt};
 ghost use Rattle.advance_retreat.specs.Laid.{Stands, AreLabelled, chars_in};
 ghost use Rattle.advance_retreat.specs.Loose.{loose_in, loose_parted};
@@ -56,6 +55,16 @@ impl Runs {
         child.enlist(own, &mut self.labels, siblings)?;
         self.fill(own, child.run(), visits);
         Ok(self.shown_before(own, visits))
+    }
+
+    /// Has a cursor's run stand under its label as the cursor has it.
+    pub fn take_in<L: Ledger>(&mut self, cursor: &Cursor, visits: &mut Steps<L>)
+        requires held { Contains (labels self.old.tree.pairs) cursor.now.label }
+        requires few { length (chars_in (changed self.old.tree.pairs cursor.now.label cursor.now.run)) < 2 ^ 32 }
+        ensures pairs { self.new.tree.pairs ≡ changed self.old.tree.pairs cursor.now.label cursor.now.run }
+        ensures labels { self.new.labels ≡ self.old.labels }
+    {
+        self.tree.change(cursor.label, cursor.run, visits);
     }
 
     /// Puts a new child's character behind those of a run that it goes on. Answers its index in the text. After an error for
@@ -117,38 +126,6 @@ impl Runs {
         }
     }
 
-    /// Puts a new child's character behind the last one of a cursor's run, which it goes on. Answers its index in the text. After
-    /// an error for want of memory nothing has changed.
-    pub fn type_behind<L: Ledger>(
-        &mut self,
-        cursor: &Cursor,
-        siblings: &mut Siblings,
-        child: &Child,
-        visits: &mut Steps<L>,
-    ) -> Result<u32, NoMem>
-        requires laid { AreLabelled self.old.tree.pairs self.old.labels }
-        requires new { IsNewChild (chars_in self.old.tree.pairs) siblings.old child.now }
-        requires at { IsCursor self.old.tree.pairs cursor.now }
-        requires goes_on { is_continued cursor.now.run (run_of child.now 1) ≡ true }
-        ensures laid { AreLabelled self.new.tree.pairs self.new.labels }
-        ensures pairs { OnOk result (self.new.tree.pairs ≡ changed self.old.tree.pairs cursor.now.label (joined_of cursor.now.run (run_of child.now 1))) }
-        ensures comes { IfOk result (Comes (chars_in self.old.tree.pairs) (chars_in self.new.tree.pairs) (place.After (last_of cursor.now.run)) child.now.lv) }
-        ensures attached { OnOk result (siblings.new ≡ siblings.old ++ attached_by child.now ∷ []) }
-        ensures err { OnErr result (self.new.tree ≡ self.old.tree) }
-        ensures detached { OnErr result (siblings.new ≡ siblings.old) }
-        ensures told { OnOk result ((among : Nodes → Bool) → among (nodes.Event child.now.lv) ≡ true → loose_in among (runs self.new.tree.pairs) ≤ loose_in among (runs self.old.tree.pairs)) }
-    {
-        let _runs = self.tree.runs();
-        self.lengthen(
-            cursor.label,
-            &cursor.run,
-            cursor.before,
-            siblings,
-            child,
-            visits,
-        )
-    }
-
     /// Puts a new child's character right behind that of a node, or before all where it has none, as a run of its own. Answers
     /// its index in the text. After an error for want of memory the characters and the children are the same.
     fn insert_apart<L: Ledger>(
@@ -168,8 +145,8 @@ impl Runs {
         ensures told { OnOk result ((among : Nodes → Bool) → among (nodes.Event child.now.lv) ≡ true → loose_in among (runs self.new.tree.pairs) ≤ loose_in among (runs self.old.tree.pairs)) }
         ensures loose { OnErr result ((among : Nodes → Bool) → loose_in among (runs self.new.tree.pairs) ≤ loose_in among (runs self.old.tree.pairs) + 2) }
     {
-        self.cut_behind(node, visits)?;
-        let room = self.make_room(node, visits)?;
+        let ended = self.cut_behind(node, visits)?;
+        let room = self.make_room_at(ended, node, visits)?;
         let _runs = self.tree.runs();
         match room {
             Some(spot) => self.insert_run(spot.label, siblings, child, visits),

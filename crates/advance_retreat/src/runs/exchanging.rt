@@ -93,8 +93,8 @@ impl Runs {
         ensures told { OnOk result ((among : Nodes → Bool) → among (nodes.Event child.now.lv) ≡ true → loose_in among (runs self.new.tree.pairs) ≤ loose_in among (runs self.old.tree.pairs)) }
         ensures loose { OnErr result ((among : Nodes → Bool) → loose_in among (runs self.new.tree.pairs) ≤ loose_in among (runs self.old.tree.pairs) + 2) }
     {
-        self.cut(node, visits)?;
-        let room = self.make_room(node, visits)?;
+        let begun = self.cut(node, visits)?;
+        let room = self.make_room_at(begun, node, visits)?;
         let _runs = self.tree.runs();
         match room {
             Some(spot) => self.prepend(spot.label, siblings, child, visits),

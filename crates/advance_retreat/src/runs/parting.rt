@@ -1,13 +1,14 @@
 //! Runs that are cut.
 
-ghost use Rattle.std.specs.Prelude.{◌≡◌, ◌<◌, ◌+◌, ℕ, List, ◌++◌, ◌∷◌, IfOk, OnOk, OnErr, length, Contains};
+ghost use Rattle.std.specs.Prelude.{◌≡◌, ◌<◌, ◌+◌, ℕ, ◌++◌, ◌∷◌, IfSome, IfNone, IfOk, OnOk, OnErr, length, Contains};
 ghost use Rattle.ew_model.specs.declared.node.Node.{Node as Nodes};
 ghost use Rattle.walker_record.specs.Stretches.{Stretch, node_on, first_part, second_part};
 ghost use Rattle.order_tree.specs.Pairs.{HasRoom, runs, lower, greater};
-ghost use Rattle.advance_retreat.specs.Laid.{Stands, AreLabelled, chars_in, BeginsRun, EndsRun};
+ghost use Rattle.advance_retreat.specs.Laid.{Stands, IsOffset, AreLabelled, chars_in, BeginsRun, EndsRun};
 ghost use Rattle.advance_retreat.specs.Loose.{MayBeCut};
 
 use crate::offsets::node_behind;
+use crate::runs::reading::Located;
 use crate::runs::{Runs, Spot};
 use ew_model::NoMem;
 use ew_model::node::Node;
@@ -67,55 +68,167 @@ impl Runs {
         Ok(())
     }
 
-    /// Cuts the run of a node right before its character, where it has one. After an error for want of memory the characters
-    /// are the same.
-    pub fn cut<L: Ledger>(&mut self, node: Node, visits: &mut Steps<L>) -> Result<(), NoMem>
+    /// Cuts a run that was found right before a character of it, a node's, where a label is free behind it and there are fewer
+    /// than 2^32 - 1 runs. Answers the second part. After an error for want of memory, and after None, the runs are the same.
+    fn cut_found<L: Ledger>(
+        &mut self,
+        found: Located,
+        node: Node,
+        visits: &mut Steps<L>,
+    ) -> Result<Option<Located>, NoMem>
+        requires laid { AreLabelled self.old.tree.pairs self.old.labels }
+        requires held { Contains self.old.tree.pairs (found.label, found.run) }
+        requires offset { IsOffset found.run node found.offset }
+        requires inside { 0 < found.offset }
+        ensures laid { AreLabelled self.new.tree.pairs self.new.labels }
+        ensures chars { chars_in self.new.tree.pairs ≡ chars_in self.old.tree.pairs }
+        ensures begins { IfOk result (λ o. IfSome o (λ _. BeginsRun self.new.tree.pairs node)) }
+        ensures begun { (v : Nodes) → BeginsRun self.old.tree.pairs v → BeginsRun self.new.tree.pairs v }
+        ensures cut { MayBeCut (runs self.old.tree.pairs) (runs self.new.tree.pairs) node }
+        ensures first { IfOk result (λ o. IfSome o (λ _. Contains self.new.tree.pairs (found.label, first_part found.run found.offset))) }
+        ensures second { IfOk result (λ o. IfSome o (λ f. Contains self.new.tree.pairs (f.label, f.run))) }
+        ensures offset { IfOk result (λ o. IfSome o (λ f. IsOffset f.run node f.offset)) }
+        ensures none { IfOk result (λ o. IfNone o (self.new.tree ≡ self.old.tree)) }
+        ensures err { OnErr result (self.new.tree ≡ self.old.tree) }
+    {
+        if self.tree.runs() == u32::MAX || !self.tree.has_room(found.label, visits) {
+            return Ok(None);
+        }
+        let spot = found.spot();
+        let label = self.split(spot, node, visits)?;
+        let (_, run) = found.run.split(found.offset);
+        Ok(Some(Located {
+            label,
+            run,
+            offset: 0,
+        }))
+    }
+
+    /// Cuts the run of a node right before its character, which was found. Answers the run that begins with it then; there is
+    /// one, so that None never comes. After an error for want of memory the characters are the same.
+    pub fn begin_found<L: Ledger>(
+        &mut self,
+        node: Node,
+        found: Located,
+        visits: &mut Steps<L>,
+    ) -> Result<Option<Located>, NoMem>
+        requires laid { AreLabelled self.old.tree.pairs self.old.labels }
+        requires held { Contains self.old.tree.pairs (found.label, found.run) }
+        requires offset { IsOffset found.run node found.offset }
+        ensures laid { AreLabelled self.new.tree.pairs self.new.labels }
+        ensures chars { chars_in self.new.tree.pairs ≡ chars_in self.old.tree.pairs }
+        ensures first { OnOk result (BeginsRun self.new.tree.pairs node) }
+        ensures begun { (v : Nodes) → BeginsRun self.old.tree.pairs v → BeginsRun self.new.tree.pairs v }
+        ensures cut { MayBeCut (runs self.old.tree.pairs) (runs self.new.tree.pairs) node }
+        ensures held { IfOk result (λ o. IfSome o (λ f. Contains self.new.tree.pairs (f.label, f.run))) }
+        ensures offset { IfOk result (λ o. IfSome o (λ f. IsOffset f.run node f.offset)) }
+        ensures none { IfOk result (λ o. IfNone o ((label n : ℕ) → Stands self.new.tree.pairs label n node → ⊥)) }
+    {
+        if found.offset == 0 {
+            return Ok(Some(found));
+        }
+        match self.cut_found(found, node, visits)? {
+            Some(begun) => Ok(Some(begun)),
+            None => {
+                self.cut_inside(node, visits)?;
+                Ok(self.run_of(node, visits))
+            }
+        }
+    }
+
+    /// Cuts the run of a node right behind its character, which was found. Answers the run that ends with it then; there is one,
+    /// so that None never comes. After an error for want of memory the characters are the same.
+    pub fn end_found<L: Ledger>(
+        &mut self,
+        node: Node,
+        found: Located,
+        visits: &mut Steps<L>,
+    ) -> Result<Option<Located>, NoMem>
+        requires laid { AreLabelled self.old.tree.pairs self.old.labels }
+        requires held { Contains self.old.tree.pairs (found.label, found.run) }
+        requires offset { IsOffset found.run node found.offset }
+        ensures laid { AreLabelled self.new.tree.pairs self.new.labels }
+        ensures chars { chars_in self.new.tree.pairs ≡ chars_in self.old.tree.pairs }
+        ensures last { OnOk result (EndsRun self.new.tree.pairs node) }
+        ensures begun { (v : Nodes) → BeginsRun self.old.tree.pairs v → BeginsRun self.new.tree.pairs v }
+        ensures cut { MayBeCut (runs self.old.tree.pairs) (runs self.new.tree.pairs) (node_on node 1) }
+        ensures held { IfOk result (λ o. IfSome o (λ f. Contains self.new.tree.pairs (f.label, f.run))) }
+        ensures offset { IfOk result (λ o. IfSome o (λ f. IsOffset f.run node f.offset)) }
+        ensures none { IfOk result (λ o. IfNone o ((label n : ℕ) → Stands self.new.tree.pairs label n node → ⊥)) }
+    {
+        let _runs = self.tree.runs();
+        let Located { label, run, offset } = found;
+        let Some(next) = node_behind(&run, offset) else {
+            return Ok(Some(found));
+        };
+        let behind = Located {
+            label,
+            run,
+            offset: offset + 1,
+        };
+        match self.cut_found(behind, next, visits)? {
+            Some(_) => {
+                let (ended, _) = run.split(offset + 1);
+                Ok(Some(Located {
+                    label,
+                    run: ended,
+                    offset,
+                }))
+            }
+            None => {
+                self.cut_inside(next, visits)?;
+                Ok(self.run_of(node, visits))
+            }
+        }
+    }
+
+    /// Cuts the run of a node right before its character, where it has one. Answers where that stands then. After an error for
+    /// want of memory the characters are the same.
+    pub fn cut<L: Ledger>(
+        &mut self,
+        node: Node,
+        visits: &mut Steps<L>,
+    ) -> Result<Option<Spot>, NoMem>
         requires { AreLabelled self.old.tree.pairs self.old.labels }
         ensures laid { AreLabelled self.new.tree.pairs self.new.labels }
         ensures chars { chars_in self.new.tree.pairs ≡ chars_in self.old.tree.pairs }
         ensures first { OnOk result (BeginsRun self.new.tree.pairs node) }
         ensures begun { (v : Nodes) → BeginsRun self.old.tree.pairs v → BeginsRun self.new.tree.pairs v }
         ensures cut { MayBeCut (runs self.old.tree.pairs) (runs self.new.tree.pairs) node }
+        ensures spot { IfOk result (λ o. IfSome o (λ s. Stands self.new.tree.pairs s.label s.offset node)) }
+        ensures none { IfOk result (λ o. IfNone o ((label n : ℕ) → Stands self.new.tree.pairs label n node → ⊥)) }
     {
-        let Some(spot) = self.find(node, visits) else {
-            return Ok(());
+        let Some(found) = self.run_of(node, visits) else {
+            return Ok(None);
         };
-        if spot.offset == 0 {
-            return Ok(());
+        match self.begin_found(node, found, visits)? {
+            Some(begun) => Ok(Some(begun.spot())),
+            None => Ok(None),
         }
-        self.cut_inside(node, visits)
     }
 
-    /// Cuts the run of a node right behind its character, where it has one. After an error for want of memory the characters
-    /// are the same.
-    pub fn cut_behind<L: Ledger>(&mut self, node: Node, visits: &mut Steps<L>) -> Result<(), NoMem>
+    /// Cuts the run of a node right behind its character, where it has one. Answers where that stands then. After an error for
+    /// want of memory the characters are the same.
+    pub fn cut_behind<L: Ledger>(
+        &mut self,
+        node: Node,
+        visits: &mut Steps<L>,
+    ) -> Result<Option<Spot>, NoMem>
         requires { AreLabelled self.old.tree.pairs self.old.labels }
         ensures laid { AreLabelled self.new.tree.pairs self.new.labels }
         ensures chars { chars_in self.new.tree.pairs ≡ chars_in self.old.tree.pairs }
         ensures last { OnOk result (EndsRun self.new.tree.pairs node) }
         ensures begun { (v : Nodes) → BeginsRun self.old.tree.pairs v → BeginsRun self.new.tree.pairs v }
         ensures cut { MayBeCut (runs self.old.tree.pairs) (runs self.new.tree.pairs) (node_on node 1) }
+        ensures spot { IfOk result (λ o. IfSome o (λ s. Stands self.new.tree.pairs s.label s.offset node)) }
+        ensures none { IfOk result (λ o. IfNone o ((label n : ℕ) → Stands self.new.tree.pairs label n node → ⊥)) }
     {
-        let _runs = self.tree.runs();
         let Some(found) = self.run_of(node, visits) else {
-            return Ok(());
+            return Ok(None);
         };
-        match node_behind(&found.run, found.offset) {
-            Some(next) => self.cut(next, visits),
-            None => Ok(()),
+        match self.end_found(node, found, visits)? {
+            Some(ended) => Ok(Some(ended.spot())),
+            None => Ok(None),
         }
-    }
-
-    /// Makes a run of a node's character alone, where it has one. After an error for want of memory the characters are the same.
-    pub fn part<L: Ledger>(&mut self, node: Node, visits: &mut Steps<L>) -> Result<(), NoMem>
-        requires { AreLabelled self.old.tree.pairs self.old.labels }
-        ensures laid { AreLabelled self.new.tree.pairs self.new.labels }
-        ensures chars { chars_in self.new.tree.pairs ≡ chars_in self.old.tree.pairs }
-        ensures first { OnOk result (BeginsRun self.new.tree.pairs node) }
-        ensures last { OnOk result (EndsRun self.new.tree.pairs node) }
-        ensures cut { (mid : List Stretch) × MayBeCut (runs self.old.tree.pairs) mid node × MayBeCut mid (runs self.new.tree.pairs) (node_on node 1) }
-    {
-        self.cut(node, visits)?;
-        self.cut_behind(node, visits)
     }
 }

@@ -1,8 +1,7 @@
 //! What is read of the runs of a state.
 
 ghost use Rattle.std.specs.Prelude.{◌≡◌, ◌<◌, ◌+◌, ℕ, IfSome, IfNone, ◌++◌, length, drop, Contains};
-ghost use Rattle.ew_model.specs.declared.node.Node.{Node as Nodes};
-ghost use Rattle.walker_record.specs.Stretches.{Stretch, prepared_of, effect_of};
+ghost use Rattle.walker_record.specs.Stretches.{prepared_of, effect_of};
 ghost use Rattle.order_tree.specs.Pairs.{IsRising, total, labels, lower, greater, IsPlace};
 ghost use Rattle.advance_retreat.specs.Kept.{deletion_by};
 ghost use Rattle.advance_retreat.specs.Laid.{Stands, IsOffset, AreLabelled, records_of, chars_in};
@@ -22,6 +21,18 @@ pub struct Located {
     pub label: u64,
     pub run: Record,
     pub offset: u32,
+}
+
+impl Located {
+    /// Where the character stands.
+    pub fn spot(&self) -> Spot
+        ensures { result ≡ record { label = self.now.label; offset = self.now.offset } }
+    {
+        Spot {
+            label: self.label,
+            offset: self.offset,
+        }
+    }
 }
 
 impl Runs {
@@ -69,10 +80,7 @@ impl Runs {
         ensures none { IfNone result ((label n : ℕ) → Stands self.now.tree.pairs label n node → ⊥) }
     {
         let found = self.run_of(node, visits)?;
-        Some(Spot {
-            label: found.label,
-            offset: found.offset,
-        })
+        Some(found.spot())
     }
 
     /// The visible character with this index.

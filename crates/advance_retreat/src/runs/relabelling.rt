@@ -1,49 +1,35 @@
 //! New labels for the runs of a state.
 
-ghost use Rattle.std.specs.Prelude.{◌≡◌, ◌<◌, ℕ, ◌⊎◌, IfSome, IfNone, IfOk, OnOk, IsTrue, IsSome, Some, ◌↔◌, length, Contains};
+ghost use Rattle.std.specs.Prelude.{◌≡◌, ◌<◌, ℕ, ◌⊎◌, IfSome, IfNone, IfOk, OnOk, OnErr, IsTrue, IsSome, Some, ◌↔◌, length, Contains};
 ghost use Rattle.order_tree.specs.Pairs.{labels, runs, HasRoom};
-ghost use Rattle.walker_record.specs.Stretches.{Stretch};
 ghost use Rattle.advance_retreat.specs.Labelled.{label_of, Sets};
 ghost use Rattle.advance_retreat.specs.Laid.{Stands, AreLabelled};
 
+use crate::labels::Labels;
 use crate::runs::{Runs, Spot};
 use ew_model::NoMem;
 use ew_model::node::Node;
 use ew_model::steps::Steps;
 use std::alloc::AllocError;
 use std::sync::ledger::Ledger;
+use walker_record::Record;
 
 impl Runs {
-    /// Gives all runs new labels. After an error nothing has changed.
+    /// Gives all runs new labels. After an error for want of memory nothing has changed.
     fn relabel<L: Ledger>(&mut self, visits: &mut Steps<L>) -> Result<(), NoMem>
         requires { AreLabelled self.old.tree.pairs self.old.labels }
         ensures laid { AreLabelled self.new.tree.pairs self.new.labels }
         ensures runs { runs self.new.tree.pairs ≡ runs self.old.tree.pairs }
         ensures room { OnOk result ((label : ℕ) → (label ≡ 0) ⊎ Contains (labels self.new.tree.pairs) label → HasRoom self.new.tree.pairs label) }
+        ensures err { OnErr result (self.new ≡ self.old) }
     {
         let _old = self.tree.runs();
         let given = self.tree.relabel(visits)?;
-        let _runs = self.tree.runs();
         for k in 0..given.len() {
-            let (_, label) = given[k];
-            self.note(label, visits);
+            let (_, (label, run)) = given[k];
+            note(&mut self.labels, label, &run);
         }
         Ok(())
-    }
-
-    /// The first node of the run at a label, if the run has characters, gets this label for another.
-    fn note<L: Ledger>(&mut self, label: u64, visits: &mut Steps<L>)
-        requires held { Contains (labels self.old.tree.pairs) label }
-        requires some { (r : Stretch) → Contains self.old.tree.pairs (label, r) → 0 < r.len → IsSome (label_of self.old.labels r.from) }
-        ensures tree { self.new.tree ≡ self.old.tree }
-        ensures set { (r : Stretch) → Contains self.old.tree.pairs (label, r) → 0 < r.len → Sets self.old.labels self.new.labels r.from (Some label) }
-        ensures none { (r : Stretch) → Contains self.old.tree.pairs (label, r) → r.len ≡ 0 → self.new.labels ≡ self.old.labels }
-    {
-        let _runs = self.tree.runs();
-        let run = *self.tree.locate(label, visits);
-        if run.len > 0 {
-            self.labels.set(run.from, label);
-        }
     }
 
     /// Whether a label is free behind the run of a spot, or before all runs.
@@ -74,14 +60,46 @@ impl Runs {
         ensures behind { IfOk result (λ o. IfSome o (λ s. HasRoom self.new.tree.pairs s.label)) }
         ensures before { IfOk result (λ o. IfNone o (HasRoom self.new.tree.pairs 0)) }
     {
+        let spot = self.find(node, visits);
+        self.make_room_at(spot, node, visits)
+    }
+
+    /// The same, where it is known already where the node's character stands, or that it has none.
+    pub fn make_room_at<L: Ledger>(
+        &mut self,
+        spot: Option<Spot>,
+        node: Node,
+        visits: &mut Steps<L>,
+    ) -> Result<Option<Spot>, NoMem>
+        requires laid { AreLabelled self.old.tree.pairs self.old.labels }
+        requires spot { IfSome spot (λ s. Stands self.old.tree.pairs s.label s.offset node) }
+        requires none { IfNone spot ((label n : ℕ) → Stands self.old.tree.pairs label n node → ⊥) }
+        ensures laid { AreLabelled self.new.tree.pairs self.new.labels }
+        ensures runs { runs self.new.tree.pairs ≡ runs self.old.tree.pairs }
+        ensures few { OnOk result (length self.new.tree.pairs < 4294967295) }
+        ensures spot { IfOk result (λ o. IfSome o (λ s. Stands self.new.tree.pairs s.label s.offset node)) }
+        ensures none { IfOk result (λ o. IfNone o ((label n : ℕ) → Stands self.new.tree.pairs label n node → ⊥)) }
+        ensures behind { IfOk result (λ o. IfSome o (λ s. HasRoom self.new.tree.pairs s.label)) }
+        ensures before { IfOk result (λ o. IfNone o (HasRoom self.new.tree.pairs 0)) }
+    {
         if self.tree.runs() == u32::MAX {
             return Err(AllocError);
         }
-        let spot = self.find(node, visits);
         if self.has_room_at(spot, visits) {
             return Ok(spot);
         }
         self.relabel(visits)?;
         Ok(self.find(node, visits))
+    }
+}
+
+/// The first node of a run, if the run has characters, gets this label for another.
+fn note(held: &mut Labels, label: u64, run: &Record)
+    requires { 0 < run.now.len → IsSome (label_of held.old run.now.from) }
+    ensures set { 0 < run.now.len → Sets held.old held.new run.now.from (Some label) }
+    ensures none { run.now.len ≡ 0 → held.new ≡ held.old }
+{
+    if run.len > 0 {
+        held.set(run.from, label);
     }
 }

@@ -15,8 +15,8 @@ use walker_record::Record;
 
 impl Runs {
     /// Deletes the last character of a cursor's run, which has others: it goes over to the struck ones behind it. Answers those,
-    /// or None where it has to be deleted in another way, since no label is free. After an error for want of memory, and after
-    /// None, nothing has changed.
+    /// or None where it has to be deleted in another way, since no label is free or there are 2^32 - 1 runs. After an error for
+    /// want of memory, and after None, nothing has changed.
     pub fn delete_last<L: Ledger>(
         &mut self,
         cursor: &Cursor,

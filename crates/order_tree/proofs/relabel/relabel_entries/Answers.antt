@@ -26,8 +26,8 @@ loop-entry-preserved g c =
     let old = c.deref_mut-entry-items.result.now in
     let step = c.args.step in
     let label = c.loop-entry.reached.last + step in
-    let notes : c.push_reserved.new.self.items ≡ c.loop-entry.given.items ++ ((c.entry-item.result.0, label) ∷ []) =
-    c.push_reserved.ensures.items ∙ ap (λ (p : ℕ × _). c.loop-entry.given.items ++ ((p.0, label) ∷ [])) (sym c.entry-item.is) in
+    let notes : c.push_reserved.new.self.items ≡ c.loop-entry.given.items ++ ((c.entry-item.result.0, (label, c.entry-item.result.1)) ∷ []) =
+    c.push_reserved.ensures.items ∙ ap (λ (p : ℕ × _). c.loop-entry.given.items ++ ((p.0, (label, p.1)) ∷ [])) (sym c.entry-item.is) in
     let more = onward one_pair g.R.Run.known step c.args.before old c.loop-entry.entry-items c.args.given.now.items c.loop-entry.given.items c.loop-entry.reached c.loop-entry.entry-index c.entry-item.result c.loop-entry-test.true c.entry-item.is c.loop-entry.invariant.0
     (label, (slice_index_or c.loop-entry.entry-items c.loop-entry.entry-index c.entry-item.result).1) c.push_reserved.new.self.items c.by.result c.then-reached.result
     (ap (λ (p : ℕ × _). relabelled step c.loop-entry.reached.last (one_pair p)) (sym c.entry-item.is)) notes c.by.ensures.last c.by.ensures.known c.then-reached.ensures.last c.then-reached.ensures.known in

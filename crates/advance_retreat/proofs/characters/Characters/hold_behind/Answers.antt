@@ -1,28 +1,30 @@
-use Rattle.std.proofs.Common.{◌≡◌, ◌+◌, ◌++◌, Bool, true, suc, drop, Option, sym, ap, ◌∙◌, subst, arith}
+use Rattle.std.proofs.Common.{◌≡◌, ℕ, List, ◌+◌, ◌++◌, Bool, true, suc, drop, Option, sym, ap, ◌∙◌, subst, arith}
 use Rattle.ew_model.specs.declared.node.Node.{Node}
 use Rattle.walker_record.specs.Stretches.{Stretch, node_on}
+use Rattle.advance_retreat.specs.Cursors.{settled}
 use Rattle.advance_retreat.specs.Kept.{visible_in}
-use Rattle.advance_retreat.specs.Laid.{InRuns, chars_in, records_of}
+use Rattle.advance_retreat.specs.Laid.{InRuns, in_runs, chars_in, records_of}
 use Rattle.advance_retreat.specs.Rights.{counted}
 use Rattle.advance_retreat.specs.Spots.{IsHold, first_known, has_counted_right, hold_by}
-use Rattle.order_tree.specs.Pairs.{greater}
+use Rattle.order_tree.specs.Pairs.{IsRising, greater}
 use Rattle.advance_retreat.proofs.PartedRuns.{same_run}
 use Rattle.advance_retreat.proofs.RunChars.{visible-chars}
 use Rattle.advance_retreat.proofs.VisiblePlaces.{left_place, behind_place, place_in}
+use Rattle.advance_retreat.proofs.Settled.{settled_rising, kept_again, now_kept, now_same}
 use Rattle.advance_retreat.proofs.characters.Characters.hold_behind.Goals as goal
 
 pub find-found-requires-clause-within : goal.find-found-requires-clause-within
 find-found-requires-clause-within g c =
     let same = ap (λ (s : InRuns). visible_in s.records) c.self.view_is in
-    let sum = visible-chars c.self.inside.runs.tree.pairs in
+    let sum = visible-chars (settled c.self.inside.runs.tree.pairs c.self.inside.cursor) in
     omega (arith, c.requires.within, same, sum)
 
 pub returns-then-not-has_known_right-clause-hold : goal.returns-then-not-has_known_right-clause-hold
 returns-then-not-has_known_right-clause-hold g c =
     let found = c.find-found in
     let spot = found.result.spot in
-    let ps = c.self.inside.runs.tree.pairs in
-    let rising = c.count-runs.ensures.rising in
+    let ps = settled c.self.inside.runs.tree.pairs c.self.inside.cursor in
+    let rising = subst (λ (qs : List (ℕ × Stretch)). IsRising qs) c.find-found.ensures.same (settled_rising c.find-found.new.runs.tree.pairs c.find-found.new.cursor c.count-runs.ensures.rising) in
     let is = found.ensures.place in
     let run = same_run ps spot.label found.result.run is.run rising found.ensures.held is.held in
     let node = c.node-left.ensures ∙ ap (λ (r : Stretch). node_on r.from spot.offset) run in
@@ -39,8 +41,8 @@ pub returns-clause-hold : goal.returns-clause-hold
 returns-clause-hold g c =
     let found = c.find-found in
     let spot = found.result.spot in
-    let ps = c.self.inside.runs.tree.pairs in
-    let rising = c.count-runs.ensures.rising in
+    let ps = settled c.self.inside.runs.tree.pairs c.self.inside.cursor in
+    let rising = subst (λ (qs : List (ℕ × Stretch)). IsRising qs) c.find-found.ensures.same (settled_rising c.find-found.new.runs.tree.pairs c.find-found.new.cursor c.count-runs.ensures.rising) in
     let is = found.ensures.place in
     let run = same_run ps spot.label found.result.run is.run rising found.ensures.held is.held in
     let node = c.node-left.ensures ∙ ap (λ (r : Stretch). node_on r.from spot.offset) run in
@@ -48,7 +50,9 @@ returns-clause-hold g c =
     let has = has_counted_right c.args.base (counted c.args.rights.now) in
     let known : has c.node-left.result ≡ true = sym c.has_known_right.ensures ∙ c.if-not-has_known_right.false in
     let next =
-    c.known_behind.ensures ∙ ap (λ (r : Stretch). first_known (drop (spot.offset + 1) (records_of r) ++ chars_in (greater ps spot.label))) run
+    c.known_behind.ensures
+    ∙ ap (λ (qs : List (ℕ × Stretch)). first_known (drop (spot.offset + 1) (records_of found.result.run) ++ chars_in (greater qs spot.label))) (c.settle.ensures.pairs ∙ c.find-found.ensures.same)
+    ∙ ap (λ (r : Stretch). first_known (drop (spot.offset + 1) (records_of r) ++ chars_in (greater ps spot.label))) run
     ∙ ap first_known (sym (behind_place ps c.args.at spot.label spot.offset rising is)) in
     subst (λ (s : InRuns). IsHold has s.records (c.args.at + 1) c.behind.result) c.self.view_is (record {
       left = record { node = c.node-left.result; behind = suc place };
@@ -56,3 +60,23 @@ returns-clause-hold g c =
       is = c.behind.ensures ∙ ap (λ (o : Option Node). hold_by true o c.node-left.result) next
           ∙ ap (λ (b : Bool). hold_by b (first_known (drop (suc place) (chars_in ps))) c.node-left.result) (sym known);
     })
+
+pub invariant_of-self : goal.invariant_of-self
+invariant_of-self g c =
+    let inside = c.self.inside in
+    kept_again inside.runs.tree.pairs c.find-found.new.runs.tree.pairs inside.runs.labels c.find-found.new.runs.labels inside.visible inside.shown inside.cursor c.find-found.new.cursor inside.pending c.find-found.new.pending c.self.invariant c.find-found.ensures.same c.find-found.ensures.labels c.find-found.ensures.cursor c.find-found.ensures.told
+
+pub returns-then-not-has_known_right-clause-same : goal.returns-then-not-has_known_right-clause-same
+returns-then-not-has_known_right-clause-same g c = ap in_runs c.find-found.ensures.same ∙ c.self.view_is
+
+pub invariant_of-self-2 : goal.invariant_of-self-2
+invariant_of-self-2 g c =
+    let inside = c.self.inside in
+    let rises = subst (λ (qs : List (ℕ × Stretch)). IsRising qs) (sym c.settle.ensures.pairs) (settled_rising c.find-found.new.runs.tree.pairs c.find-found.new.cursor c.count-runs.ensures.rising) in
+    now_kept c.find-found.new.runs.tree.pairs c.settle.new.runs.tree.pairs c.find-found.new.runs.labels c.settle.new.runs.labels inside.visible inside.shown c.find-found.new.cursor c.find-found.new.pending (kept_again inside.runs.tree.pairs c.find-found.new.runs.tree.pairs inside.runs.labels c.find-found.new.runs.labels inside.visible inside.shown inside.cursor c.find-found.new.cursor inside.pending c.find-found.new.pending c.self.invariant c.find-found.ensures.same c.find-found.ensures.labels c.find-found.ensures.cursor c.find-found.ensures.told) c.settle.ensures.pairs c.settle.ensures.labels rises c.settle.new.pending
+
+pub returns-clause-same : goal.returns-clause-same
+returns-clause-same g c =
+    let inside = c.self.inside in
+    let rises = subst (λ (qs : List (ℕ × Stretch)). IsRising qs) (sym c.settle.ensures.pairs) (settled_rising c.find-found.new.runs.tree.pairs c.find-found.new.cursor c.count-runs.ensures.rising) in
+    ap in_runs (now_same c.find-found.new.runs.tree.pairs c.settle.new.runs.tree.pairs c.find-found.new.runs.labels c.settle.new.runs.labels inside.visible inside.shown c.find-found.new.cursor c.find-found.new.pending (kept_again inside.runs.tree.pairs c.find-found.new.runs.tree.pairs inside.runs.labels c.find-found.new.runs.labels inside.visible inside.shown inside.cursor c.find-found.new.cursor inside.pending c.find-found.new.pending c.self.invariant c.find-found.ensures.same c.find-found.ensures.labels c.find-found.ensures.cursor c.find-found.ensures.told) c.settle.ensures.pairs c.settle.ensures.labels rises ∙ c.find-found.ensures.same) ∙ c.self.view_is

@@ -1,16 +1,17 @@
-use Rattle.advance_retreat.proofs.Parting.{first_begins}
-use Rattle.std.proofs.Common.{inl, refl}
+use Rattle.std.proofs.Common.{Option, IfSome, Contains, subst, sym}
+use Rattle.advance_retreat.specs.declared.runs.Spot.{Spot}
+use Rattle.advance_retreat.specs.declared.runs.reading.Located.{Located}
+use Rattle.advance_retreat.specs.Laid.{Stands, IsOffset}
+use Rattle.advance_retreat.proofs.FoundCuts.{found_stands}
 use Rattle.advance_retreat.proofs.runs.Runs.cut.Goals as goal
 
 pub returns-in_default-clause-first : goal.returns-in_default-clause-first
 returns-in_default-clause-first g c label n s = absurd (c.in_default.ensures.none label n s)
 
-pub returns-then-spot-eq0-clause-first : goal.returns-then-spot-eq0-clause-first
-returns-then-spot-eq0-clause-first g c =
-    first_begins c.args.self.now.tree.pairs c.args.self.now.labels c.requires c.args.node c.in-Some.spot.label c.in-Some.spot.offset c.in-Some.ensures.some c.if-spot-eq0.true
-
-pub returns-in_default-clause-cut : goal.returns-in_default-clause-cut
-returns-in_default-clause-cut g c = inl refl
-
-pub returns-then-spot-eq0-clause-cut : goal.returns-then-spot-eq0-clause-cut
-returns-then-spot-eq0-clause-cut g c = inl refl
+pub returns-in-Some-2-clause-spot : goal.returns-in-Some-2-clause-spot
+returns-in-Some-2-clause-spot g c =
+    let qs = c.begin_found.new.self.tree.pairs in
+    let begun = c.in-Some-2.begun in
+    let held = subst (λ (o : Option Located). IfSome o (λ f. Contains qs (f.label, f.run))) c.in-Some-2.is c.in_ok-begun.ensures.held in
+    let is = subst (λ (o : Option Located). IfSome o (λ f. IsOffset f.run c.args.node f.offset)) c.in-Some-2.is c.in_ok-begun.ensures.offset in
+    subst (λ (s : Spot). Stands qs s.label s.offset c.args.node) (sym c.spot.ensures) (found_stands qs begun.label begun.offset begun.run c.args.node held is)

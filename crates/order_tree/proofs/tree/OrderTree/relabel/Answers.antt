@@ -58,5 +58,5 @@ returns-clause-given g c =
     let step = 18446744073709551615 / (c.from.result + 1) in
     let new = tree_of c.relabel_root.new.root in
     let is = c.relabel_root.ensures.pairs in
-    let given = c.relabel_root.ensures.given ∙ ap (λ (ls : List (ℕ × ℕ)). ls ++ renamed step 0 old.pairs) c.in_ok-given.ensures.items in
-    given ∙ sym (zip-relabelled step 0 old.pairs) ∙ sym (ap (λ (ps : List (ℕ × _)). zip (labels old.pairs) (labels ps)) is) ∙ ap (λ (t : Tree _). zip (labels t.pairs) (labels new.pairs)) c.self.view_is
+    let given = c.relabel_root.ensures.given ∙ ap (λ (ls : List (ℕ × (ℕ × _))). ls ++ renamed step 0 old.pairs) c.in_ok-given.ensures.items in
+    given ∙ sym (zip-relabelled step 0 old.pairs) ∙ sym (ap (λ (ps : List (ℕ × _)). zip (labels old.pairs) ps) is) ∙ ap (λ (t : Tree _). zip (labels t.pairs) new.pairs) c.self.view_is
