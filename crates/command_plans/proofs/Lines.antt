@@ -12,8 +12,8 @@ use Rattle.opened_files.specs.declared.reply.Plan.{Plan}
 use Rattle.opened_files.specs.declared.reply.Stop.{Stop}
 use Rattle.opened_files.specs.declared.reply.Stop.TheVariants.{ShelfFailed, SourceFailed, OutOfMemory}
 use Rattle.opened_files.specs.Views.{LostBy, ShelfCauses, plan_view}
-use Rattle.edit_plans.specs.Sources.{Causes, PlansBy}
-use Rattle.merge_plans.specs.Merging.{LoadsAll}
+use Rattle.line_plans.specs.Sources.{Causes, PlansBy}
+use Rattle.line_plans.specs.Merging.{LoadsAll}
 use Rattle.command_plans.specs.Lines.{MayPlan, PlansAlone}
 
 -- a plan in which the input has no part

@@ -10,7 +10,7 @@ use Rattle.opened_files.specs.declared.reply.Plan.TheVariants as plan
 use Rattle.opened_files.specs.declared.reply.Stop.{Stop}
 use Rattle.opened_files.specs.declared.reply.Stop.TheVariants.{OutOfMemory}
 use Rattle.opened_files.specs.Views.{IsCommandPlan, MissesBy, plan_view}
-use Rattle.edit_plans.specs.Sources.{ReadsAll}
+use Rattle.line_plans.specs.Sources.{ReadsAll}
 
 -- the same of a line that has no use for the input
 abbrev pub PlansAlone : {Reading : Type 0} → (Files → List ℕ → Reading → Reply) → Option Files → Result Plan Stop → Type 0

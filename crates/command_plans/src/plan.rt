@@ -6,8 +6,8 @@ ghost use Rattle.command_table.specs.Reads.{IfEditRefused, LeavesInput, LoadsFro
 ghost use Rattle.command_table.specs.Table.{MeansTo, needs_file, reads_input, reply_of, reply_to};
 ghost use Rattle.opened_files.specs.Touches.{CommandTakes};
 ghost use Rattle.opened_files.specs.Views.{IsCommandPlan, LostBy, ShelfCauses};
-ghost use Rattle.edit_plans.specs.Sources.{Causes, KeepsInput, PlansBy};
-ghost use Rattle.merge_plans.specs.Merging.{LoadsAll};
+ghost use Rattle.line_plans.specs.Sources.{Causes, KeepsInput, PlansBy};
+ghost use Rattle.line_plans.specs.Merging.{LoadsAll};
 ghost use Rattle.command_plans.specs.Lines.{MayPlan, MissesFor, PlansAlone, PlansLine, ReadsFor};
 ghost use Rattle.command_words.specs.Words.{IsNamed, command_view};
 
@@ -15,13 +15,13 @@ use crate::commands::{create, show};
 use crate::making::make_history;
 use command_texts::texts::usage_text;
 use command_words::words::Taken;
-use edit_plans::edit::edit;
 use ew_model::limits::Limits;
 use ew_model::name::Name;
 use ew_model::steps::Steps;
 use ew_outside::{Shelf, Source};
-use merge_plans::merge::merge;
-use net_plans::net::net;
+use line_plans::edit::edit;
+use line_plans::merge::merge;
+use line_plans::net::net;
 use opened_files::reply::{Plan, Stop};
 use std::alloc::Global;
 use std::sync::ledger::Ledger;

@@ -9,8 +9,8 @@ use Rattle.command_table.specs.Outputs.{GrowsByFront}
 use Rattle.command_table.specs.Text.{out_of_memory}
 use Rattle.command_table.specs.Table.{Command, MeansTo, reply_of, reads_input, needs_file}
 use Rattle.opened_files.specs.Views.{status_of, LostBy, IsRefusal}
-use Rattle.edit_plans.specs.Sources.{Causes, KeepsInput, PlansBy}
-use Rattle.merge_plans.specs.Merging.{LoadsAll}
+use Rattle.line_plans.specs.Sources.{Causes, KeepsInput, PlansBy}
+use Rattle.line_plans.specs.Merging.{LoadsAll}
 use Rattle.command_plans.specs.Lines.{MayPlan, MissesFor, PlansAlone, PlansLine, ReadsFor}
 use Rattle.command_runs.specs.Endings.{EndFiles, EndOut, EndShelfCount, EndSinkCount, EndsPlan, SaysNone, end_status, end_text, FilesAfter, out_of}
 use Rattle.command_table.specs.Reads.{files_of, loads_of, LoadsFront, TakesAtMost, LeavesInput, IfEditRefused}

@@ -1,7 +1,7 @@
 -- Lemmas on outputs that are written whole.
 use Rattle.std.proofs.Common.{ℕ, List, Option, Result, Ok, Err, arith}
-use Rattle.whole_writes.specs.Written.{Takes}
-use Rattle.whole_writes.proofs.Outputs.{front_of_all}
+use Rattle.serve_plans.specs.Written.{Takes}
+use Rattle.serve_plans.proofs.Outputs.{front_of_all}
 use Rattle.command_table.specs.Outputs.{Tells}
 use Rattle.ew_outside.specs.Counts.{Counts}
 

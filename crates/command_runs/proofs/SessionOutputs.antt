@@ -13,7 +13,7 @@ use Rattle.opened_files.specs.declared.reply.Plan.TheVariants as plan
 use Rattle.serve_plans.specs.declared.halt.Halt.{Halt}
 use Rattle.serve_plans.specs.Plans.{FollowsSession}
 use Rattle.serve_plans.proofs.Speaking.{front_grows, then_front}
-use Rattle.whole_writes.proofs.Outputs.{front_of_all}
+use Rattle.serve_plans.proofs.Outputs.{front_of_all}
 use Rattle.command_runs.specs.Endings.{out_of}
 use Rattle.command_runs.proofs.Faults.{quiet_not_rose}
 use Rattle.command_runs.proofs.Replies.{printed}

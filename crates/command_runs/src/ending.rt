@@ -7,7 +7,7 @@ ghost use Rattle.command_table.specs.Outputs.{Tells};
 use ew_outside::{Failed, Shelf, ShelfFault, Sink};
 use opened_files::reply::{Plan, Stop};
 use serve_plans::halt::Halt;
-use whole_writes::{write_all, write_and_flush};
+use serve_plans::output::{write_all, write_and_flush};
 
 /// How a run ends.
 #[derive(Debug, Drop)]

@@ -9,3 +9,4 @@ pub mod Served
 pub mod Speaking
 pub mod Takes
 pub mod Talks
+pub mod Outputs

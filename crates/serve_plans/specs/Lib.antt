@@ -2,3 +2,4 @@
 pub mod Plans
 pub mod Serving
 pub mod SessionTouches
+pub mod Written

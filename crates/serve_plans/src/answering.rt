@@ -12,6 +12,7 @@ ghost use Rattle.serve_plans.specs.SessionTouches.{AnswersTake};
 
 use crate::closing::Closing;
 use crate::halt::Halt;
+use crate::output::write_and_flush;
 use ew_model::steps::Steps;
 use ew_outside::Sink;
 use peer_exchange::{End, Reply, answer};
@@ -19,7 +20,6 @@ use peer_frames::{Frame, FrameReader, encode};
 use replica::Replica;
 use std::alloc::{AllocError, Global};
 use std::sync::ledger::Ledger;
-use whole_writes::write_and_flush;
 
 /// The bytes of frames, one behind the other.
 fn spelled(alloc: Global, frames: &[Frame]) -> Result<Vec<u8>, AllocError>

@@ -5,5 +5,6 @@
 mod answering;
 mod closing;
 pub mod halt;
+pub mod output;
 pub mod serve;
 mod talk;

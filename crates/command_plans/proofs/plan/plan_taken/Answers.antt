@@ -3,9 +3,9 @@ use Rattle.command_table.specs.Table.{edit, net, MeansTo, net_reply, reply_to}
 use Rattle.command_words.specs.Words.{command_view}
 use Rattle.command_plans.proofs.Lines.{causes_of_shelf, for_any, loads_none, loads_one, may_plan, no_front, one_front, plans_by, plans_read}
 use Rattle.std.proofs.Common.{ℕ, List, subst, refl, Some}
-use Rattle.edit_plans.proofs.Reading.{holds_edit_refused, takes_none}
-use Rattle.edit_plans.proofs.Replies.{causes_of_source, keeps_same, lost_of_source, source_keeps}
-use Rattle.edit_plans.specs.Sources.{PlansBy}
+use Rattle.line_plans.proofs.Reading.{holds_edit_refused, takes_none}
+use Rattle.line_plans.proofs.Replies.{causes_of_source, keeps_same, lost_of_source, source_keeps}
+use Rattle.line_plans.specs.Sources.{PlansBy}
 use Rattle.command_plans.specs.Lines.{MayPlan}
 use Rattle.command_plans.proofs.plan.plan_taken.Goals as goal
 

@@ -1,4 +1,0 @@
-pub mod Reading
-pub mod Readings
-pub mod Replies
-pub mod Stops

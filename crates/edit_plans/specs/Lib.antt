@@ -1,4 +1,0 @@
--- What the parts of the command `edit` answer.
-pub mod Edits
-pub mod Inputs
-pub mod Sources

@@ -1,0 +1,39 @@
+-- From what became of a net script to what is told.
+use Rattle.std.proofs.Common.{◌≡◌, ◌≤◌, ◌∙◌, inr, ℕ, List, length, IsSomeAnd, Some, Result, Ok, Err, IfOk, sym, ap, subst}
+use Rattle.std.specs.declared.alloc.AllocError.{AllocError}
+use Rattle.ew_model.specs.Limits.{LimitNumbers}
+use Rattle.net_words.specs.declared.step.NetStep.{NetStep}
+use Rattle.net_core.specs.declared.fault.NetFault.{NetFault}
+use Rattle.net_core.specs.declared.fault.NetFault.TheVariants as fault
+use Rattle.net_core.specs.Answers.{RunsTo, net_run, refusal_told}
+use Rattle.net_core.specs.Answers.RunOutcome.{Broke}
+use Rattle.net_core.specs.Machine.{Refusal, empty_network}
+use Rattle.command_table.specs.Possible.{MayNet}
+use Rattle.command_table.specs.Table.{net_refusal, net_run_reply, net_script_reply}
+use Rattle.opened_files.specs.declared.reply.Plan.{Plan}
+use Rattle.opened_files.specs.Views.{plan_view}
+use Rattle.line_plans.specs.Nets.{LineRefuses, MayScript}
+
+module _ (limits : LimitNumbers) (script : List (ℕ × NetStep)) where
+  -- the refusal that is told is the one at which the run broke off
+  broke : (line : ℕ) (f : NetFault) (p : Plan) → (why : Refusal) × (refusal_told f ≡ Some why) × (net_run (empty_network limits) script ≡ Broke line why)
+      → LineRefuses limits line f (Ok p) → plan_view p ≡ net_run_reply limits (net_run (empty_network limits) script)
+  broke line f p h told =
+      let here : plan_view p ≡ net_refusal limits line h.0 = subst (λ o. IsSomeAnd o (λ why. plan_view p ≡ net_refusal limits line why)) h.1 told in
+      here ∙ ap (net_run_reply limits) (sym h.2)
+
+  pub stopped : (line : ℕ) (f : NetFault) (result : Result Plan AllocError) → RunsTo limits script (Err (line, f)) → LineRefuses limits line f result
+      → IfOk result (λ p. plan_view p ≡ net_run_reply limits (net_run (empty_network limits) script))
+  stopped line f (Err e) runs told = tt
+  stopped line (fault.NoPeer name) (Ok p) runs told = broke line (fault.NoPeer name) p runs told
+  stopped line (fault.PeerTwice name) (Ok p) runs told = broke line (fault.PeerTwice name) p runs told
+  stopped line (fault.NoPacket n) (Ok p) runs told = broke line (fault.NoPacket n) p runs told
+  stopped line (fault.OutOfRange len) (Ok p) runs told = broke line (fault.OutOfRange len) p runs told
+  stopped line (fault.TooManyHeads heads) (Ok p) runs told = broke line (fault.TooManyHeads heads) p runs told
+  stopped line (fault.Full count) (Ok p) runs told = broke line (fault.Full count) p runs told
+  stopped line fault.OutOfMemory (Ok p) runs told = absurd told
+
+-- an input that isn't too long
+pub may_net : (limits : LimitNumbers) (input given : List ℕ) (p : Plan) → length input ≤ limits.input → given ≡ input → MayScript limits given (Ok p) → MayNet limits (plan_view p)
+may_net limits input given p short is some =
+    let most : length given ≤ limits.input = subst (λ xs. length xs ≤ limits.input) (sym is) short in inr (given, some.0, most, some.1, some.2)

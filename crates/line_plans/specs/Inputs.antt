@@ -1,0 +1,27 @@
+-- Inputs that are read whole.
+use Rattle.std.specs.Prelude.{◌≡◌, ◌≤◌, ⊤, ℕ, List, [], length, Option, Some, Result, Ok, nat_lt, if◌then◌else◌}
+use Rattle.line_plans.specs.declared.input.Input.{Input}
+use Rattle.line_plans.specs.declared.input.Input.TheVariants as input
+use Rattle.opened_files.specs.declared.reply.Stop.{Stop}
+
+-- an input under a bound
+pub data Bytes : Type 0 where
+  too_long : Bytes
+  whole : (bytes : List ℕ) → Bytes
+
+abbrev pub input_of : ℕ → List ℕ → Bytes
+input_of most bytes = if nat_lt most (length bytes) then too_long else whole bytes
+
+abbrev pub input_view : Input → Bytes
+input_view input.TooLong = too_long
+input_view (input.Whole bytes) = whole bytes.items
+
+-- a whole input was read to its end
+abbrev pub EndsInput : Option (List ℕ) → Option (List ℕ) → Result Input Stop → Type 0
+EndsInput (Some old) new (Ok (input.Whole _)) = new ≡ Some []
+EndsInput _ new _ = ⊤
+
+-- an input that was read whole keeps to the bound
+abbrev pub IsWithin : ℕ → Input → Type 0
+IsWithin most input.TooLong = ⊤
+IsWithin most (input.Whole bytes) = length bytes.items ≤ most

@@ -1,0 +1,6 @@
+-- What the parts of the commands `edit`, `merge` and `net` answer.
+pub mod Edits
+pub mod Inputs
+pub mod Sources
+pub mod Nets
+pub mod Merging

@@ -1,0 +1,232 @@
+//! The command that edits a file by a script.
+ghost use Rattle.std.specs.Prelude.{◌≡◌, ◌≢◌, ◌<◌, ◌+◌, ◌^◌, [], length, IfOk, IfSome};
+ghost use Rattle.event_words.specs.Meaning.{edit_meant, numbered_edits};
+ghost use Rattle.replica.specs.Answers.{EditsBy};
+ghost use Rattle.line_plans.specs.Edits.{EditsTo, LineRefuses, MayScript, PlansInput, PlansScript, edits_reply};
+ghost use Rattle.command_table.specs.Reads.{IfRefused, LeavesInput, TakesAtMost};
+ghost use Rattle.command_table.specs.Possible.{MayEdit, MayReplyTo};
+ghost use Rattle.command_table.specs.Scripts.{Means};
+ghost use Rattle.command_table.specs.Table as table;
+ghost use Rattle.command_table.specs.Table.{input_reply, made_reply, open_file, opened, over_events};
+ghost use Rattle.opened_files.specs.Touches.{TouchesAtMost, file_touches};
+ghost use Rattle.opened_files.specs.Views.{IsCommandPlan, LostBy, MissesBy, plan_view, status_of};
+ghost use Rattle.line_plans.specs.Sources.{Causes, KeepsInput, PlansBy, ReadsAll, SourceCauses};
+ghost use Rattle.ew_outside.specs.Counts.{next};
+
+use crate::input::{Input, read_input};
+use command_texts::texts::{
+    bad_line_text, input_too_long_text, line_out_of_range_text, made_text, too_many_events_text,
+    too_many_heads_text,
+};
+use event_words::edit::Edit;
+use event_words::script::{ScriptFault, read_script};
+use ew_model::limits::Limits;
+use ew_model::name::Name;
+use ew_model::steps::Steps;
+use ew_outside::{Shelf, Source};
+use opened_files::open::{Found, open};
+use opened_files::reply::{Plan, Stop};
+use opened_files::store::store_plan;
+use replica::{EditFault, Replica};
+use std::alloc::{AllocError, Global};
+use std::sync::ledger::Ledger;
+
+/// Does one edit.
+fn do_edit<L: Ledger>(
+    replica: &mut Replica,
+    agent: Name,
+    edit: &Edit,
+    steps: &mut Steps<L>,
+) -> Result<u32, EditFault>
+    requires { replica.old.waiting ≡ [] }
+    ensures done { EditsBy agent (edit_meant edit.now) replica.old replica.new result }
+    ensures steps { steps.new ≡ steps.old }
+{
+    match edit {
+        Edit::Ins { at, text } => replica.insert(agent, *at, text.as_str(), steps),
+        Edit::Del { at, n } => replica.delete(agent, *at, *n, steps),
+    }
+}
+
+/// Why a line is refused, as a plan.
+pub fn refuse_line<'a>(
+    alloc: Global,
+    limits: &Limits,
+    line: u32,
+    fault: EditFault,
+) -> Result<Plan<'a>, AllocError>
+    ensures told { LineRefuses limits.now line fault result }
+    ensures plan { IfOk result IsCommandPlan }
+{
+    match fault {
+        EditFault::OutOfMemory => Err(AllocError),
+        EditFault::OutOfRange { len } => Ok(Plan::Refuses {
+            status: 5,
+            text: line_out_of_range_text(alloc, line, len)?,
+        }),
+        EditFault::TooManyHeads { heads } => Ok(Plan::Refuses {
+            status: 7,
+            text: too_many_heads_text(alloc, heads)?,
+        }),
+        EditFault::Full { .. } => Ok(Plan::Refuses {
+            status: 7,
+            text: too_many_events_text(alloc, limits.events())?,
+        }),
+    }
+}
+
+/// Does the edits in order. None where all were done, else the plan that refuses a line.
+fn do_edits<'a, L: Ledger>(
+    alloc: Global,
+    replica: &mut Replica,
+    agent: Name,
+    edits: &[(u32, Edit)],
+    steps: &mut Steps<L>,
+) -> Result<Option<Plan<'a>>, AllocError>
+    requires { replica.old.waiting ≡ [] }
+    ensures done { EditsTo agent (numbered_edits edits.now) replica.old replica.new result }
+    ensures plan { IfOk result (λ o. IfSome o IsCommandPlan) }
+    ensures steps { steps.new ≡ steps.old }
+{
+    let limits = replica.limits();
+    for (line, edit) in edits {
+        if let Err(fault) = do_edit(replica, agent, edit, steps) {
+            return Ok(Some(refuse_line(alloc, &limits, *line, fault)?));
+        }
+    }
+    Ok(None)
+}
+
+/// What is to be stored and told, once all edits are done.
+fn made_plan<'a>(
+    alloc: Global,
+    name: &'a str,
+    replica: &Replica,
+    before: u32,
+) -> Result<Plan<'a>, AllocError>
+    ensures told { IfOk result (λ p. plan_view p ≡ made_reply name.now before replica.now.held) }
+    ensures plan { IfOk result IsCommandPlan }
+{
+    let count = replica.count();
+    if before < count {
+        let out = made_text(alloc, u64::from(count - before))?;
+        store_plan(alloc, name, replica, out)
+    } else {
+        Ok(Plan::Prints(made_text(alloc, 0)?))
+    }
+}
+
+/// Does the edits of a script over a replica, and plans what is to be stored and told.
+fn run_edits<'a, L: Ledger>(
+    alloc: Global,
+    name: &'a str,
+    agent: Name,
+    replica: &mut Replica,
+    edits: &[(u32, Edit)],
+    steps: &mut Steps<L>,
+) -> Result<Plan<'a>, AllocError>
+    requires { replica.old.waiting ≡ [] }
+    ensures told { IfOk result (λ p. plan_view p ≡ edits_reply name.now agent replica.old (numbered_edits edits.now)) }
+    ensures plan { IfOk result IsCommandPlan }
+    ensures found { IfOk result (λ p. status_of p ≢ 3) }
+    ensures steps { steps.new ≡ steps.old }
+{
+    let before = replica.count();
+    match do_edits(alloc, replica, agent, edits, steps)? {
+        Some(refusal) => Ok(refusal),
+        None => made_plan(alloc, name, replica, before),
+    }
+}
+
+/// Runs a script over a replica.
+fn run_script<'a, L: Ledger>(
+    alloc: Global,
+    name: &'a str,
+    agent: Name,
+    replica: &mut Replica,
+    script: &[u8],
+    steps: &mut Steps<L>,
+) -> Result<Plan<'a>, AllocError>
+    requires short { length script.now < 2 ^ 32 }
+    requires none_waits { replica.old.waiting ≡ [] }
+    ensures told { PlansScript name.now agent replica.old script.now result }
+    ensures some { MayScript name.now agent replica.old script.now result }
+    ensures plan { IfOk result IsCommandPlan }
+    ensures found { IfOk result (λ p. status_of p ≢ 3) }
+    ensures steps { steps.new ≡ steps.old }
+{
+    let edits = match read_script(alloc, script) {
+        Ok(edits) => edits,
+        Err(ScriptFault::OutOfMemory) => return Err(AllocError),
+        Err(ScriptFault::BadLine(line)) => {
+            return Ok(Plan::Refuses {
+                status: 5,
+                text: bad_line_text(alloc, line)?,
+            });
+        }
+    };
+    run_edits(alloc, name, agent, replica, &edits, steps)
+}
+
+/// Reads the input, and runs it as a script over a replica.
+fn take_input<'a, S: Source, L: Ledger>(
+    alloc: Global,
+    name: &'a str,
+    agent: Name,
+    limits: &Limits,
+    replica: &mut Replica,
+    input: &mut S,
+    steps: &mut Steps<L>,
+) -> Result<Plan<'a>, Stop>
+    requires limits { replica.old.limits ≡ limits.now }
+    requires none_waits { replica.old.waiting ≡ [] }
+    ensures told { IfSome (S.left input.old) (λ xs. PlansInput name.now agent replica.old xs result) }
+    ensures some { IfOk result (λ p. MayEdit name.now agent limits.now (opened replica.old.held) (plan_view p)) }
+    ensures end { ReadsAll (S.left input.old) (S.left input.new) result }
+    ensures few { TakesAtMost (limits.now.input + 1) (S.left input.old) (S.left input.new) }
+    ensures cause { SourceCauses (S.faults input.old) (S.faults input.new) result }
+    ensures found { IfOk result (λ p. status_of p ≢ 3) }
+    ensures plan { IfOk result IsCommandPlan }
+    ensures steps { steps.new ≡ steps.old }
+{
+    let most = limits.input();
+    match read_input(alloc, input, most)? {
+        Input::TooLong => Ok(Plan::Refuses {
+            status: 7,
+            text: input_too_long_text(alloc, most)?,
+        }),
+        Input::Whole(script) => Ok(run_script(alloc, name, agent, replica, &script, steps)?),
+    }
+}
+
+/// Edits a file by the script that the input is. The steps taken are at most those of loading the file.
+pub fn edit<'a, H: Shelf, S: Source, L: Ledger>(
+    alloc: Global,
+    name: &'a str,
+    agent: Name,
+    limits: &Limits,
+    shelf: &mut H,
+    input: &mut S,
+    steps: &mut Steps<L>,
+) -> Result<Plan<'a>, Stop>
+    ensures told { PlansBy Means (λ files xs reading. over_events (input_reply name.now agent limits.now xs reading) (open_file name.now limits.now files)) (H.files shelf.old) (S.left input.old) result }
+    ensures some { IfOk result (λ p. MayReplyTo (table.edit name.now agent) limits.now (plan_view p)) }
+    ensures plan { IfOk result IsCommandPlan }
+    ensures same { H.files shelf.new ≡ H.files shelf.old }
+    ensures end { ReadsAll (S.left input.old) (S.left input.new) result }
+    ensures cause { Causes (H.faults shelf.old) (H.faults shelf.new) (S.faults input.old) (S.faults input.new) result }
+    ensures misses { MissesBy (H.misses shelf.old) (H.misses shelf.new) result }
+    ensures few { TakesAtMost (limits.now.input + 1) (S.left input.old) (S.left input.new) }
+    ensures kept { KeepsInput (S.left input.old) (S.left input.new) result }
+    ensures untouched { IfSome (H.files shelf.old) (λ m. IfRefused (open_file name.now limits.now m) (LeavesInput (S.left input.old) (S.left input.new) (S.faults input.old) (S.faults input.new))) }
+    ensures loads { H.loads shelf.new ≡ next (H.loads shelf.old) }
+    ensures lost { LostBy (H.lost shelf.old) (H.lost shelf.new) result }
+    ensures most { TouchesAtMost (file_touches name.now limits.now) (H.files shelf.old) steps.old steps.new }
+{
+    match open(alloc, name, limits, shelf, steps)? {
+        Found::Refused { status, text } => Ok(Plan::Refuses { status, text }),
+        Found::Open(mut replica) => {
+            take_input(alloc, name, agent, limits, &mut replica, input, steps)
+        }
+    }
+}

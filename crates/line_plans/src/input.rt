@@ -1,0 +1,43 @@
+//! Reading the input whole, where it isn't above a bound.
+ghost use Rattle.std.specs.Prelude.{◌≡◌, ◌<◌, ◌+◌, IfOk, IfSome};
+ghost use Rattle.line_plans.specs.Inputs.{input_view, input_of, EndsInput, IsWithin};
+ghost use Rattle.line_plans.specs.Sources.{SourceCauses};
+ghost use Rattle.command_table.specs.Reads.{TakesAtMost};
+
+use ew_outside::{Failed, Source};
+use opened_files::reply::Stop;
+use std::alloc::Global;
+
+/// The input, or that there is more of it.
+#[derive(Debug, Drop)]
+pub enum Input {
+    TooLong,
+    Whole(Vec<u8>),
+}
+
+const PIECE: usize = 4096;
+
+/// Reads to the end, but at most one byte more than `most`.
+pub fn read_input<S: Source>(alloc: Global, source: &mut S, most: u32) -> Result<Input, Stop>
+    ensures told { IfSome (S.left source.old) (λ xs. IfOk result (λ i. input_view i ≡ input_of most xs)) }
+    ensures short { IfOk result (IsWithin most) }
+    ensures end { EndsInput (S.left source.old) (S.left source.new) result }
+    ensures few { TakesAtMost (most + 1) (S.left source.old) (S.left source.new) }
+    ensures cause { SourceCauses (S.faults source.old) (S.faults source.new) result }
+{
+    let bound = most as usize;
+    let mut bytes = Vec::new(alloc);
+    let mut buffer = [0u8; PIECE];
+    'pieces: while bytes.len() <= bound {
+        let room = (bound + 1 - bytes.len()).min(PIECE);
+        let count = match source.read(&mut buffer[..room]) {
+            Ok(count) => count,
+            Err(Failed) => return Err(Stop::SourceFailed),
+        };
+        if count == 0 {
+            return Ok(Input::Whole(bytes));
+        }
+        bytes.extend_from_slice(&buffer[..count])?;
+    }
+    Ok(Input::TooLong)
+}

@@ -1,0 +1,181 @@
+//! The command that merges another file into a file.
+ghost use Rattle.std.specs.Prelude.{◌≡◌, ◌≢◌, ◌≤◌, ◌+◌, [], ◌∷◌, find, IfOk, IfSome};
+ghost use Rattle.std.specs.List.{list_any};
+ghost use Rattle.std.specs.Option.{option_copied};
+ghost use Rattle.line_plans.specs.Merging.{took_reply, LoadsAll};
+ghost use Rattle.command_texts.specs.Told.{took_text};
+ghost use Rattle.command_table.specs.Loads.{File};
+ghost use Rattle.command_table.specs.Possible.{MayReplyTo};
+ghost use Rattle.command_table.specs.Table.{merge_reply, open_file, opened_as, over_both, over_events, received_reply};
+ghost use Rattle.command_table.specs.Table as table;
+ghost use Rattle.ew_model.specs.Rounds.{most_touches};
+ghost use Rattle.opened_files.specs.Touches.{TouchesAtMost, file_touches, merge_touches, touches_over};
+ghost use Rattle.peer_exchange.specs.Answering as answering;
+ghost use Rattle.opened_files.specs.Views.{IsCommandPlan, LostBy, MissesBy, ShelfCauses, plan_view, status_of};
+ghost use Rattle.command_table.specs.Reads.{LoadsFront, loads_behind};
+ghost use Rattle.ew_outside.specs.Counts.{next};
+
+use crate::taking::take;
+use command_texts::texts::{clash_text, received_text, too_many_events_text};
+use ew_model::id::Id;
+use ew_model::limits::Limits;
+use ew_model::steps::Steps;
+use ew_model::verdict::Refusal;
+use ew_outside::Shelf;
+use opened_files::open::{Found, open};
+use opened_files::reply::{Plan, Stop};
+use opened_files::store::store_plan;
+use replica::{Replica, Took};
+use std::alloc::{AllocError, Global};
+use std::sync::ledger::Ledger;
+
+fn is_clash(why: Refusal) -> bool
+    ensures { result ≡ answering.is_clash why }
+{
+    matches!(why, Refusal::Clash)
+}
+
+fn is_graph_full(why: Refusal) -> bool
+    ensures { result ≡ table.is_graph_full why }
+{
+    matches!(why, Refusal::GraphFull)
+}
+
+/// The first refused event that has the id of another.
+fn first_clash(refused: &[(Id, Refusal)]) -> Option<&(Id, Refusal)>
+    ensures { option_copied result ≡ find (λ p. answering.is_clash p.1) refused.now }
+{
+    refused.iter().find(|p| is_clash(p.1))
+}
+
+/// Whether an event was refused because the history is full.
+fn any_graph_full(refused: &[(Id, Refusal)]) -> bool
+    ensures { result ≡ list_any (λ p. table.is_graph_full p.1) refused.now }
+{
+    refused.iter().any(|p| is_graph_full(p.1))
+}
+
+/// What is told and stored of events of which none is a reason to refuse all.
+fn received_plan<'a>(
+    alloc: Global,
+    name: &'a str,
+    replica: &Replica,
+    took: &Took,
+) -> Result<Plan<'a>, AllocError>
+    ensures told { IfOk result (λ p. plan_view p ≡ received_reply name.now replica.now.held took.now.accepted (took_text took.now)) }
+    ensures plan { IfOk result IsCommandPlan }
+    ensures found { IfOk result (λ p. status_of p ≢ 3) }
+{
+    let out = received_text(alloc, took)?;
+    if took.accepted == 0 {
+        Ok(Plan::Prints(out))
+    } else {
+        store_plan(alloc, name, replica, out)
+    }
+}
+
+/// What is told and stored once the events are received.
+fn took_plan<'a>(
+    alloc: Global,
+    name: &'a str,
+    limits: &Limits,
+    replica: &Replica,
+    took: &Took,
+) -> Result<Plan<'a>, AllocError>
+    ensures told { IfOk result (λ p. plan_view p ≡ took_reply name.now limits.now replica.now.held took.now) }
+    ensures plan { IfOk result IsCommandPlan }
+    ensures found { IfOk result (λ p. status_of p ≢ 3) }
+{
+    if let Some((id, _)) = first_clash(&took.refused) {
+        return Ok(Plan::Refuses {
+            status: 5,
+            text: clash_text(alloc, id)?,
+        });
+    }
+    if any_graph_full(&took.refused) {
+        return Ok(Plan::Refuses {
+            status: 7,
+            text: too_many_events_text(alloc, limits.events())?,
+        });
+    }
+    received_plan(alloc, name, replica, took)
+}
+
+/// Receives the events of another replica, and tells what became of them.
+fn receive<'a, L: Ledger>(
+    alloc: Global,
+    name: &'a str,
+    limits: &Limits,
+    replica: &mut Replica,
+    other: Replica,
+    steps: &mut Steps<L>,
+) -> Result<Plan<'a>, AllocError>
+    requires limits { replica.old.limits ≡ limits.now }
+    requires none_waits { replica.old.waiting ≡ [] }
+    ensures told { IfOk result (λ p. plan_view p ≡ merge_reply name.now limits.now replica.old.held other.held) }
+    ensures plan { IfOk result IsCommandPlan }
+    ensures found { IfOk result (λ p. status_of p ≢ 3) }
+    ensures most { steps.new ≤ steps.old + most_touches limits.now replica.old.held [] other.held }
+{
+    let took = take(replica, other, steps)?;
+    took_plan(alloc, name, limits, replica, &took)
+}
+
+/// Opens another file, and receives its events.
+fn take_other<'a, H: Shelf, L: Ledger>(
+    alloc: Global,
+    name: &'a str,
+    other: &str,
+    limits: &Limits,
+    replica: &mut Replica,
+    shelf: &mut H,
+    steps: &mut Steps<L>,
+) -> Result<Plan<'a>, Stop>
+    requires limits { replica.old.limits ≡ limits.now }
+    requires none_waits { replica.old.waiting ≡ [] }
+    ensures told { IfSome (H.files shelf.old) (λ m. IfOk result (λ p. plan_view p ≡ over_events (merge_reply name.now limits.now replica.old.held) (open_file other.now limits.now m))) }
+    ensures some { IfOk result (λ p. (file : File) × (plan_view p ≡ over_events (merge_reply name.now limits.now replica.old.held) (opened_as other.now limits.now file))) }
+    ensures plan { IfOk result IsCommandPlan }
+    ensures same { H.files shelf.new ≡ H.files shelf.old }
+    ensures cause { ShelfCauses (H.faults shelf.old) (H.faults shelf.new) result }
+    ensures misses { MissesBy (H.misses shelf.old) (H.misses shelf.new) result }
+    ensures loads { H.loads shelf.new ≡ next (H.loads shelf.old) }
+    ensures lost { LostBy (H.lost shelf.old) (H.lost shelf.new) result }
+    ensures most { TouchesAtMost (λ m. merge_touches other.now limits.now m replica.old.held) (H.files shelf.old) steps.old steps.new }
+{
+    match open(alloc, other, limits, shelf, steps)? {
+        Found::Refused { status, text } => Ok(Plan::Refuses { status, text }),
+        Found::Open(other) => {
+            let plan = receive(alloc, name, limits, replica, other, steps)?;
+            Ok(plan)
+        }
+    }
+}
+
+/// Merges the events of another file into a file. The steps taken are at most those of loading both, and those of receiving.
+pub fn merge<'a, H: Shelf, L: Ledger>(
+    alloc: Global,
+    name: &'a str,
+    other: &str,
+    limits: &Limits,
+    shelf: &mut H,
+    steps: &mut Steps<L>,
+) -> Result<Plan<'a>, Stop>
+    ensures told { IfSome (H.files shelf.old) (λ m. IfOk result (λ p. plan_view p ≡ over_both (merge_reply name.now limits.now) (open_file name.now limits.now m) (open_file other.now limits.now m))) }
+    ensures some { IfOk result (λ p. MayReplyTo (table.merge name.now other.now) limits.now (plan_view p)) }
+    ensures plan { IfOk result IsCommandPlan }
+    ensures same { H.files shelf.new ≡ H.files shelf.old }
+    ensures cause { ShelfCauses (H.faults shelf.old) (H.faults shelf.new) result }
+    ensures misses { MissesBy (H.misses shelf.old) (H.misses shelf.new) result }
+    ensures front { LoadsFront (name.now ∷ other.now ∷ []) (H.loads shelf.old) (H.loads shelf.new) }
+    ensures loads { LoadsAll (λ m. loads_behind name.now other.now (open_file name.now limits.now m)) (H.files shelf.old) (H.loads shelf.old) (H.loads shelf.new) result }
+    ensures lost { LostBy (H.lost shelf.old) (H.lost shelf.new) result }
+    ensures most { TouchesAtMost (λ m. file_touches name.now limits.now m + touches_over (merge_touches other.now limits.now m) (open_file name.now limits.now m)) (H.files shelf.old) steps.old steps.new }
+{
+    match open(alloc, name, limits, shelf, steps)? {
+        Found::Refused { status, text } => Ok(Plan::Refuses { status, text }),
+        Found::Open(mut replica) => {
+            take_other(alloc, name, other, limits, &mut replica, shelf, steps)
+        }
+    }
+}

@@ -1,2 +1,0 @@
--- What the parts of the command `merge` answer.
-pub mod Merging

@@ -1,3 +1,0 @@
-pub mod OneStep
-pub mod Readings
-pub mod Replies

@@ -1,2 +1,0 @@
--- What the parts of the command `net` answer.
-pub mod Nets

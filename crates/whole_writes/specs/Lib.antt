@@ -1,2 +1,0 @@
--- Outputs that are written whole.
-pub mod Written
