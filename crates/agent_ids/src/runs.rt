@@ -1,10 +1,10 @@
 //! Ids in runs.
 
-ghost use Rattle.std.specs.Prelude.{◌≡◌, ◌↔◌, ℕ, suc, ◌+◌, ◌-◌, ◌<◌, ◌≤◌, ◌^◌, Bool, true, List, [], ◌∷◌, ◌++◌, take, length, Some, slice_get, IsTrue, IsSomeAnd, IfSome, IfNone, OnOk, OnErr};
+ghost use Rattle.std.specs.Prelude.{◌≡◌, ◌↔◌, ℕ, suc, ◌+◌, ◌-◌, ◌<◌, ◌≤◌, ◌^◌, Bool, true, List, [], ◌∷◌, ◌++◌, take, length, Some, slice_get, IsTrue, IsSomeAnd, OnOk, OnErr};
 ghost use Rattle.std.specs.List.{AllWithin};
 ghost use Rattle.ew_model.specs.declared.id.Id.{Id};
 ghost use Rattle.agent_ids.specs.declared.runs.IdRun.{IdRun};
-ghost use Rattle.agent_ids.specs.IdRuns.{id_runs, id_with, ids_in, is_next, last_of, AreRuns, goes_on, with_more, shortened, ids_from, IsHeldAt};
+ghost use Rattle.agent_ids.specs.IdRuns.{id_runs, id_with, ids_in, last_of, AreRuns, goes_on, with_more, shortened, ids_from, IsHeldAt};
 
 use ew_model::NoMem;
 use ew_model::id::Id;
@@ -84,10 +84,18 @@ impl IdRuns {
         }
     }
 
+    /// Whether the id is the last one.
+    pub fn is_last(&self, id: &Id) -> bool
+        ensures { IsTrue result ↔ (slice_get self.now (length self.now - 1) ≡ Some id.now) }
+    {
+        let _count = self.count;
+        ends_with(&self.runs, id)
+    }
+
     /// Puts one more id behind the others.
-    pub fn push(&mut self, id: Id) -> Result<(), NoMem>
+    pub fn push(&mut self, id: &Id) -> Result<(), NoMem>
         requires room { length self.old + 1 < 2 ^ 32 }
-        ensures ok { OnOk result (self.new ≡ self.old ++ id ∷ []) }
+        ensures ok { OnOk result (self.new ≡ self.old ++ id.now ∷ []) }
         ensures err { OnErr result (self.new ≡ self.old) }
     {
         put(&mut self.runs, self.count, id)?;
@@ -162,13 +170,14 @@ fn all_begin_to(runs: &[IdRun], place: u32) -> bool
 }
 
 /// Puts an id behind the others: into the last run, where that goes on with it, or else into a run of its own.
-fn put(runs: &mut Vec<IdRun>, start: u32, id: Id) -> Result<(), NoMem>
+fn put(runs: &mut Vec<IdRun>, start: u32, id: &Id) -> Result<(), NoMem>
     requires { AreRuns 0 runs.old.items start }
-    ensures ok { OnOk result (ids_in runs.new.items ≡ ids_in runs.old.items ++ id ∷ []) }
+    ensures ok { OnOk result (ids_in runs.new.items ≡ ids_in runs.old.items ++ id.now ∷ []) }
     ensures runs { OnOk result (AreRuns 0 runs.new.items (start + 1)) }
     ensures err { OnErr result (runs.new.items ≡ runs.old.items) }
 {
-    if goes_on(runs, &id) {
+    fits(id);
+    if goes_on(runs, id) {
         lengthen_last(runs);
     } else {
         runs.push(IdRun {
@@ -181,42 +190,50 @@ fn put(runs: &mut Vec<IdRun>, start: u32, id: Id) -> Result<(), NoMem>
     Ok(())
 }
 
+/// The number of an id is in the range of its type.
+fn fits(id: &Id)
+    ensures { id.now.seq < 2 ^ 32 }
+{
+    let _number = id.seq;
+}
+
 /// Whether the last run goes on with an id.
 fn goes_on(runs: &[IdRun], id: &Id) -> bool
     requires { (end : ℕ) × AreRuns 0 runs.now end }
     ensures { result ≡ goes_on runs.now id.now }
 {
-    match last_id(runs) {
-        Some(last) => is_next(&last, id),
+    match runs.last() {
+        Some(run) => is_behind(run, id),
         None => false,
     }
 }
 
-/// Whether the second is the next id of the first one's agent.
-fn is_next(x: &Id, y: &Id) -> bool
-    ensures { result ≡ is_next x.now y.now }
+/// Whether the id is the one right behind those of a run. Names are compared only where the numbers fit.
+fn is_behind(run: &IdRun, id: &Id) -> bool
+    requires { run.now.seq + run.now.more < 2 ^ 32 }
+    ensures { IsTrue result ↔ (id.now ≡ id_with run.now.agent (suc (run.now.seq + run.now.more))) }
 {
-    comes_next(x, y)
+    let last = run.seq + run.more;
+    last < id.seq && id.seq - last == 1 && id.agent.is(&run.agent)
 }
 
-/// The same by the numbers, and by the agent only where these fit.
-fn comes_next(x: &Id, y: &Id) -> bool
-    ensures { IsTrue result ↔ (y.now ≡ id_with x.now.agent (suc x.now.seq)) }
-{
-    x.seq < y.seq && y.seq - x.seq == 1 && y.agent.is(&x.agent)
-}
-
-/// The last id of the runs.
-fn last_id(runs: &[IdRun]) -> Option<Id>
+/// Whether the id is the last one of the runs.
+fn ends_with(runs: &[IdRun], id: &Id) -> bool
     requires { (end : ℕ) × AreRuns 0 runs.now end }
-    ensures none { IfNone result (runs.now ≡ []) }
-    ensures some { IfSome result (λ x. (place : ℕ) × (r : IdRun) × (length runs.now ≡ suc place) × (slice_get runs.now place ≡ Some r) × (x ≡ last_of r)) }
+    ensures { IsTrue result ↔ (slice_get (ids_in runs.now) (length (ids_in runs.now) - 1) ≡ Some id.now) }
 {
-    let run = runs.last()?;
-    Some(Id {
-        agent: run.agent,
-        seq: run.seq + run.more,
-    })
+    match runs.last() {
+        Some(run) => is_end(run, id),
+        None => false,
+    }
+}
+
+/// Whether the id is the last one of a run. Names are compared only where the numbers fit.
+fn is_end(run: &IdRun, id: &Id) -> bool
+    requires { run.now.seq + run.now.more < 2 ^ 32 }
+    ensures { IsTrue result ↔ (id.now ≡ last_of run.now) }
+{
+    id.seq == run.seq + run.more && id.agent.is(&run.agent)
 }
 
 /// Gives the last run one id more.

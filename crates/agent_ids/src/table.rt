@@ -1,6 +1,6 @@
 //! The table of ids.
 
-ghost use Rattle.std.specs.Prelude.{◌≡◌, ℕ, suc, ◌+◌, ◌<◌, ◌≤◌, ◌^◌, List, [], ◌∷◌, ◌++◌, length, take, Some, OnOk, OnErr, IsOkAnd, IfSome, IfNone, MatchOption, IsTrue, false, nat_eq, slice_get, position};
+ghost use Rattle.std.specs.Prelude.{◌≡◌, ◌↔◌, ℕ, suc, ◌+◌, ◌-◌, ◌<◌, ◌≤◌, ◌^◌, List, [], ◌∷◌, ◌++◌, length, take, Some, OnOk, OnErr, IsOkAnd, IfSome, IfNone, MatchOption, IsTrue, false, nat_eq, slice_get, position};
 ghost use Rattle.std.specs.List.{All};
 ghost use Rattle.std.specs.Cmp.Lexicographic.{pointwise};
 ghost use Rattle.std.specs.Vec.{vec_len};
@@ -122,6 +122,13 @@ impl AgentTable {
         self.ids.get_near(lv, near)
     }
 
+    /// Whether the id is the last one.
+    pub fn is_last(&self, id: &Id) -> bool
+        ensures { IsTrue result ↔ (slice_get self.now (length self.now - 1) ≡ Some id.now) }
+    {
+        self.ids.is_last(id)
+    }
+
     /// How many runs of neighbours of one agent there are. In a table the numbers in a run follow on each other, so an id goes on
     /// with the run before it exactly where it is the next one of the same agent.
     pub fn runs(&self) -> u32
@@ -138,9 +145,14 @@ impl AgentTable {
         ensures err { OnErr result (self.new ≡ self.old) }
     {
         let lv = self.ids.len();
-        let agent = id.agent;
-        self.ids.push(id)?;
-        match add_position(&mut self.names, &mut self.positions, self.lately, agent, lv) {
+        self.ids.push(&id)?;
+        match add_position(
+            &mut self.names,
+            &mut self.positions,
+            self.lately,
+            &id.agent,
+            lv,
+        ) {
             Ok(number) => {
                 self.lately = number;
                 Ok(())
@@ -210,24 +222,24 @@ fn add_position(
     names: &mut IndexSet<Name>,
     positions: &mut Vec<PositionRuns>,
     likely: usize,
-    name: Name,
+    name: &Name,
     lv: u32,
 ) -> Result<usize, NoMem>
     requires agents { (ids : List Id) × (names.old.keys ≡ agents_of ids) }
     requires alike { vec_len positions.old ≡ length names.old.keys }
     requires room { All (λ own. length own + 1 < 2 ^ 32) positions.old.items }
-    ensures ok { OnOk result ((ids : List Id) (id : Id) → AreAgents ids names.old.keys positions.old.items → length ids ≡ lv → id.agent ≡ name → AreAgents (ids ++ id ∷ []) names.new.keys positions.new.items) }
+    ensures ok { OnOk result ((ids : List Id) (id : Id) → AreAgents ids names.old.keys positions.old.items → length ids ≡ lv → id.agent ≡ name.now → AreAgents (ids ++ id ∷ []) names.new.keys positions.new.items) }
     ensures same_names { OnErr result (names.new.keys ≡ names.old.keys) }
     ensures same_positions { OnErr result (positions.new.items ≡ positions.old.items) }
 {
     let count = names.len();
-    match find_number(names, likely, &name) {
+    match find_number(names, likely, name) {
         Some(number) => {
             positions[number].push(lv)?;
             Ok(number)
         }
         None => {
-            start_agent(names, positions, name, lv)?;
+            start_agent(names, positions, *name, lv)?;
             Ok(count)
         }
     }
