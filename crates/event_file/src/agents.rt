@@ -18,6 +18,8 @@ use std::marker::Model;
 pub struct Agents {
     names: Vec<Name>,
     numbers: BTreeMap<Name, u32>,
+    /// Where the agent stands that was put there last, or that was found to be there.
+    last: u32,
 }
 
 impl Model for Agents {
@@ -25,6 +27,7 @@ impl Model for Agents {
     ghost use Rattle.std.specs.BTreeMap.{get};
     ghost use Rattle.std.specs.Cmp.Lexicographic.{slice_cmp};
     ghost use Rattle.std.specs.Ordering.{nat_cmp};
+    ghost use Rattle.ew_model.specs.Distinct.{AreDistinct};
     ghost use Rattle.ew_model.specs.Ids.{name_eq};
     ghost use Rattle.event_file.specs.Places.{HasPlaces};
 
@@ -32,7 +35,7 @@ impl Model for Agents {
 
     ghost view = { λ a. a.names.items };
 
-    ghost invariant = { λ a. HasPlaces name_eq (get (slice_cmp nat_cmp) a.numbers) a.names.items };
+    ghost invariant = { λ a. HasPlaces name_eq (get (slice_cmp nat_cmp) a.numbers) a.names.items × AreDistinct name_eq a.names.items };
 }
 
 impl Agents {
@@ -43,6 +46,7 @@ impl Agents {
         Agents {
             names: Vec::new(alloc),
             numbers: BTreeMap::new(alloc),
+            last: 0,
         }
     }
 
@@ -64,14 +68,30 @@ impl Agents {
         ensures ok { OnOk result (self.new ≡ with_name self.old name.now) }
         ensures err { OnErr result (self.new ≡ self.old) }
     {
-        if self.numbers.contains_key(name) {
+        if self.is_at(self.last, name) {
+            return Ok(());
+        }
+        if let Some(number) = self.numbers.get(name) {
+            self.last = *number;
             return Ok(());
         }
         let number = self.names.len() as u32;
         self.names.reserve(1)?;
         self.numbers.insert(*name, number)?;
         self.names.push_reserved(*name);
+        self.last = number;
         Ok(())
+    }
+
+    /// Whether this agent is the one at a place.
+    fn is_at(&self, place: u32, name: &Name) -> bool
+        ensures there { result ≡ true → list_any (name_eq name.now) self.now ≡ true }
+        ensures place { result ≡ true → place ≡ position_or_len (name_eq name.now) self.now }
+    {
+        match self.names.get(place as usize) {
+            Some(there) => there.is(name),
+            None => false,
+        }
     }
 
     /// The names of the agents, in order.
@@ -90,5 +110,17 @@ impl Agents {
             Some(number) => *number,
             None => unreachable!(),
         }
+    }
+
+    /// The place of an agent that is there. It is looked for at `near` first, and left there.
+    pub fn number_near(&self, name: &Name, near: &mut u32) -> u32
+        requires { list_any (name_eq name.now) self.now ≡ true }
+        ensures value { result ≡ position_or_len (name_eq name.now) self.now }
+        ensures near { near.new ≡ result }
+    {
+        if !self.is_at(*near, name) {
+            *near = self.number_of(name);
+        }
+        *near
     }
 }

@@ -17,3 +17,9 @@ pub(crate) const DIGEST_LEN: usize = 32;
 
 /// The bytes of the file of no events, the shortest.
 pub(crate) const SHORTEST: usize = 48;
+
+/// The most bytes of a name, its length among them.
+pub(crate) const NAME_BYTES: usize = 33;
+
+/// A little more than the bytes of a record with one parent.
+pub(crate) const RECORD_BYTES: usize = 24;

@@ -67,9 +67,14 @@ impl Progress {
         })
     }
 
-    /// Reads a record and keeps its id. Where it can't be read, nothing changes.
+    /// Where its memory is taken from.
+    pub(crate) fn allocator(&self) -> Global {
+        *self.ids.allocator()
+    }
+
+    /// Reads a record and keeps its id. Where it can't be read, nothing changes. `room` is room for the parents.
     #[tactic(auto, unfolding(ew_model::specs::FileFaults::read_record))]
-    pub(crate) fn next(&mut self, input: &mut Input) -> Result<Event, Stop>
+    pub(crate) fn next(&mut self, room: Vec<Id>, input: &mut Input) -> Result<Event, Stop>
         ensures exact { Gives (λ e. (e, input.new.left.now)) result (read_record self.old.agents self.old.events input.old.left.now) }
         ensures kept { IfOk result (λ e. self.new ≡ record { agents = self.old.agents; events = self.old.events ++ known_by e.id ∷ [] }) }
         ensures err { OnErr result ((self.new ≡ self.old) × (input.new.left.now ≡ input.old.left.now)) }
@@ -78,7 +83,7 @@ impl Progress {
         let place = self.agent(&mut ahead)?;
         let id = self.id(place, &mut ahead)?;
         let count = parent_count(&mut ahead)?;
-        let parents = self.parents(count, &mut ahead)?;
+        let parents = self.parents(room, count, &mut ahead)?;
         let op = ahead.operation()?;
         let event = Event { id, parents, op };
         self.keep(place, event.id)?;
@@ -169,11 +174,13 @@ impl Progress {
         self.seen.contains(place, id)
     }
 
-    /// So many parents, ascending.
-    fn parents(&self, count: u8, input: &mut Input) -> Result<Parents, Stop>
+    /// So many parents, ascending. They are put into the room.
+    fn parents(&self, room: Vec<Id>, count: u8, input: &mut Input) -> Result<Parents, Stop>
         ensures { Gives (λ parents. (parents, input.new.left.now)) result (read_parents (ids_of self.now.events) [] count input.old.left.now) }
     {
-        let mut parents = Vec::with_capacity(*self.ids.allocator(), count as usize)?;
+        let mut parents = room;
+        parents.clear();
+        parents.reserve_exact(count as usize)?;
         for _ in 0..count {
             let parent = self.parent(parents.as_slice(), input)?;
             parents.push(parent)?;

@@ -12,6 +12,7 @@ use crate::input::Input;
 use crate::names::read_names;
 use crate::progress::Progress;
 use ew_model::event::Event;
+use ew_model::id::Id;
 use sha2::{Digest, Sha256};
 use std::alloc::Global;
 use std::marker::Model;
@@ -65,13 +66,21 @@ impl<'a> EventReader<'a> {
     pub fn next(&mut self) -> Result<Option<Event>, FileFault>
         ensures { IsNext result self.old self.new }
     {
+        let room = Vec::new(self.progress.allocator());
+        self.next_in(room)
+    }
+
+    /// The next event as `next` hands it out, with its parents in this room. What stands in the room is let go of.
+    pub fn next_in(&mut self, room: Vec<Id>) -> Result<Option<Event>, FileFault>
+        ensures { IsNext result self.old self.new }
+    {
         if self.left == 0 {
             if let Err(stop) = self.progress.end(&self.input) {
                 return Err(fault_of(stop, self.len));
             }
             return Ok(None);
         }
-        match self.progress.next(&mut self.input) {
+        match self.progress.next(room, &mut self.input) {
             Ok(event) => {
                 self.left -= 1;
                 Ok(Some(event))

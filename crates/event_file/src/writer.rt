@@ -4,6 +4,7 @@ ghost use Rattle.std.specs.Prelude.{◌≡◌, ◌<◌, ◌≤◌, ◌^◌, ◌+
 ghost use Rattle.ew_model.specs.File.{with_digest};
 ghost use Rattle.event_file.specs.Writing.{start_of, fields_of};
 
+use crate::format::{NAME_BYTES, RECORD_BYTES, SHORTEST};
 use crate::writing::{put_record, put_start};
 use ew_model::NoMem;
 use ew_model::event::Op;
@@ -34,7 +35,7 @@ impl FileWriter {
         requires { length agents.now < 2 ^ 32 }
         ensures { IfOk result (λ w. w ≡ start_of agents.now count) }
     {
-        let mut out = Vec::new(alloc);
+        let mut out = Vec::with_capacity(alloc, usual_size(agents.len(), count))?;
         put_start(&mut out, agents, count)?;
         Ok(FileWriter {
             out,
@@ -63,4 +64,11 @@ impl FileWriter {
         out.extend_from_slice(&digest)?;
         Ok(out)
     }
+}
+
+/// How many bytes a file of so many agents and records mostly has at most: where there are few records with more than one parent.
+fn usual_size(agents: usize, count: u32) -> usize
+    requires { agents < 2 ^ 32 }
+{
+    SHORTEST + NAME_BYTES * agents + RECORD_BYTES * count as usize
 }
