@@ -221,6 +221,10 @@ impl Pool {
         ensures err { OnErr result (events_of self.new ≡ events_of self.old) }
     {
         let _limit = self.limit;
+        if self.len() == 0 {
+            self.seen = graph.count();
+            return Ok(None);
+        }
         self.settle(graph)?;
         let id = match self.first_with(&None) {
             Some(waiter) => waiter.id(),
