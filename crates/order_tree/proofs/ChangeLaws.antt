@@ -1,19 +1,17 @@
 -- Runs of which one gave way to another.
-use Rattle.std.proofs.Common.{◌≡◌, ◌≢◌, ℕ, zero, suc, ◌+◌, ◌*◌, ◌^◌, ◌<◌, ◌≤◌, true, false, None, List, [], ◌∷◌, ◌++◌, length, map, take, drop, slice_set, slice_index_or, All, Contains, nat_eq, if◌then◌else◌, arith, refl, sym, ap, ◌∙◌, subst, append-nil, eq-eqb}
+use Rattle.std.proofs.Common.{◌≡◌, ◌≢◌, ℕ, zero, suc, ◌+◌, ◌^◌, ◌<◌, true, false, None, List, [], ◌∷◌, ◌++◌, length, take, drop, slice_set, slice_index_or, All, nat_eq, if◌then◌else◌, arith, refl, sym, ap, ◌∙◌, subst, append-nil, eq-eqb}
 use Rattle.std.proofs.lemmas.Bool.{ne_eqb, eqb-true, cond_both}
 use Rattle.std.proofs.lemmas.List.{map-append, length-map, set_split}
 use Rattle.std.proofs.lemmas.List.Elements.{All-nil, All-cons, All-head, All-tail, All-weaker}
 use Rattle.ew_model.specs.declared.run.Run.{Ghosts}
 use Rattle.order_tree.specs.declared.summary.Sums.{Sums}
-use Rattle.order_tree.specs.Pairs.{Tree, RisesFrom, IsRising, total, SumsFit, changed}
+use Rattle.order_tree.specs.Pairs.{Tree, RisesFrom, SumsFit, changed}
 use Rattle.order_tree.specs.Parts.{all_pairs, one_pair, sums_of, IsMoved}
 use Rattle.order_tree.specs.Shape.{AllBelow}
 use Rattle.order_tree.specs.Whole.{IsWhole}
 use Rattle.order_tree.proofs.PairLaws.{total-one}
 use Rattle.order_tree.proofs.PartLists.{entries_are, parts_at}
-use Rattle.order_tree.proofs.KidPlaces.{part_holds}
-use Rattle.order_tree.proofs.EntryLaws.{as_parts}
-use Rattle.order_tree.proofs.InnerEdits.{total-around, fit_part, grown_none, pairs-grown, AllBelow-grown}
+use Rattle.order_tree.proofs.InnerEdits.{total-around, fit_part, grown_none, pairs-grown}
 
 module _ {R : Type 0} (label : ℕ) (run : R) where
   changed_other : (ps : List (ℕ × R)) → All (λ p. p.0 ≢ label) ps → changed ps label run ≡ ps

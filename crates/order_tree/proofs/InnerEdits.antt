@@ -5,10 +5,10 @@ use Rattle.ew_model.specs.declared.run.Run.{Ghosts}
 use Rattle.order_tree.specs.declared.summary.Sums.{Sums}
 use Rattle.order_tree.specs.declared.edit.Edit.{Edit}
 use Rattle.order_tree.specs.declared.edit.Edit.TheVariants.{Insert, Split}
-use Rattle.order_tree.specs.Pairs.{Tree, IsRising, total, first_label, next_label, HasRoomBelow, SumsFit}
+use Rattle.order_tree.specs.Pairs.{Tree, IsRising, total, first_label, next_label, SumsFit}
 use Rattle.order_tree.specs.Parts.{all_pairs, sums_of, IsMoved}
 use Rattle.order_tree.specs.Shape.{AllBelow}
-use Rattle.order_tree.specs.Edits.{Replaces, IsPlaced, IsBetween, IsEdited, StaysFit}
+use Rattle.order_tree.specs.Edits.{Replaces, IsPlaced, IsBetween, IsFree, IsEdited, StaysFit}
 use Rattle.order_tree.specs.Rights.{pairs_of_right, IsLike, with_right}
 use Rattle.order_tree.proofs.PairLaws.{total-append}
 use Rattle.order_tree.proofs.KidPlaces.{part_holds, part_next}
@@ -140,10 +140,12 @@ module _ {R : Type 0} (G : Ghosts R) (kids : List (Tree R)) (k label bound most 
   -- what an edit asks of the whole it asks of the branch
   pub placed_down : (edit : Edit R) → IsPlaced G edit label (all_pairs (λ t. t.pairs) kids) → IsPlaced G edit label kid.pairs
   placed_down (Insert run) h = tt
-  placed_down (Split at) h = (h.0, part_holds (λ t. t.pairs) kids k kid lt is rising label h.0 below above h.1, h.2, h.3)
+  placed_down (Split at given) h = (h.0, part_holds (λ t. t.pairs) kids k kid lt is rising label h.0 below above h.1, h.2, h.3)
 
-  pub label_down : HasRoomBelow bound (all_pairs (λ t. t.pairs) kids) label → HasRoomBelow most kid.pairs label
-  label_down h = subst (λ (n : ℕ). label + 1 < n) (sym next_same) h
+  pub label_down : (edit : Edit R) → IsFree edit bound (all_pairs (λ t. t.pairs) kids) label → IsFree edit most kid.pairs label
+  label_down (Insert run) h = subst (λ (n : ℕ). label + 1 < n) (sym next_same) h
+  label_down (Split at None) h = subst (λ (n : ℕ). label + 1 < n) (sym next_same) h
+  label_down (Split at (Some own)) h = (h.0, subst (λ (n : ℕ). own < n) (sym next_same) h.1)
 
   between_up : (own : ℕ) → IsBetween most label own kid.pairs → IsBetween bound label own (all_pairs (λ t. t.pairs) kids)
   between_up own h = (h.0, subst (λ (n : ℕ). own < n) next_same h.1)

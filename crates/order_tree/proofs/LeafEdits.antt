@@ -1,20 +1,20 @@
 -- What edits of a leaf leave.
-use Rattle.std.proofs.Common.{true, ◌≡◌, ℕ, zero, suc, ◌+◌, ◌<◌, ◌≤◌, List, [], ◌∷◌, ◌++◌, length, take, drop, insert, slice_set, slice_index_or, unwrap_or, All, Contains, arith, refl, sym, ap, ◌∙◌, subst, take-append-drop, append_assoc}
+use Rattle.std.proofs.Common.{true, ◌≡◌, ℕ, Option, Some, None, IfSome, IfNone, zero, suc, ◌+◌, ◌<◌, ◌≤◌, List, [], ◌∷◌, ◌++◌, length, take, drop, insert, slice_set, slice_index_or, unwrap_or, All, Contains, arith, refl, sym, ap, ◌∙◌, subst, take-append-drop, append_assoc}
 use Rattle.std.proofs.lemmas.List.{drop_more, take_more, take_more_set, drop-set-lt}
 use Rattle.std.proofs.lemmas.List.Elements.{All-weaker, All-append, All-cons, All-nil}
 use Rattle.ew_model.specs.declared.run.Run.{Ghosts}
 use Rattle.order_tree.specs.declared.summary.Sums.{Sums}
 use Rattle.order_tree.specs.declared.edit.Edit.TheVariants.{Insert, Split}
-use Rattle.order_tree.specs.Pairs.{IsRising, total, next_label, first_label, ArePartsOf}
+use Rattle.order_tree.specs.Pairs.{IsRising, total, first_label, ArePartsOf}
 use Rattle.order_tree.specs.Parts.{all_pairs, one_pair, sums_of}
-use Rattle.order_tree.specs.Edits.{IsEdited}
+use Rattle.order_tree.specs.Edits.{IsFree, IsEdited}
 use Rattle.order_tree.proofs.PairLaws.{total-cons, total-one}
 use Rattle.order_tree.proofs.PartLists.{entries_are}
 use Rattle.order_tree.proofs.KidPlaces.{part_holds}
 use Rattle.order_tree.proofs.EntryLaws.{as_parts, next_is}
 
 module _ {R : Type 0} (G : Ghosts R) where
-  same_sums : (s t : Sums) → s.known ≡ t.known → s.prepared ≡ t.prepared → s.effect ≡ t.effect → s ≡ t
+  pub same_sums : (s t : Sums) → s.known ≡ t.known → s.prepared ≡ t.prepared → s.effect ≡ t.effect → s ≡ t
   same_sums s t a b c =
       let first : s ≡ record { known = t.known; prepared = s.prepared; effect = s.effect } = ap (λ (n : ℕ). let u : Sums = record { known = n; prepared = s.prepared; effect = s.effect } in u) a in
       let second : record { known = t.known; prepared = s.prepared; effect = s.effect } ≡ record { known = t.known; prepared = t.prepared; effect = s.effect } = ap (λ (n : ℕ). let u : Sums = record { known = t.known; prepared = n; effect = s.effect } in u) b in
@@ -77,12 +77,12 @@ module _ {R : Type 0} (G : Ghosts R) (ps : List (ℕ × R)) (k label : ℕ) (p :
       take_more' = take_more ps k p lt ∙ ap (λ (q : ℕ × R). take k ps ++ (q ∷ [])) (sym is ∙ entry_is)
 
   -- it is cut in two
-  pub split_is : (new : List (ℕ × R)) (at bound own most : ℕ) (first second : R) (lost gained : Sums) → new ≡ insert (slice_set ps k (label, first)) (k + 1) (own, second) → ArePartsOf G r at first second
+  pub split_is : (new : List (ℕ × R)) (at : ℕ) (given : Option ℕ) (bound own most : ℕ) (first second : R) (lost gained : Sums) → new ≡ insert (slice_set ps k (label, first)) (k + 1) (own, second) → ArePartsOf G r at first second
       → label < own → own ≤ most → most + 1 ≡ unwrap_or (first_label (all_pairs one_pair (drop (k + 1) ps))) bound
       → lost.known ≡ G.known p.1 → lost.prepared ≡ G.prepared p.1 → lost.effect ≡ G.effect p.1
       → gained.known ≡ G.known first + G.known second → gained.prepared ≡ G.prepared first + G.prepared second → gained.effect ≡ G.effect first + G.effect second
-      → IsEdited G (Split at) bound label ps new own lost gained
-  split_is new at bound own most first second lost gained e parts more less next x y z a b c =
+      → IfSome given (λ n. own ≡ n) → IsEdited G (Split at given) bound label ps new own lost gained
+  split_is new at given bound own most first second lost gained e parts more less next x y z a b c asked =
       let front : take (k + 1) (slice_set ps k (label, first)) ≡ take k ps ++ ((label, first) ∷ []) = take_more_set ps k (label, first) lt in
       let back : drop (k + 1) (slice_set ps k (label, first)) ≡ drop (k + 1) ps = drop-set-lt (k + 1) ps k (label, first) (omega arith) in
       let set : new ≡ take k ps ++ ((label, first) ∷ (own, second) ∷ drop (k + 1) ps) =
@@ -93,15 +93,20 @@ module _ {R : Type 0} (G : Ghosts R) (ps : List (ℕ × R)) (k label : ℕ) (p :
         was = (label, r) ∷ [];
         is = (label, first) ∷ (own, second) ∷ [];
         replaces = record { front = take k ps; back = drop (k + 1) ps; old_is = old_is; new_is = set; below = front_le; above = back_gt };
-        puts = (r, first, second, refl, refl, parts);
+        puts = (r, first, second, refl, refl, parts, asked);
         between = (more, omega (arith, less, next, next_is ps (k + 1) label bound up_to_here back_gt));
         lost_is = sums_one G lost p x y z ∙ ap (λ (q : ℕ × R). sums_of G (q ∷ [])) entry_is;
         gained_is = sums_two G gained (label, first) (own, second) a b c;
       }
 
-  -- a label is free between it and the next
-  pub free_here : (bound most : ℕ) → most + 1 ≡ unwrap_or (first_label (all_pairs one_pair (drop (k + 1) ps))) bound → label + 1 < next_label bound ps label → label < most
-  free_here bound most e room = omega (arith, e, room, next_is ps (k + 1) label bound up_to_here back_gt)
+  -- a label is free between it and the next, where none is given, and one that is given is
+  pub free_here : (at : ℕ) (given : Option ℕ) (bound most : ℕ) → most + 1 ≡ unwrap_or (first_label (all_pairs one_pair (drop (k + 1) ps))) bound → IsFree (Split at given) bound ps label → IfNone given (label < most)
+  free_here at None bound most e room = omega (arith, e, room, next_is ps (k + 1) label bound up_to_here back_gt)
+  free_here at (Some own) bound most e between = tt
+
+  pub between_here : (at : ℕ) (given : Option ℕ) (bound most : ℕ) → most + 1 ≡ unwrap_or (first_label (all_pairs one_pair (drop (k + 1) ps))) bound → IsFree (Split at given) bound ps label → IfSome given (λ own. (label < own) × (own ≤ most))
+  between_here at None bound most e room = tt
+  between_here at (Some own) bound most e between = (between.0, omega (arith, e, between.1, next_is ps (k + 1) label bound up_to_here back_gt))
 
 -- what a run was cut into is what the run that is held was cut into
 pub parts_are : {R : Type 0} (G : Ghosts R) (x r : R) (at : ℕ) (first second : R) → x ≡ r → G.chars first ≡ take at (G.chars x) → G.chars second ≡ drop at (G.chars x) → G.fits first second ≡ true → G.joined first second ≡ x → ArePartsOf G r at first second

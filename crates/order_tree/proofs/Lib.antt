@@ -1,3 +1,4 @@
+pub mod AboutLaws
 pub mod Around
 pub mod BranchEdits
 pub mod ChangeLaws

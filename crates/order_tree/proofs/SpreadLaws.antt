@@ -16,7 +16,7 @@ use Rattle.order_tree.proofs.RelabelLaws.{length-relabelled, total-relabelled, r
 more_times : (a b : ℕ) → a * (b + 1) ≡ a * b + a
 more_times a b = grind arith
 
-times_more : (a b : ℕ) → (a + 1) * b ≡ b + a * b
+pub times_more : (a b : ℕ) → (a + 1) * b ≡ b + a * b
 times_more a b = grind arith
 
 pub step_fits : (n step : ℕ) → step ≡ (2 ^ 64 - 1) / (n + 1) → (n + 1) * step < 2 ^ 64
@@ -56,11 +56,11 @@ module _ {R : Type 0} (step : ℕ) where
       let more : suc k + 1 ≡ (k + 1) + 1 = omega arith in
       rw more (omega (arith, each_label (low + step) ps k (omega (arith, lt)), times_more (k + 1) step))
 
-  rises : (low : ℕ) (ps : List (ℕ × R)) → 1 ≤ step → RisesFrom low (relabelled step low ps)
+  pub rises : (low : ℕ) (ps : List (ℕ × R)) → 1 ≤ step → RisesFrom low (relabelled step low ps)
   rises low [] some = tt
   rises low (p ∷ ps) some = (omega arith, rises (low + step) ps some)
 
-  all_below : (low bound : ℕ) (ps : List (ℕ × R)) → reached step low ps < bound → All (λ p. p.0 < bound) (relabelled step low ps)
+  pub all_below : (low bound : ℕ) (ps : List (ℕ × R)) → reached step low ps < bound → All (λ p. p.0 < bound) (relabelled step low ps)
   all_below low bound [] lt = All-nil (λ p. p.0 < bound)
   all_below low bound (p ∷ ps) lt = All-cons (λ p. p.0 < bound) (low + step, p.1) (relabelled step (low + step) ps) (omega (arith, lt, reached-grows step (low + step) ps)) (all_below (low + step) bound ps lt)
 

@@ -48,7 +48,7 @@ module _ {R : Type 0} where
       subst (λ (ps : List (ℕ × R)). IsRising ps) (sym new_is)
       (rises_with 0 own run front back (subst (λ (ps : List (ℕ × R)). IsRising ps) old_is rising) (omega (arith, h.between.0)) (less_own label own front h.between.0 h.replaces.below)
       (below_back front [] back label own bound h.replaces.below (All-nil (λ p. p.0 ≤ label)) h.replaces.above next))
-  rising_after G (Split at) bound label old new own lost gained rising h =
+  rising_after G (Split at given) bound label old new own lost gained rising h =
       let front = h.replaces.front in
       let back = h.replaces.back in
       let r = h.puts.0 in

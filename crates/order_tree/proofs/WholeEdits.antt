@@ -1,7 +1,6 @@
 -- What an edit of a whole tree leaves.
-use Rattle.std.proofs.Common.{◌≡◌, ℕ, ◌+◌, ◌*◌, ◌<◌, ◌≤◌, ◌^◌, ◌≢◌, Bool, true, false, List, [], ◌∷◌, ◌++◌, Option, Some, None, length, unwrap_or, All, Contains, nat_eq, nat_lt, if◌then◌else◌, arith, refl, sym, ap, ◌∙◌, subst, append-nil, length-append, eq-eqb}
-use Rattle.std.proofs.lemmas.Bool.{ne_eqb}
-use Rattle.std.proofs.lemmas.List.Elements.{All-nil, All-cons, All-head, All-tail, All-append, All-weaker, Contains-append_right}
+use Rattle.std.proofs.Common.{◌≡◌, ℕ, ◌+◌, ◌*◌, ◌<◌, ◌≤◌, ◌^◌, Bool, true, false, List, [], ◌∷◌, ◌++◌, Option, Some, None, length, unwrap_or, All, Contains, nat_lt, if◌then◌else◌, arith, refl, sym, ap, ◌∙◌, subst, append-nil, length-append}
+use Rattle.std.proofs.lemmas.List.Elements.{All-nil, All-cons, All-head, All-tail, All-append, Contains-append_right}
 use Rattle.std.proofs.Math.Nat.{pow-le-pow_right}
 use Rattle.std.proofs.lemmas.Nat.{pow_pos}
 use Rattle.std.specs.Prelude.{is_some}
@@ -31,9 +30,9 @@ module _ {R : Type 0} where
   cut_total G count label own r first second old new was put h gone here same =
       omega (arith, replaced_total G count label old new was put h, ap (total count) gone, ap (total count) here, total-one count (label, r), total-cons count (label, first) ((own, second) ∷ []), total-one count (own, second), same)
 
-  pub split_fits : (G : Ghosts R) (at label : ℕ) (old : List (ℕ × R)) → ((x y : R) → G.fits x y ≡ true → G.known (G.joined x y) ≡ G.known x + G.known y)
-      → ((x y : R) → G.fits x y ≡ true → G.prepared (G.joined x y) ≡ G.prepared x + G.prepared y) → ((x y : R) → G.fits x y ≡ true → G.effect (G.joined x y) ≡ G.effect x + G.effect y) → SumsFit G old → StaysFit G (Split at) label old
-  split_fits G at label old joined_known joined_prepared joined_effect fit = λ own was put new rep puts.
+  pub split_fits : (G : Ghosts R) (at : ℕ) (given : Option ℕ) (label : ℕ) (old : List (ℕ × R)) → ((x y : R) → G.fits x y ≡ true → G.known (G.joined x y) ≡ G.known x + G.known y)
+      → ((x y : R) → G.fits x y ≡ true → G.prepared (G.joined x y) ≡ G.prepared x + G.prepared y) → ((x y : R) → G.fits x y ≡ true → G.effect (G.joined x y) ≡ G.effect x + G.effect y) → SumsFit G old → StaysFit G (Split at given) label old
+  split_fits G at given label old joined_known joined_prepared joined_effect fit = λ own was put new rep puts.
       let r = puts.0 in
       let first = puts.1 in
       let second = puts.2 in
@@ -44,8 +43,8 @@ module _ {R : Type 0} where
         effect = omega (arith, fit.effect, cut_total G G.effect label own r first second old new was put rep puts.3 puts.4 (sym (ap G.effect parts.back) ∙ joined_effect first second parts.fits));
       }
 
-  pub cut_after : (G : Ghosts R) (at bound label : ℕ) (old new : List (ℕ × R)) (own : ℕ) (lost gained : Sums) → IsRising old → IsEdited G (Split at) bound label old new own lost gained → IsCut G old new label at own
-  cut_after G at bound label old new own lost gained rising h =
+  pub cut_after : (G : Ghosts R) (at : ℕ) (given : Option ℕ) (bound label : ℕ) (old new : List (ℕ × R)) (own : ℕ) (lost gained : Sums) → IsRising old → IsEdited G (Split at given) bound label old new own lost gained → IsCut G old new label at own
+  cut_after G at given bound label old new own lost gained rising h =
       let front = h.replaces.front in
       let back = h.replaces.back in
       let r = h.puts.0 in
@@ -74,9 +73,9 @@ module _ {R : Type 0} where
 
   length_after : (G : Ghosts R) (edit : Edit R) (bound label : ℕ) (old new : List (ℕ × R)) (own : ℕ) (lost gained : Sums) → IsEdited G edit bound label old new own lost gained → length new ≡ length old + 1
   length_after G (Insert run) bound label old new own lost gained h = omega (arith, replaced_length label old new h.was h.is h.replaces, ap length h.puts.0, ap length h.puts.1)
-  length_after G (Split at) bound label old new own lost gained h = omega (arith, replaced_length label old new h.was h.is h.replaces, ap length h.puts.3, ap length h.puts.4)
+  length_after G (Split at given) bound label old new own lost gained h = omega (arith, replaced_length label old new h.was h.is h.replaces, ap length h.puts.3, ap length h.puts.4)
 
-  All_front : (P : ℕ × R → Type 0) (xs ys : List (ℕ × R)) → All P (xs ++ ys) → All P xs
+  pub All_front : (P : ℕ × R → Type 0) (xs ys : List (ℕ × R)) → All P (xs ++ ys) → All P xs
   All_front P [] ys h = All-nil P
   All_front P (x ∷ xs) ys h = All-cons P x xs (All-head P x (xs ++ ys) h) (All_front P xs ys (All-tail P x (xs ++ ys) h))
 
@@ -102,7 +101,7 @@ module _ {R : Type 0} where
       let lt : own < bound = omega (arith, h.between.1, next_within bound label old all) in
       let put : All (λ (p : ℕ × R). p.0 < bound) h.is = subst (λ (ps : List (ℕ × R)). All (λ p. p.0 < bound) ps) (sym h.puts.1) (one_below bound own run lt) in
       replaced_all (λ p. p.0 < bound) label old new h.was h.is h.replaces all put
-  below_after G (Split at) bound label old new own lost gained less all h =
+  below_after G (Split at given) bound label old new own lost gained less all h =
       let lt : own < bound = omega (arith, h.between.1, next_within bound label old all) in
       let put : All (λ (p : ℕ × R). p.0 < bound) h.is = subst (λ (ps : List (ℕ × R)). All (λ p. p.0 < bound) ps) (sym h.puts.4) (All-cons (λ p. p.0 < bound) (label, h.puts.1) ((own, h.puts.2) ∷ []) less (one_below bound own h.puts.2 lt)) in
       replaced_all (λ p. p.0 < bound) label old new h.was h.is h.replaces all put

@@ -1,3 +1,4 @@
+pub mod Abouts
 pub mod Blocks
 pub mod Counts
 pub mod Edits

@@ -1,5 +1,5 @@
 -- What a counted tree holds: runs in order, each with a label.
-use Rattle.std.specs.Prelude.{◌≡◌, ℕ, ◌+◌, ◌*◌, ◌<◌, ◌≤◌, ◌^◌, nat_eq, nat_lt, nat_le, true, Option, Some, None, ◌&&◌, unwrap_or, if◌then◌else◌, List, [], ◌∷◌, ◌++◌, length, slice_index, map, filter, sum_by, take, drop, Contains}
+use Rattle.std.specs.Prelude.{◌≡◌, ℕ, ◌+◌, ◌*◌, ◌<◌, ◌≤◌, ◌^◌, nat_eq, nat_lt, nat_le, true, Option, Some, None, ◌&&◌, unwrap_or, if◌then◌else◌, List, [], ◌∷◌, ◌++◌, length, slice_index, map, filter, sum_by, zip, take, drop, Contains}
 use Rattle.ew_model.specs.declared.run.Run.{Ghosts}
 
 -- a tree: its runs in order, each with its label, and the number of levels of its nodes, 0 without runs
@@ -104,3 +104,14 @@ module _ {R : Type 0} where
     pub each : (k : ℕ) → k < length ps → slice_index (labels ps) k ≡ (k + 1) * step
     pub fits : (length ps + 1) * step < 2 ^ 64
     pub widest : 2 ^ 64 ≤ (length ps + 1) * (step + 1)
+
+  -- the runs of a part of the list stand under new labels, in order, and of each the old label, the new and the run are given
+  pub record AreGivenIn (old new : List (ℕ × R)) (given : List (ℕ × (ℕ × R))) : Type 0 where
+    pub front : List (ℕ × R)
+    pub was : List (ℕ × R)
+    pub is : List (ℕ × R)
+    pub back : List (ℕ × R)
+    pub old_is : old ≡ front ++ (was ++ back)
+    pub new_is : new ≡ front ++ (is ++ back)
+    pub runs_are : runs is ≡ runs was
+    pub given_is : given ≡ zip (labels was) is

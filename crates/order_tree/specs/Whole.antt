@@ -3,7 +3,6 @@ use Rattle.std.specs.Prelude.{◌≡◌, ℕ, ◌*◌, ◌^◌, ◌<◌, ◌≤�
 use Rattle.ew_model.specs.declared.run.Run.{Ghosts}
 use Rattle.order_tree.specs.declared.summary.Sums.{Sums}
 use Rattle.order_tree.specs.declared.edit.Edit.{Edit}
-use Rattle.order_tree.specs.declared.edit.Edit.TheVariants.{Insert, Split}
 use Rattle.order_tree.specs.Pairs.{Tree, IsRising, SumsFit}
 use Rattle.order_tree.specs.Edits.{IsEdited}
 

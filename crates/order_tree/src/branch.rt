@@ -1,14 +1,16 @@
 //! A branch of the tree: a node, and what is kept of the runs below it.
 
 ghost use Rattle.std.specs.Prelude.{◌≡◌, ℕ, ◌+◌, ◌*◌, ◌^◌, ◌<◌, ◌≤◌, Some, ◌++◌, length, Contains, vec_capacity, IfOk, OnErr};
-ghost use Rattle.order_tree.specs.Pairs.{labels, IsRising, total, lower, up_to, next_label, first_label, counted_after, IsPlace, SumsFit, HasRoomBelow, changed};
+ghost use Rattle.order_tree.specs.Pairs.{labels, runs, IsRising, total, lower, up_to, next_label, first_label, counted_after, IsPlace, SumsFit, changed};
 ghost use Rattle.order_tree.specs.Parts.{last_known, sums_of, summary_of, all_pairs, IsMoved};
 ghost use Rattle.order_tree.specs.Counts.{count_of};
 ghost use Rattle.order_tree.specs.Shape.{AllBelow, IsNode, pairs_in};
-ghost use Rattle.order_tree.specs.Edits.{IsPlaced, StaysFit};
+ghost use Rattle.order_tree.specs.Edits.{IsPlaced, IsFree, StaysFit};
 ghost use Rattle.order_tree.specs.Relabels.{relabelled, renamed, reached};
 ghost use Rattle.order_tree.specs.Rights.{IsBranchEdit};
+ghost use Rattle.order_tree.specs.Abouts.{IsTried, IsWithin, IsIdle};
 
+use crate::about::{Tried, count_beside, place_about, step_for};
 use crate::change::{Moved, change_entry};
 use crate::count::Count;
 use crate::edit::Edit;
@@ -17,14 +19,14 @@ use crate::finish::{edit_entries, finish};
 use crate::halves::{inner_summary, leaf_summary, way_down};
 use crate::kids::{kid_at, kid_before, kid_known_after, kid_up_to, kid_with};
 use crate::leaf::Way;
-use crate::part::{Part, place_of, summary_after};
+use crate::part::{Part, place_of, summary_after, summary_with};
 use crate::relabel::{Reached, relabel_entries};
 use crate::spares::Spares;
 use crate::summary::{Summary, Sums};
 use crate::visible::{Visible, kid_visible, visible_in};
 use ew_model::run::Run;
 use ew_model::steps::Steps;
-use std::alloc::AllocError;
+use std::alloc::{AllocError, Global};
 use std::marker::Model;
 use std::sync::ledger::Ledger;
 
@@ -260,7 +262,7 @@ impl<R: Run + Drop> Branch<R> {
     ) -> Result<Edited<R>, AllocError>
         requires rising { IsRising self.old.pairs }
         requires placed { IsPlaced R.Run edit way.label self.old.pairs }
-        requires label { HasRoomBelow (way.most + 1) self.old.pairs way.label }
+        requires label { IsFree edit (way.most + 1) self.old.pairs way.label }
         requires fits { StaysFit R.Run edit way.label self.old.pairs }
         requires spares { spares.old ≡ 0 }
         requires above { way.above + self.old.depth < 2 ^ 32 }
@@ -390,5 +392,100 @@ impl<R: Run + Copy> Branch<R> {
                 reached
             }
         }
+    }
+}
+
+impl<R: Run> Branch<R> {
+    /// The number of runs.
+    pub fn count<L: Ledger>(&self, visits: &mut Steps<L>) -> usize
+        requires { length self.now.pairs < 2 ^ 32 }
+        ensures count { result ≡ length self.now.pairs }
+        ensures onward { visits.old ≤ visits.new }
+        ensures cost { visits.new + 1 ≤ visits.old + 2 * length self.now.pairs }
+    {
+        visits.tick();
+        match &self.node {
+            Node::Leaf(entries) => entries.len(),
+            Node::Inner(kids) => {
+                let mut count = 0;
+                for kid in kids.as_slice() {
+                    count += kid.count(visits);
+                }
+                count
+            }
+        }
+    }
+}
+
+impl<R: Run + Copy> Branch<R> {
+    /// Gives the runs of the smallest part about a label's run that has room enough new labels, spread evenly in its room. `most`
+    /// is the greatest label that is free behind all runs here.
+    pub fn relabel_about<L: Ledger>(
+        &mut self,
+        label: u64,
+        most: u64,
+        alloc: Global,
+        visits: &mut Steps<L>,
+    ) -> Tried<R>
+        requires rising { IsRising self.old.pairs }
+        requires held { Contains (labels self.old.pairs) label }
+        requires few { length self.old.pairs < 2 ^ 32 }
+        ensures tried { IsTried (most + 1) label self.old self.new result }
+        ensures runs { runs self.new.pairs ≡ runs self.old.pairs }
+        ensures depth { self.new.depth ≡ self.old.depth }
+        ensures onward { visits.old ≤ visits.new }
+        ensures cost { IsWithin self.old visits.old visits.new result }
+    {
+        visits.tick();
+        match &mut self.node {
+            Node::Leaf(entries) => {
+                let count = entries.len();
+                self.spread(label, most, count, alloc, visits)
+            }
+            Node::Inner(kids) => {
+                let (k, down) = place_about(kids.as_slice(), self.depth, label, most);
+                let tried = kids[k].relabel_about(label, down, alloc, visits);
+                self.summary = summary_with(kids.as_slice(), self.summary.sums);
+                match tried {
+                    Tried::Crowded(count) => {
+                        let count = count + count_beside(kids, k, visits);
+                        self.spread(label, most, count, alloc, visits)
+                    }
+                    Tried::Given(given) => Tried::Given(given),
+                    Tried::NoMemory => Tried::NoMemory,
+                }
+            }
+        }
+    }
+
+    /// Gives all runs here, which are so many, new labels, where there is room enough.
+    fn spread<L: Ledger>(
+        &mut self,
+        label: u64,
+        most: u64,
+        count: usize,
+        alloc: Global,
+        visits: &mut Steps<L>,
+    ) -> Tried<R>
+        requires rising { IsRising self.old.pairs }
+        requires held { Contains (labels self.old.pairs) label }
+        requires few { length self.old.pairs < 2 ^ 32 }
+        requires count { count ≡ length self.old.pairs }
+        ensures tried { IsTried (most + 1) label self.old self.new result }
+        ensures runs { runs self.new.pairs ≡ runs self.old.pairs }
+        ensures depth { self.new.depth ≡ self.old.depth }
+        ensures onward { visits.old ≤ visits.new }
+        ensures cost { visits.new ≤ visits.old + 2 * length self.old.pairs }
+        ensures crowded { IsIdle visits.old visits.new result }
+    {
+        let low = self.first() - 1;
+        let Some(step) = step_for(low, most, count, self.depth) else {
+            return Tried::Crowded(count);
+        };
+        let Ok(mut given) = Vec::with_capacity(alloc, count) else {
+            return Tried::NoMemory;
+        };
+        let _ = self.relabel(low, step, &mut given, visits);
+        Tried::Given(given)
     }
 }

@@ -10,8 +10,8 @@ use crate::spares::MOST_PARTS;
 pub enum Edit<R> {
     /// A run behind the label.
     Insert(R),
-    /// The label's run is cut at a place, and its second part gets a label of its own.
-    Split(u32),
+    /// The label's run is cut at a place, and its second part gets the label that is given, or one that is free behind the run.
+    Split { at: u32, given: Option<u64> },
 }
 
 /// Puts a part into a node at a place. Where the node is full, its second half goes into the block.

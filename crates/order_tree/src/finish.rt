@@ -1,10 +1,10 @@
 //! What is left to do at a node after an edit below it.
 
 ghost use Rattle.std.specs.Prelude.{◌≡◌, ℕ, ◌+◌, ◌*◌, ◌^◌, ◌<◌, ◌≤◌, None, ◌++◌, length, vec_capacity, IfOk, OnErr};
-ghost use Rattle.order_tree.specs.Pairs.{IsRising, SumsFit, HasRoomBelow};
+ghost use Rattle.order_tree.specs.Pairs.{IsRising, SumsFit};
 ghost use Rattle.order_tree.specs.Parts.{all_pairs, sums_of, summary_of, IsMoved};
 ghost use Rattle.order_tree.specs.Shape.{AllBelow};
-ghost use Rattle.order_tree.specs.Edits.{IsPlaced, StaysFit};
+ghost use Rattle.order_tree.specs.Edits.{IsPlaced, IsFree, StaysFit};
 ghost use Rattle.order_tree.specs.Rights.{pairs_of_right, IsLike, IsLeft, IsBranchEdit, with_right, above_kids, leaf_of};
 
 use crate::branch::{Branch, Edited};
@@ -29,7 +29,7 @@ pub fn edit_entries<R: Run + Drop>(
     requires room { 16 ≤ vec_capacity entries.old }
     requires rising { IsRising entries.old.items }
     requires placed { IsPlaced R.Run edit way.label entries.old.items }
-    requires label { HasRoomBelow (way.most + 1) entries.old.items way.label }
+    requires label { IsFree edit (way.most + 1) entries.old.items way.label }
     requires fits { StaysFit R.Run edit way.label entries.old.items }
     requires spares { spares.old ≡ 0 }
     requires kept { sums ≡ sums_of R.Run entries.old.items }

@@ -1,9 +1,9 @@
 //! Edits of a leaf.
 
-ghost use Rattle.std.specs.Prelude.{◌≡◌, ℕ, ◌+◌, ◌-◌, ◌<◌, ◌≤◌, Some, None, [], ◌∷◌, ◌++◌, length, Contains, vec_capacity, IfOk, IsOkAnd, OnErr};
+ghost use Rattle.std.specs.Prelude.{◌≡◌, ℕ, ◌+◌, ◌-◌, ◌<◌, ◌≤◌, Some, None, [], ◌∷◌, ◌++◌, length, Contains, vec_capacity, IfSome, IfNone, IfOk, IsOkAnd, OnErr};
 ghost use Rattle.order_tree.specs.Pairs.{IsRising, HasRoomBelow};
 ghost use Rattle.order_tree.specs.Blocks.{items_of, IsHalved, IsSupplied};
-ghost use Rattle.order_tree.specs.Edits.{IsPlaced, IsEdited};
+ghost use Rattle.order_tree.specs.Edits.{IsPlaced, IsFree, IsEdited};
 
 use crate::edit::{Edit, put};
 use crate::label::share;
@@ -42,7 +42,7 @@ pub fn edit_leaf<R: Run + Drop>(
     requires room { 16 ≤ vec_capacity entries.old }
     requires rising { IsRising entries.old.items }
     requires placed { IsPlaced R.Run edit way.label entries.old.items }
-    requires label { HasRoomBelow (way.most + 1) entries.old.items way.label }
+    requires label { IsFree edit (way.most + 1) entries.old.items way.label }
     requires spares { spares.old ≡ 0 }
     ensures edited { IfOk result (λ d. IsEdited R.Run edit (way.most + 1) way.label entries.old.items (entries.new.items ++ items_of d.tail) d.own d.lost d.gained) }
     ensures halved { IfOk result (λ d. IsHalved way.above entries.new.items d.tail spares.new) }
@@ -51,7 +51,7 @@ pub fn edit_leaf<R: Run + Drop>(
 {
     match edit {
         Edit::Insert(run) => insert_entry(entries, run, way, spares),
-        Edit::Split(at) => split_entry(entries, at, way, spares),
+        Edit::Split { at, given } => split_entry(entries, at, given, way, spares),
     }
 }
 
@@ -88,10 +88,11 @@ fn insert_entry<R: Run + Drop>(
     })
 }
 
-/// Cuts the run of a label, and puts its second part behind it.
+/// Cuts the run of a label, and puts its second part behind it, under the label that is given, or one that is free there.
 fn split_entry<R: Run + Drop>(
     entries: &mut Vec<(u64, R)>,
     at: u32,
+    given: Option<u64>,
     way: Way,
     spares: &mut Spares<R>,
 ) -> Result<LeafEdited<R>, AllocError>
@@ -99,10 +100,10 @@ fn split_entry<R: Run + Drop>(
     requires few { length entries.old.items ≤ 16 }
     requires room { 16 ≤ vec_capacity entries.old }
     requires rising { IsRising entries.old.items }
-    requires placed { IsPlaced R.Run (Edit.Split at) way.label entries.old.items }
-    requires label { HasRoomBelow (way.most + 1) entries.old.items way.label }
+    requires placed { IsPlaced R.Run (Edit.Split at given) way.label entries.old.items }
+    requires label { IsFree (Edit.Split at given) (way.most + 1) entries.old.items way.label }
     requires spares { spares.old ≡ 0 }
-    ensures edited { IfOk result (λ d. IsEdited R.Run (Edit.Split at) (way.most + 1) way.label entries.old.items (entries.new.items ++ items_of d.tail) d.own d.lost d.gained) }
+    ensures edited { IfOk result (λ d. IsEdited R.Run (Edit.Split at given) (way.most + 1) way.label entries.old.items (entries.new.items ++ items_of d.tail) d.own d.lost d.gained) }
     ensures halved { IfOk result (λ d. IsHalved way.above entries.new.items d.tail spares.new) }
     ensures room { 16 ≤ vec_capacity entries.new }
     ensures err { OnErr result (entries.new.items ≡ entries.old.items) }
@@ -111,7 +112,7 @@ fn split_entry<R: Run + Drop>(
     let k = place_of(list, way.label);
     let most = free_before(list, k + 1, way.most);
     let run = &list[k].1;
-    let own = share(way.label, most, at, run.size());
+    let own = label_for(given, way.label, most, at, run.size());
     let block = block_for(list.len(), way.above, spares)?;
     let lost = Sums::of(run);
     let (first, second) = run.split(at);
@@ -124,6 +125,22 @@ fn split_entry<R: Run + Drop>(
         gained,
         tail,
     })
+}
+
+/// The label that is given, or the share of what is free above `label` and up to `most` of the second part of a run of so many
+/// characters, where it is cut at one of them.
+fn label_for(given: Option<u64>, label: u64, most: u64, at: u32, size: u32) -> u64
+    requires inside { at < size }
+    requires free { IfNone given (label < most) }
+    requires between { IfSome given (λ own. (label < own) × (own ≤ most)) }
+    ensures above { label < result }
+    ensures within { result ≤ most }
+    ensures given { IfSome given (λ own. result ≡ own) }
+{
+    match given {
+        Some(own) => own,
+        None => share(label, most, at, size),
+    }
 }
 
 /// Takes the blocks that one more run of a leaf needs, which has so many: none where there is room.

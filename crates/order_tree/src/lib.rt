@@ -3,6 +3,7 @@
 //! all runs.
 #![tactic(auto)]
 
+mod about;
 mod branch;
 mod change;
 mod count;
@@ -21,6 +22,7 @@ mod summary;
 mod tree;
 mod visible;
 
+pub use about::Relabelled;
 pub use ew_model::NoMem;
 pub use tree::OrderTree;
 pub use visible::Visible;

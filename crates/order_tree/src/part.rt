@@ -155,3 +155,17 @@ pub fn summary_after<R: Run, T: Part<R>>(
         sums: old.minus(lost).plus(gained),
     }
 }
+
+/// What is kept of the parts together, whose sums are known.
+pub fn summary_with<R: Run, T: Part<R>>(parts: &[T], sums: Sums) -> Summary
+    requires some { 0 < length parts.now }
+    requires first { (d : T) → 0 < length (T.pairs (slice_index_or parts.now 0 d)) }
+    requires sums { sums ≡ sums_of R.Run (all_pairs T.pairs parts.now) }
+    ensures { result ≡ summary_of R.Run (all_pairs T.pairs parts.now) }
+{
+    Summary {
+        first: parts[0].first(),
+        last_known: last_known_in(parts),
+        sums,
+    }
+}

@@ -2,7 +2,7 @@
 
 ghost use Rattle.std.specs.Prelude.{◌≡◌, ℕ, ◌+◌, ◌*◌, ◌^◌, ◌<◌, ◌≤◌, true, None, is_some, ◌++◌, length, vec_capacity, IfOk, OnErr};
 ghost use Rattle.order_tree.specs.Pairs.{IsRising, SumsFit, HasRoom};
-ghost use Rattle.order_tree.specs.Edits.{IsPlaced, StaysFit};
+ghost use Rattle.order_tree.specs.Edits.{IsPlaced, IsFree, StaysFit};
 ghost use Rattle.order_tree.specs.Relabels.{relabelled, renamed, reached};
 ghost use Rattle.order_tree.specs.Rights.{pairs_of_right, IsLike, IsLeft};
 ghost use Rattle.order_tree.specs.Whole.{tree_of, IsTreeEdit};
@@ -27,7 +27,7 @@ pub fn edit_root<R: Run + Drop, L: Ledger>(
     requires some { is_some root.old ≡ true }
     requires rising { IsRising (tree_of root.old).pairs }
     requires placed { IsPlaced R.Run edit label (tree_of root.old).pairs }
-    requires label { HasRoom (tree_of root.old).pairs label }
+    requires label { IsFree edit (2 ^ 64) (tree_of root.old).pairs label }
     requires fits { StaysFit R.Run edit label (tree_of root.old).pairs }
     requires deep { (tree_of root.old).depth + 1 < 2 ^ 32 }
     requires spares { spares.old ≡ 0 }

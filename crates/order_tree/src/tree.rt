@@ -1,12 +1,14 @@
 //! The counted tree.
 
-ghost use Rattle.std.specs.Prelude.{◌≡◌, ℕ, ◌+◌, ◌-◌, ◌*◌, ◌^◌, ◌<◌, ◌≤◌, ◌↔◌, ◌⊎◌, IsTrue, Option, [], length, zip, All, Contains, IfOk, IsOkAnd, OnErr};
-ghost use Rattle.order_tree.specs.Pairs.{Tree, labels, runs, IsRising, lower, first_label, next_label, HasRoom, counted_after, total, SumsFit, IsPlace, changed, inserted, IsCut, AreSpread};
+ghost use Rattle.std.specs.Prelude.{◌≡◌, ℕ, ◌+◌, ◌-◌, ◌*◌, ◌^◌, ◌<◌, ◌≤◌, ◌↔◌, ◌⊎◌, IsTrue, Option, [], length, zip, All, Contains, IfSome, IfNone, IfOk, OnOk, IsOkAnd, OnErr};
+ghost use Rattle.order_tree.specs.Edits.{IsPlaced, IsBetween, IsFree};
+ghost use Rattle.order_tree.specs.Pairs.{Tree, labels, runs, IsRising, lower, first_label, next_label, HasRoom, counted_after, total, SumsFit, IsPlace, changed, inserted, IsCut, AreSpread, AreGivenIn};
 
+use crate::about::{Relabelled, Tried, own_of};
 use crate::branch::Branch;
 use crate::count::Count;
 use crate::edit::Edit;
-use crate::label::Recent;
+use crate::label::{Recent, share};
 use crate::part::Part;
 use crate::root::{edit_root, insert_run, relabel_root};
 use crate::spares::Spares;
@@ -14,7 +16,7 @@ use crate::visible::Visible;
 use ew_model::NoMem;
 use ew_model::run::Run;
 use ew_model::steps::Steps;
-use std::alloc::Global;
+use std::alloc::{AllocError, Global};
 use std::marker::Model;
 use std::sync::ledger::Ledger;
 
@@ -164,9 +166,42 @@ impl<R: Run> OrderTree<R> {
         ensures onward { visits.old ≤ visits.new }
         ensures cost { visits.new ≤ visits.old + self.now.depth }
     {
+        label < self.last_free(label, visits)
+    }
+
+    /// A free label behind the run at a label, of so many characters, for its second part, where it is cut at one of them. None
+    /// where no label is free there.
+    pub fn share_behind<L: Ledger>(
+        &self,
+        label: u64,
+        at: u32,
+        size: u32,
+        visits: &mut Steps<L>,
+    ) -> Option<u64>
+        requires inside { at < size }
+        ensures above { IfSome result (λ own. label < own) }
+        ensures within { IfSome result (λ own. own < next_label (2 ^ 64) self.now.pairs label) }
+        ensures none { IfNone result (HasRoom self.now.pairs label → ⊥) }
+        ensures onward { visits.old ≤ visits.new }
+        ensures cost { visits.new ≤ visits.old + self.now.depth }
+    {
+        let most = self.last_free(label, visits);
+        if label < most {
+            Some(share(label, most, at, size))
+        } else {
+            None
+        }
+    }
+
+    /// The greatest label that is free before the next run.
+    fn last_free<L: Ledger>(&self, label: u64, visits: &mut Steps<L>) -> u64
+        ensures free { result + 1 ≡ next_label (2 ^ 64) self.now.pairs label }
+        ensures onward { visits.old ≤ visits.new }
+        ensures cost { visits.new ≤ visits.old + self.now.depth }
+    {
         match &self.root {
-            None => label < u64::MAX,
-            Some(root) => label < root.last_free(label, u64::MAX, visits),
+            None => u64::MAX,
+            Some(root) => root.last_free(label, u64::MAX, visits),
         }
     }
 }
@@ -213,8 +248,52 @@ impl<R: Run + Drop> OrderTree<R> {
         ensures onward { visits.old ≤ visits.new }
         ensures cost { visits.new ≤ visits.old + self.old.depth }
     {
+        self.cut(label, at, None, visits)
+    }
+
+    /// Cuts the run of a label in two at a place inside it. The second part gets this label, one that is free behind the run.
+    pub fn split_under<L: Ledger>(
+        &mut self,
+        label: u64,
+        at: u32,
+        own: u64,
+        visits: &mut Steps<L>,
+    ) -> Result<(), NoMem>
+        requires inside { (run : R) × Contains self.old.pairs (label, run) × (0 < at) × (at < length (R.chars run)) }
+        requires above { label < own }
+        requires within { own < next_label (2 ^ 64) self.old.pairs label }
+        requires few { length self.old.pairs < 4294967295 }
+        ensures pairs { OnOk result (IsCut R.Run self.old.pairs self.new.pairs label at own) }
+        ensures err { OnErr result (self.new ≡ self.old) }
+        ensures onward { visits.old ≤ visits.new }
+        ensures cost { visits.new ≤ visits.old + self.old.depth }
+    {
+        let _own = self.cut(label, at, Some(own), visits)?;
+        Ok(())
+    }
+
+    /// Cuts the run of a label in two at a place inside it, and answers the second part's own label: the one that is given, or one
+    /// that is free behind the run.
+    fn cut<L: Ledger>(
+        &mut self,
+        label: u64,
+        at: u32,
+        given: Option<u64>,
+        visits: &mut Steps<L>,
+    ) -> Result<u64, NoMem>
+        requires inside { IsPlaced R.Run (Edit.Split at given) label self.old.pairs }
+        requires free { IsFree (Edit.Split at given) (2 ^ 64) self.old.pairs label }
+        requires few { length self.old.pairs < 4294967295 }
+        ensures pairs { IfOk result (λ own. IsCut R.Run self.old.pairs self.new.pairs label at own) }
+        ensures between { IfOk result (λ own. IsBetween (2 ^ 64) label own self.old.pairs) }
+        ensures given { IfOk result (λ own. IfSome given (λ n. own ≡ n)) }
+        ensures err { OnErr result (self.new ≡ self.old) }
+        ensures onward { visits.old ≤ visits.new }
+        ensures cost { visits.new ≤ visits.old + self.old.depth }
+    {
         let mut spares = Spares::new(self.alloc, self.recent);
-        let own = edit_root(&mut self.root, label, Edit::Split(at), &mut spares, visits)?;
+        let edit = Edit::Split { at, given };
+        let own = edit_root(&mut self.root, label, edit, &mut spares, visits)?;
         self.runs += 1;
         Ok(own)
     }
@@ -255,5 +334,38 @@ impl<R: Run + Copy> OrderTree<R> {
         relabel_root(&mut self.root, step, &mut given, visits);
         self.recent = Recent::NONE;
         Ok(given)
+    }
+
+    /// Gives the runs of a part of the tree new labels, spread evenly in the part's room, so that a label is free behind the run at
+    /// this one. The smallest part about it is taken in which the new labels lie far enough apart. None where there is no such
+    /// part: nothing changes, and all need new labels.
+    pub fn relabel_about<L: Ledger>(
+        &mut self,
+        label: u64,
+        visits: &mut Steps<L>,
+    ) -> Result<Option<Relabelled<R>>, NoMem>
+        requires held { Contains (labels self.old.pairs) label }
+        ensures runs { runs self.new.pairs ≡ runs self.old.pairs }
+        ensures given { IfOk result (λ o. IfSome o (λ r. AreGivenIn self.old.pairs self.new.pairs r.given.items)) }
+        ensures own { IfOk result (λ o. IfSome o (λ r. (run : R) → Contains self.old.pairs (label, run) → Contains self.new.pairs (r.own, run))) }
+        ensures room { IfOk result (λ o. IfSome o (λ r. HasRoom self.new.pairs r.own)) }
+        ensures none { IfOk result (λ o. IfNone o (self.new ≡ self.old)) }
+        ensures err { OnErr result (self.new ≡ self.old) }
+        ensures depth { self.new.depth ≡ self.old.depth }
+        ensures onward { visits.old ≤ visits.new }
+        ensures cost { visits.new ≤ visits.old + (self.old.depth + 4 * length self.old.pairs) }
+    {
+        let Some(root) = &mut self.root else {
+            unreachable!()
+        };
+        match root.relabel_about(label, u64::MAX, self.alloc, visits) {
+            Tried::Crowded(_) => Ok(None),
+            Tried::NoMemory => Err(AllocError),
+            Tried::Given(given) => {
+                let own = own_of(given.as_slice(), label);
+                self.recent = Recent::NONE;
+                Ok(Some(Relabelled { own, given }))
+            }
+        }
     }
 }

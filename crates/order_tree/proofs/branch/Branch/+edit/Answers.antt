@@ -1,10 +1,10 @@
 use Rattle.std.proofs.Common.{◌≡◌, ℕ, ◌+◌, ◌<◌, List, length, slice_index_or, arith, refl, sym, ap, ◌∙◌, subst}
 use Rattle.std.proofs.lemmas.List.{length-set}
 use Rattle.order_tree.specs.declared.summary.Summary.{Summary}
-use Rattle.order_tree.specs.Pairs.{Tree, IsRising, HasRoomBelow}
+use Rattle.order_tree.specs.Pairs.{Tree, IsRising}
 use Rattle.order_tree.specs.Parts.{summary_of, all_pairs}
 use Rattle.order_tree.specs.Shape.{pairs_in, AllBelow}
-use Rattle.order_tree.specs.Edits.{IsPlaced, StaysFit}
+use Rattle.order_tree.specs.Edits.{IsPlaced, IsFree, StaysFit}
 use Rattle.order_tree.specs.Rights.{IsLeft}
 use Rattle.order_tree.proofs.KidLaws.{kid_lower, bound_inner}
 use Rattle.order_tree.proofs.KidPlaces.{part_rises}
@@ -58,7 +58,7 @@ edit_entries-requires-clause-label g t c =
     let shape = rw c.in-Leaf.is at c.self.invariant.shape in
     let kept = rw c.in-Leaf.is at c.self.invariant.kept in
     let deep : c.args.self.now.depth ≡ 1 = sym (ap (λ (s : Tree _). s.depth) c.self.view_is) ∙ shape.0 in
-    subst (λ (ps : List (ℕ × _)). HasRoomBelow (c.args.way.most + 1) ps c.args.way.label) here c.requires.label
+    subst (λ (ps : List (ℕ × _)). IsFree c.args.edit (c.args.way.most + 1) ps c.args.way.label) here c.requires.label
 
 pub edit_entries-requires-clause-fits : goal.edit_entries-requires-clause-fits
 edit_entries-requires-clause-fits g t c =
@@ -184,7 +184,7 @@ edit-requires g t c κs within =
             (
               rw label (placed_down g.R.Run kids k c.args.way.label (c.args.way.most + 1) (c.way_down-k.result.1.most + 1) kid lt is rising below above free c.args.edit (subst (λ (ps : List (ℕ × _)). IsPlaced g.R.Run c.args.edit c.args.way.label ps) here c.requires.placed)),
               (
-                rw label (label_down g.R.Run kids k c.args.way.label (c.args.way.most + 1) (c.way_down-k.result.1.most + 1) kid lt is rising below above free (subst (λ (ps : List (ℕ × _)). HasRoomBelow (c.args.way.most + 1) ps c.args.way.label) here c.requires.label)),
+                rw label (label_down g.R.Run kids k c.args.way.label (c.args.way.most + 1) (c.way_down-k.result.1.most + 1) kid lt is rising below above free c.args.edit (subst (λ (ps : List (ℕ × _)). IsFree c.args.edit (c.args.way.most + 1) ps c.args.way.label) here c.requires.label)),
                 (
                   rw label (fits_down g.R.Run kids k c.args.way.label (c.args.way.most + 1) (c.way_down-k.result.1.most + 1) kid lt is rising below above free c.args.edit (subst (λ (ps : List (ℕ × _)). StaysFit g.R.Run c.args.edit c.args.way.label ps) here c.requires.fits)),
                   (c.requires.spares, above_fits),

@@ -1,4 +1,4 @@
-use Rattle.std.proofs.Common.{◌≡◌, ℕ, ◌<◌, List, length, arith, sym, ap, ◌∙◌, subst}
+use Rattle.std.proofs.Common.{ℕ, List, arith, sym, ap, ◌∙◌, subst}
 use Rattle.order_tree.specs.Pairs.{Tree, SumsFit}
 use Rattle.order_tree.specs.Parts.{sums_of, summary_of, all_pairs, IsMoved}
 use Rattle.order_tree.specs.Shape.{pairs_in}
