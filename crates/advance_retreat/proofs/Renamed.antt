@@ -1,16 +1,17 @@
--- Labels while all runs get others.
-use Rattle.std.proofs.Common.{◌≡◌, ℕ, zero, suc, ◌+◌, ◌<◌, ◌≤◌, ◌⊎◌, Bool, true, false, nat_lt, List, Option, Some, None, IsSome, Contains, length, zip, slice_index_or, refl, sym, ap, ◌∙◌, subst, arith, inl, inr}
+-- Labels while runs get others.
+use Rattle.std.proofs.Common.{◌≡◌, ℕ, zero, suc, ◌+◌, ◌<◌, ◌≤◌, ◌⊎◌, Bool, true, false, nat_lt, List, [], ◌++◌, Option, Some, None, IsSome, Contains, length, zip, slice_index_or, refl, sym, ap, ◌∙◌, subst, arith, append_assoc, append-nil, inl, inr}
+use Rattle.std.proofs.lemmas.List.{length-append}
 use Rattle.std.proofs.lemmas.Bool.{false≢true}
 use Rattle.ew_model.specs.declared.node.Node.{Node}
 use Rattle.walker_record.specs.Stretches.{Stretch}
 use Rattle.fugue_place.specs.Attachments.{node_eq}
-use Rattle.order_tree.specs.Pairs.{IsRising, labels, runs}
+use Rattle.order_tree.specs.Pairs.{IsRising, labels, runs, AreGivenIn}
 use Rattle.advance_retreat.specs.declared.labels.Labels.{Labels}
 use Rattle.advance_retreat.specs.Labelled.{label_of, Sets}
 use Rattle.advance_retreat.specs.Laid.{AreLabelled}
 use Rattle.advance_retreat.proofs.CutRuns.{alike, set_own, set_other}
 use Rattle.advance_retreat.proofs.Standings.{some_same, is_some_by}
-use Rattle.advance_retreat.proofs.RunsAt.{At, at_held, held_at, at_less, at_one, run_at, one_number, run_held, stands_too, given_at, given_long}
+use Rattle.advance_retreat.proofs.RunsAt.{At, at_held, held_at, at_one, at_before, at_past, at_within, same_length, run_at, one_number, run_held, stands_too, given_at, given_long}
 
 -- the first k runs are known by their new labels, the others by the old ones, and no other node has one
 pub record AreRenamed (ps qs : List (ℕ × Stretch)) (t u : Labels) (k : ℕ) : Type 0 where
@@ -26,14 +27,6 @@ pub is_some : (o : Option ℕ) (l : ℕ) → o ≡ Some l → IsSome o
 is_some o l e = subst (λ (p : Option ℕ). IsSome p) (sym e) (is_some_by l)
 
 module _ (ps qs : List (ℕ × Stretch)) (t : Labels) (laid : AreLabelled ps t) (rising : IsRising ps) (same : runs qs ≡ runs ps) where
-  -- at first
-  pub renamed_none : AreRenamed ps qs t t 0
-  renamed_none = record {
-    new = λ j l r lt h some. absurd (omega (arith, lt));
-    old = λ j l r le h some. laid.known l r (at_held ps j (l, r) h) some;
-    only = λ v h. h;
-  }
-
   -- a run without characters
   pub renamed_empty : (u : Labels) (k l : ℕ) (r : Stretch) → AreRenamed ps qs t u k → At qs k (l, r) → r.len ≡ 0 → AreRenamed ps qs t u (k + 1)
   renamed_empty u k l r so h none = record { new = new; old = λ j m q le i some. so.old j m q (omega (arith, le)) i some; only = so.only }
@@ -110,16 +103,13 @@ module _ (ps qs : List (ℕ × Stretch)) (t : Labels) (laid : AreLabelled ps t) 
   next_label u k l r so h some = let before = run_at qs ps same k l r h in is_some (label_of u r.from) before.0 (so.old k before.0 r (omega arith) before.1 some)
 
   -- in the end
-  module _ (u : Labels) (k : ℕ) (so : AreRenamed ps qs t u k) (all : length qs ≤ k) where
-    known : (l : ℕ) (r : Stretch) → Contains qs (l, r) → 0 < r.len → label_of u r.from ≡ Some l
-    known l r h some = let at = held_at qs (l, r) h in let lt = at_less qs at.0 (l, r) at.1 in so.new at.0 l r (omega (arith, lt, all)) at.1 some
-
+  module _ (u : Labels) (known : (l : ℕ) (r : Stretch) → Contains qs (l, r) → 0 < r.len → label_of u r.from ≡ Some l) (held : (v : Node) → IsSome (label_of u v) → IsSome (label_of t v)) where
     abbrev Has : Node → ℕ → Type 0
     Has v l = (r : Stretch) × Contains qs (l, r) × (r.from ≡ v) × (0 < r.len)
 
     only_by : (v : Node) (l : ℕ) → label_of u v ≡ Some l → Has v l
     only_by v l e =
-        let before = some_of (label_of t v) (so.only v (is_some (label_of u v) l e)) in
+        let before = some_of (label_of t v) (held v (is_some (label_of u v) l e)) in
         let has = laid.only v before.0 before.1 in
         let now = run_held ps qs (sym same) before.0 has.0 has.1 in
         let label : now.0 ≡ l = some_same now.0 l (sym (known now.0 has.0 now.1 has.3) ∙ ap (label_of u) has.2 ∙ e) in
@@ -130,7 +120,7 @@ module _ (ps qs : List (ℕ × Stretch)) (t : Labels) (laid : AreLabelled ps t) 
       known = known;
       only = only_by;
       apart = λ v own l n e s.
-          let before = some_of (label_of t v) (so.only v (is_some (label_of u v) own e)) in
+          let before = some_of (label_of t v) (held v (is_some (label_of u v) own e)) in
           let stood = stands_too qs ps same l n v s in
           laid.apart v before.0 stood.0 n before.1 stood.1;
       rooted = λ l r h e. let before = run_held qs ps same l r h in laid.rooted before.0 r before.1 e;
@@ -144,18 +134,59 @@ module _ (ps qs : List (ℕ × Stretch)) (t : Labels) (laid : AreLabelled ps t) 
       by zero e = subst (λ (x : Labels). AreRenamed ps qs t x (k + 1)) (sym (none e)) (renamed_empty u k l r so h e)
       by (suc n) e = let some : 0 < r.len = omega (arith, e) in renamed_one u w k l r so h some (set some)
 
--- the step to the next label that is given
-module _ (ps qs : List (ℕ × Stretch)) (t u : Labels) (laid : AreLabelled ps t) (rising : IsRising ps) (same : runs qs ≡ runs ps) (given : List (ℕ × (ℕ × Stretch)))
-    (is : given ≡ zip (labels ps) qs) (k : ℕ) (so : AreRenamed ps qs t u k) where
-  module _ (x : ℕ × (ℕ × Stretch)) (lt : k < length given) (e : x ≡ slice_index_or given k x) where
-    here : At qs k x.1
-    here = given_at ps qs given k x is lt (sym e)
+-- SOME RUNS AMONG OTHERS, WHICH KEEP THEIR LABELS
+module _ (ps qs : List (ℕ × Stretch)) (t : Labels) (laid : AreLabelled ps t) (rising : IsRising ps) (same : runs qs ≡ runs ps) (given : List (ℕ × (ℕ × Stretch))) (among : AreGivenIn ps qs given) where
+  -- at first
+  pub renamed_front : AreRenamed ps qs t t (length among.front)
+  renamed_front = record {
+    new = λ j l r lt h some.
+        let there = at_before among.front (among.is ++ among.back) (among.was ++ among.back) j (l, r) lt (subst (λ (xs : List (ℕ × Stretch)). At xs j (l, r)) among.new_is h) in
+        laid.known l r (at_held ps j (l, r) (subst (λ (xs : List (ℕ × Stretch)). At xs j (l, r)) (sym among.old_is) there)) some;
+    old = λ j l r le h some. laid.known l r (at_held ps j (l, r) h) some;
+    only = λ v h. h;
+  }
 
-    pub step_some : 0 < x.1.1.len → IsSome (label_of u x.1.1.from)
-    step_some some = next_label ps qs t laid rising same u k x.1.0 x.1.1 so here some
+  as_many : length among.is ≡ length among.was
+  as_many = same_length among.is among.was among.runs_are
 
-    pub step_next : (w : Labels) → (0 < x.1.1.len → Sets u w x.1.1.from (Some x.1.0)) → (x.1.1.len ≡ 0 → w ≡ u) → AreRenamed ps qs t w (k + 1)
-    step_next w set none = renamed_step ps qs t laid rising same u w k x.1.0 x.1.1 so here set none
+  given_all : length given ≡ length among.is
+  given_all = ap length among.given_is ∙ given_long among.was among.is as_many
 
-  pub last_laid : length given ≤ k → AreLabelled qs u
-  last_laid le = let long = given_long ps qs given is same in renamed_laid ps qs t laid rising same u k so (omega (arith, le, long))
+  -- the step to the next
+  module _ (u : Labels) (k : ℕ) (so : AreRenamed ps qs t u (length among.front + k)) where
+    module _ (x : ℕ × (ℕ × Stretch)) (lt : k < length given) (e : x ≡ slice_index_or given k x) where
+      here : At qs (length among.front + k) x.1
+      here =
+          subst (λ (xs : List (ℕ × Stretch)). At xs (length among.front + k) x.1) (sym among.new_is)
+          (at_within among.front among.is among.back k x.1 (given_at among.was among.is given k x among.given_is lt (sym e)))
+
+      pub step_some : 0 < x.1.1.len → IsSome (label_of u x.1.1.from)
+      step_some some = next_label ps qs t laid rising same u (length among.front + k) x.1.0 x.1.1 so here some
+
+      pub step_next : (w : Labels) → (0 < x.1.1.len → Sets u w x.1.1.from (Some x.1.0)) → (x.1.1.len ≡ 0 → w ≡ u) → AreRenamed ps qs t w (length among.front + (k + 1))
+      step_next w set none =
+          subst (λ (n : ℕ). AreRenamed ps qs t w n) (omega arith)
+          (renamed_step ps qs t laid rising same u w (length among.front + k) x.1.0 x.1.1 so here set none)
+
+    -- behind the last, the labels are the old ones
+    pub last_laid : length given ≤ k → AreLabelled qs u
+    last_laid le = renamed_laid ps qs t laid rising same u known so.only
+      where
+        past : (j : ℕ) (p : ℕ × Stretch) → length among.front + k ≤ j → At qs j p → At ps j p
+        past j p more h =
+            let long : length (among.front ++ among.is) ≡ length (among.front ++ among.was) = length-append among.front among.is ∙ ap (λ (n : ℕ). length among.front + n) as_many ∙ sym (length-append among.front among.was) in
+            let enough : length (among.front ++ among.is) ≤ j = omega (arith, length-append among.front among.is, given_all, le, more) in
+            let there = subst (λ (xs : List (ℕ × Stretch)). At xs j p) (among.new_is ∙ sym (append_assoc among.front among.is among.back)) h in
+            subst (λ (xs : List (ℕ × Stretch)). At xs j p) (append_assoc among.front among.was among.back ∙ sym among.old_is)
+            (at_past (among.front ++ among.is) (among.front ++ among.was) among.back long j p enough there)
+
+        known : (l : ℕ) (r : Stretch) → Contains qs (l, r) → 0 < r.len → label_of u r.from ≡ Some l
+        known l r h some = let at = held_at qs (l, r) h in by at.0 at.1 (nat_lt at.0 (length among.front + k)) refl
+          where
+            by : (j : ℕ) → At qs j (l, r) → (b : Bool) → nat_lt j (length among.front + k) ≡ b → label_of u r.from ≡ Some l
+            by j at true e = so.new j l r (grind arith) at some
+            by j at false e = let more : length among.front + k ≤ j = grind arith in so.old j l r more (past j (l, r) more at) some
+
+-- all runs
+pub all_given : (ps qs : List (ℕ × Stretch)) (given : List (ℕ × (ℕ × Stretch))) → runs qs ≡ runs ps → given ≡ zip (labels ps) qs → AreGivenIn ps qs given
+all_given ps qs given same given_is = record { front = []; was = ps; is = qs; back = []; old_is = sym (append-nil ps); new_is = sym (append-nil qs); runs_are = same; given_is = given_is }

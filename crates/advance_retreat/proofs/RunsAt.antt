@@ -1,5 +1,5 @@
 -- Runs by their numbers in the list.
-use Rattle.std.proofs.Common.{◌≡◌, ℕ, zero, suc, ◌<◌, Some, zip, slice_get, List, [], ◌∷◌, ◌++◌, Contains, length, slice_index_or, refl, sym, ap, ◌∙◌, arith}
+use Rattle.std.proofs.Common.{◌≡◌, ℕ, zero, suc, ◌+◌, ◌<◌, ◌≤◌, Some, zip, slice_get, List, [], ◌∷◌, ◌++◌, Contains, length, slice_index_or, refl, sym, ap, ◌∙◌, subst, arith}
 use Rattle.std.proofs.lemmas.List.Elements.{Contains-append_right}
 use Rattle.std.proofs.lemmas.Option.{slice_get-get_or}
 use Rattle.ew_model.specs.declared.node.Node.{Node}
@@ -36,6 +36,30 @@ module _ {X : Type 0} where
   at_one [] k x y h i = absurd h
   at_one (z ∷ zs) zero x y h i = sym h ∙ i
   at_one (z ∷ zs) (suc k) x y h i = at_one zs k x y h i
+
+  -- in front of others, behind others, and between
+  pub at_before : (front xs ys : List X) (k : ℕ) (x : X) → k < length front → At (front ++ xs) k x → At (front ++ ys) k x
+  at_before [] xs ys k x lt h = absurd (omega (arith, lt))
+  at_before (f ∷ fs) xs ys zero x lt h = h
+  at_before (f ∷ fs) xs ys (suc k) x lt h = at_before fs xs ys k x (omega (arith, lt)) h
+
+  pub at_past : (xs ys back : List X) → length xs ≡ length ys → (k : ℕ) (x : X) → length xs ≤ k → At (xs ++ back) k x → At (ys ++ back) k x
+  at_past [] [] back e k x le h = h
+  at_past [] (y ∷ ys) back e k x le h = absurd (omega (arith, e))
+  at_past (z ∷ zs) [] back e k x le h = absurd (omega (arith, e))
+  at_past (z ∷ zs) (y ∷ ys) back e zero x le h = absurd (omega (arith, le))
+  at_past (z ∷ zs) (y ∷ ys) back e (suc k) x le h = at_past zs ys back (omega (arith, e)) k x (omega (arith, le)) h
+
+  at_left : (xs ys : List X) (k : ℕ) (x : X) → At xs k x → At (xs ++ ys) k x
+  at_left [] ys k x h = absurd h
+  at_left (z ∷ zs) ys zero x h = h
+  at_left (z ∷ zs) ys (suc k) x h = at_left zs ys k x h
+
+  pub at_within : (front xs back : List X) (k : ℕ) (x : X) → At xs k x → At (front ++ (xs ++ back)) (length front + k) x
+  at_within [] xs back k x h = let same : k ≡ 0 + k = omega arith in subst (λ (n : ℕ). At (xs ++ back) n x) same (at_left xs back k x h)
+  at_within (f ∷ fs) xs back k x h =
+      let same : suc (length fs + k) ≡ suc (length fs) + k = omega arith in
+      subst (λ (n : ℕ). At (f ∷ (fs ++ (xs ++ back))) n x) same (at_within fs xs back k x h)
 
 -- the same runs stand at the same numbers
 pub run_at : (ps qs : List (ℕ × Stretch)) → runs ps ≡ runs qs → (k l : ℕ) (r : Stretch) → At ps k (l, r) → (own : ℕ) × At qs k (own, r)
@@ -112,14 +136,8 @@ pub given_at : (ps qs : List (ℕ × Stretch)) (given : List (ℕ × (ℕ × Str
 given_at ps qs given k x is lt e =
     zip_at (labels ps) qs k x (ap (λ (xs : List (ℕ × (ℕ × Stretch))). slice_get xs k) (sym is) ∙ slice_get-get_or given k x lt ∙ ap (λ (y : ℕ × (ℕ × Stretch)). Some y) e)
 
-pub given_long : (ps qs : List (ℕ × Stretch)) (given : List (ℕ × (ℕ × Stretch))) → given ≡ zip (labels ps) qs → runs qs ≡ runs ps → length given ≡ length qs
-given_long ps qs given is same = ap length is ∙ long ps qs same
-  where
-    long : (ps qs : List (ℕ × Stretch)) → runs qs ≡ runs ps → length (zip (labels ps) qs) ≡ length qs
-    long [] [] e = refl
-    long [] (q ∷ qs) e = absurd (cc)
-    long (p ∷ ps) [] e = absurd (cc)
-    long (p ∷ ps) (q ∷ qs) e = ap suc (long ps qs rest)
-      where
-        rest : runs qs ≡ runs ps
-        rest = cc
+pub given_long : (ps qs : List (ℕ × Stretch)) → length qs ≡ length ps → length (zip (labels ps) qs) ≡ length qs
+given_long [] [] e = refl
+given_long [] (q ∷ qs) e = absurd (omega (arith, e))
+given_long (p ∷ ps) [] e = absurd (omega (arith, e))
+given_long (p ∷ ps) (q ∷ qs) e = ap suc (given_long ps qs (omega (arith, e)))

@@ -1,24 +1,26 @@
 -- Labels after the last character of a run went over to the run behind it.
-use Rattle.std.proofs.Common.{◌≡◌, ℕ, zero, suc, ◌+◌, ◌-◌, ◌<◌, ◌⊎◌, List, Some, None, Contains, refl, sym, ap, ◌∙◌, subst, arith, inl, inr}
+use Rattle.std.proofs.Common.{◌≡◌, ℕ, zero, suc, ◌+◌, ◌-◌, ◌<◌, ◌⊎◌, Bool, if◌then◌else◌, List, Some, None, Contains, refl, sym, ap, ◌∙◌, subst, arith, inl, inr}
 use Rattle.ew_model.specs.declared.node.Node.{Node}
 use Rattle.ew_model.specs.declared.node.Node.TheVariants.{Root}
 use Rattle.walker_record.specs.Stretches.{Stretch, node_on}
+use Rattle.fugue_place.specs.Attachments.{node_eq}
+use Rattle.fugue_place.proofs.NodeLaws.{node_itself}
 use Rattle.order_tree.specs.Pairs.{IsRising, changed}
 use Rattle.advance_retreat.specs.declared.labels.Labels.{Labels}
 use Rattle.advance_retreat.specs.Cursors.{last_of, shorter}
-use Rattle.advance_retreat.specs.Labelled.{label_of, Sets}
+use Rattle.advance_retreat.specs.Labelled.{label_of, GoesOver}
 use Rattle.advance_retreat.specs.Laid.{Stands, AreLabelled}
 use Rattle.advance_retreat.proofs.PartedRuns.{same_run}
-use Rattle.advance_retreat.proofs.CutRuns.{In, set_own, set_other}
+use Rattle.advance_retreat.proofs.CutRuns.{In}
 use Rattle.advance_retreat.proofs.RunChars.{node_on_none}
 use Rattle.advance_retreat.proofs.Places.{one_label, on_on, not_root_on, same_steps}
 use Rattle.advance_retreat.proofs.Standings.{some_same, none_some}
 use Rattle.advance_retreat.proofs.ChangedAt.{changed_each, changed_kept, changed_come}
 use Rattle.advance_retreat.proofs.Exchanged.{unlike, decide}
 
-module _ (ps : List (ℕ × Stretch)) (t m u : Labels) (label own : ℕ) (run struck longer : Stretch) (laid : AreLabelled ps t) (rising : IsRising ps)
+module _ (ps : List (ℕ × Stretch)) (t u : Labels) (label own : ℕ) (run struck longer : Stretch) (laid : AreLabelled ps t) (rising : IsRising ps)
     (held : Contains ps (label, run)) (behind : Contains ps (own, struck)) (apart : label ≡ own → ⊥) (long : 1 < run.len) (some : 0 < struck.len) (next : struck.from ≡ node_on run.from run.len)
-    (from : longer.from ≡ last_of run) (len : longer.len ≡ struck.len + 1) (first : Sets t m (last_of run) (Some own)) (second : Sets m u struck.from None) where
+    (from : longer.from ≡ last_of run) (len : longer.len ≡ struck.len + 1) (goes : GoesOver t u struck.from (last_of run) own) where
   abbrev v : Node
   v = last_of run
 
@@ -73,13 +75,17 @@ module _ (ps : List (ℕ × Stretch)) (t m u : Labels) (label own : ℕ) (run st
 
   -- their labels
   own_label : label_of u v ≡ Some own
-  own_label = set_other m u struck.from None second v (unlike struck.from v (λ e. last_not_struck (sym e))) ∙ set_own t m v (Some own) first
+  own_label =
+      goes v ∙ ap (λ (b : Bool). if b then None else (if node_eq v v then Some own else label_of t v)) (unlike struck.from v (λ e. last_not_struck (sym e)))
+      ∙ ap (λ (b : Bool). if b then Some own else label_of t v) (node_itself v)
 
   no_label : label_of u struck.from ≡ None
-  no_label = set_own m u struck.from None second
+  no_label = goes struck.from ∙ ap (λ (b : Bool). if b then None else (if node_eq v struck.from then Some own else label_of t struck.from)) (node_itself struck.from)
 
   other_label : (w : Node) → (v ≡ w → ⊥) → (struck.from ≡ w → ⊥) → label_of u w ≡ label_of t w
-  other_label w a b = set_other m u struck.from None second w (unlike struck.from w b) ∙ set_other t m v (Some own) first w (unlike v w a)
+  other_label w a b =
+      goes w ∙ ap (λ (b : Bool). if b then None else (if node_eq v w then Some own else label_of t w)) (unlike struck.from w b)
+      ∙ ap (λ (b : Bool). if b then Some own else label_of t w) (unlike v w a)
 
   first_label : label_of u run.from ≡ Some label
   first_label = other_label run.from last_not_first first_not_struck ∙ laid.known label run held (omega (arith, long))

@@ -53,9 +53,9 @@ pub none_by : (o : Option ℕ) → ((l : ℕ) → o ≡ Some l → ⊥) → o �
 none_by None h = refl
 none_by (Some l) h = absurd (h l refl)
 
-module _ (G : Ghosts Stretch) (chars : (s : Stretch) → G.chars s ≡ chars_of s) (ps qs : List (ℕ × Stretch)) (t m u : Labels) (label own n : ℕ) (v : Node)
+module _ (G : Ghosts Stretch) (chars : (s : Stretch) → G.chars s ≡ chars_of s) (ps qs : List (ℕ × Stretch)) (t u : Labels) (label own n : ℕ) (v : Node)
     (laid : AreLabelled ps t) (rising : IsRising ps) (s : Stands ps label n v) (some : 0 < n) (cut : IsCut G ps qs label n own) (above : label < own)
-    (one : Sets t m v (Some label)) (two : Sets m u v (Some own)) where
+    (sets : Sets t u v (Some own)) where
   abbrev run : Stretch
   run = s.run
 
@@ -73,9 +73,6 @@ module _ (G : Ghosts Stretch) (chars : (s : Stretch) → G.chars s ≡ chars_of 
       let long : n < run.len = s.inside in
       sym (same_stretch (second_part run n) cut.second (omega (arith, long))
       (second_chars run n long ∙ ap (λ (r : Stretch). drop n (chars_of r)) (sym run_is_cut) ∙ sym (sym (chars cut.second) ∙ cut.parts.second_chars ∙ ap (drop n) (chars cut.run))))
-
-  sets : Sets t u v (Some own)
-  sets = sets_twice t m u v (Some label) (Some own) one two
 
   at : Parted ps label run
   at = parted ps label run rising s.held
@@ -128,13 +125,13 @@ module _ (G : Ghosts Stretch) (chars : (s : Stretch) → G.chars s ≡ chars_of 
       (moves_cut ps label run qs own (first_part run n) (second_part run n) rising s.held parts) sets short
 
 -- a label that was given to a node inside a run, and taken away
-module _ (ps : List (ℕ × Stretch)) (t m u : Labels) (label n : ℕ) (v : Node) (laid : AreLabelled ps t) (s : Stands ps label n v) (some : 0 < n)
-    (one : Sets t m v (Some label)) (two : Sets m u v None) where
+module _ (ps : List (ℕ × Stretch)) (t m u : Labels) (label own n : ℕ) (v : Node) (laid : AreLabelled ps t) (s : Stands ps label n v) (some : 0 < n)
+    (one : Sets t m v (Some own)) (two : Sets m u v None) where
   pub taken_same : (w : Node) → label_of u w ≡ label_of t w
   taken_same w = by (alike v w)
     where
       sets : Sets t u v None
-      sets = sets_twice t m u v (Some label) None one two
+      sets = sets_twice t m u v (Some own) None one two
 
       bare : label_of t v ≡ None
       bare = none_by (label_of t v) (λ l e. let z = laid.apart v l label n e s in omega (arith, z, some))

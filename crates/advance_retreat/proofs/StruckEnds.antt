@@ -3,6 +3,7 @@ use Rattle.std.proofs.Common.{◌≡◌, ℕ, suc, ◌+◌, ◌-◌, ◌<◌, Bo
 use Rattle.std.proofs.lemmas.List.{length-map, map-append}
 use Rattle.std.proofs.lemmas.List.Elements.{All-cons, All-tail, All-contains, Contains-append_left, Contains-append_right}
 use Rattle.ew_model.specs.declared.node.Node.{Node}
+use Rattle.ew_model.specs.declared.node.Node.TheVariants.{Root}
 use Rattle.walker_record.specs.Stretches.{Stretch, node_on, states_from, first_part, second_part}
 use Rattle.fugue_place.proofs.NodeLaws.{node_itself}
 use Rattle.order_tree.specs.Pairs.{IsRising, labels, lower, greater, changed}
@@ -13,7 +14,7 @@ use Rattle.advance_retreat.specs.declared.cursor.Struck.{Struck}
 use Rattle.advance_retreat.specs.declared.labels.Labels.{Labels}
 use Rattle.advance_retreat.specs.Cursors.{StandsBehind, IsCursor, GaveEnd, last_of, shorter, struck_with, struck_long}
 use Rattle.advance_retreat.specs.Kept.{changed_at, changed as after_change}
-use Rattle.advance_retreat.specs.Labelled.{Sets}
+use Rattle.advance_retreat.specs.Labelled.{label_of, GoesOver}
 use Rattle.advance_retreat.specs.Laid.{Stands, AreLabelled, record_of, records_of, chars_in}
 use Rattle.advance_retreat.proofs.Moves.{is_first, is_second}
 use Rattle.advance_retreat.proofs.PartedRuns.{Parted, parted}
@@ -23,8 +24,9 @@ use Rattle.advance_retreat.proofs.ChangedRuns.{changed_laid}
 use Rattle.advance_retreat.proofs.CutPairs.{cut_is}
 use Rattle.advance_retreat.proofs.KnownRuns.{held_label}
 use Rattle.advance_retreat.proofs.AlteredChars.{altered_long, same_long}
-use Rattle.advance_retreat.proofs.Places.{one_label, on_on, same_steps}
+use Rattle.advance_retreat.proofs.Places.{one_label, not_root_on, on_on, same_steps}
 use Rattle.advance_retreat.proofs.CutChars.{parts_records}
+use Rattle.advance_retreat.proofs.Splits.{none_by}
 use Rattle.advance_retreat.proofs.CharPlaces.{none_in, none_of}
 use Rattle.advance_retreat.proofs.Replaced.{none_changed}
 use Rattle.advance_retreat.proofs.ShiftedEnds.{shifted_laid}
@@ -284,7 +286,17 @@ module _ (ps : List (ℕ × Stretch)) (t : Labels) (c : Cursor) (s : Struck) (v 
     struck = longer_is ∙ ap (λ (o : Option Struck). struck_with (last_of c.run) (struck_long o)) (sym behind);
   }
 
-  pub shifted_labelled : (m u : Labels) → Sets t m v (Some s.label) → Sets m u s.run.from None → AreLabelled qs u
-  shifted_labelled m u first second =
-      shifted_laid ps t m u c.label s.label c.run s.run longer laid rising cursor.held struck_held apart long stands.4 stands.3 node refl
-      (subst (λ (w : Node). Sets t m w (Some s.label)) node first) second
+  pub shifted_labelled : (u : Labels) → GoesOver t u s.run.from v s.label → AreLabelled qs u
+  shifted_labelled u goes =
+      shifted_laid ps t u c.label s.label c.run s.run longer laid rising cursor.held struck_held apart long stands.4 stands.3 node refl
+      (subst (λ (w : Node). GoesOver t u s.run.from w s.label) node goes)
+
+  -- no run begins there yet
+  pub shifted_bare : label_of t v ≡ None
+  shifted_bare = none_by (label_of t v) (λ l e.
+      let there : Stands ps c.label (c.run.len - 1) v = record { run = c.run; held = cursor.held; inside = omega (arith, long); node = sym node } in
+      let z = laid.apart v l c.label (c.run.len - 1) e there in
+      omega (arith, z, long))
+
+  pub shifted_root : v ≡ Root → ⊥
+  shifted_root e = not_root_on c.run.from (c.run.len - 1) (laid.rooted c.label c.run cursor.held) (sym node ∙ e)

@@ -1,17 +1,31 @@
 -- Nodes with labels.
-use Rattle.std.specs.Prelude.{◌≡◌, ℕ, ◌≤◌, Option, Some, None, IsSome, nat_le, Bool, true, false, if◌then◌else◌}
+use Rattle.std.specs.Prelude.{◌≡◌, ℕ, ◌≤◌, Option, Some, None, IsSome, nat_le, nat_eq, Bool, true, false, if◌then◌else◌}
 use Rattle.std.specs.Ordering.{nat_cmp}
 use Rattle.std.specs.BTreeMap.{get}
 use Rattle.ew_model.specs.declared.node.Node.{Node}
 use Rattle.ew_model.specs.declared.node.Node.TheVariants.{Root, Base, Event}
 use Rattle.fugue_place.specs.Attachments.{node_eq}
 use Rattle.advance_retreat.specs.declared.labels.Labels.{Labels}
+use Rattle.advance_retreat.specs.declared.labels.Moved.{Moved}
+use Rattle.advance_retreat.specs.declared.labels.Table.{Table}
+
+-- what a number has, but that this one has nothing
+abbrev pub without : ℕ → (ℕ → Option ℕ) → ℕ → Option ℕ
+without n kept k = if nat_eq n k then None else kept k
+
+-- the label of a number: the one that went to it from another, or else what is kept under it
+abbrev pub label_by : Option Moved → (ℕ → Option ℕ) → ℕ → Option ℕ
+label_by None kept k = kept k
+label_by (Some m) kept k = if nat_eq m.to k then Some m.label else without m.from kept k
+
+abbrev pub label_at : Table → ℕ → Option ℕ
+label_at t k = label_by t.moved (get nat_cmp t.map) k
 
 -- the label of a node
 abbrev pub label_of : Labels → Node → Option ℕ
 label_of t Root = None
-label_of t (Base i) = get nat_cmp t.base i
-label_of t (Event i) = get nat_cmp t.events i
+label_of t (Base i) = label_at t.base i
+label_of t (Event i) = label_at t.events i
 
 -- the first node is one of those up to the second: both of the base or both of events
 abbrev pub is_up_to : Node → Node → Bool
@@ -34,7 +48,17 @@ pub record IsLast (t : Labels) (v : Node) (label : ℕ) : Type 0 where
 abbrev pub Sets : Labels → Labels → Node → Option ℕ → Type 0
 Sets old new v label = (w : Node) → label_of new w ≡ (if node_eq v w then label else label_of old w)
 
--- one of a map's labels is that of the last number up to this one
+-- the label of each node after that of one of them went over to another
+abbrev pub GoesOver : Labels → Labels → Node → Node → ℕ → Type 0
+GoesOver old new from to label = (w : Node) → label_of new w ≡ (if node_eq from w then None else (if node_eq to w then Some label else label_of old w))
+
+-- the last number up to this one that has a label, and the label
+pub record IsLastAt (label_at : ℕ → Option ℕ) (n number label : ℕ) : Type 0 where
+  pub before : number ≤ n
+  pub has : label_at number ≡ Some label
+  pub last : (k : ℕ) → k ≤ n → IsSome (label_at k) → k ≤ number
+
+-- one of the labels of numbers is that of the last number up to this one
 pub record IsLastIn (label_at : ℕ → Option ℕ) (n label : ℕ) : Type 0 where
   pub number : ℕ
   pub before : number ≤ n

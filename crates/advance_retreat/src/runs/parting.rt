@@ -1,9 +1,9 @@
 //! Runs that are cut.
 
-ghost use Rattle.std.specs.Prelude.{◌≡◌, ◌<◌, ◌+◌, ℕ, ◌++◌, ◌∷◌, IfSome, IfNone, IfOk, OnOk, OnErr, length, Contains};
+ghost use Rattle.std.specs.Prelude.{◌≡◌, ◌<◌, ◌+◌, ◌^◌, ℕ, ◌++◌, ◌∷◌, IfSome, IfNone, IfOk, OnOk, OnErr, length, Contains};
 ghost use Rattle.ew_model.specs.declared.node.Node.{Node as Nodes};
 ghost use Rattle.walker_record.specs.Stretches.{Stretch, node_on, first_part, second_part};
-ghost use Rattle.order_tree.specs.Pairs.{HasRoom, runs, lower, greater};
+ghost use Rattle.order_tree.specs.Pairs.{next_label, runs, lower, greater};
 ghost use Rattle.advance_retreat.specs.Laid.{Stands, IsOffset, AreLabelled, chars_in, BeginsRun, EndsRun};
 ghost use Rattle.advance_retreat.specs.Loose.{MayBeCut};
 
@@ -16,34 +16,33 @@ use ew_model::steps::Steps;
 use std::sync::ledger::Ledger;
 
 impl Runs {
-    /// Cuts the run of a spot, behind which a label is free, right before its character, a node's. Answers the label of the
-    /// second part. After an error for want of memory the runs are the same.
+    /// Cuts the run of a spot right before its character, a node's. The second part gets a label that is free behind the run.
+    /// After an error for want of memory the runs are the same.
     pub fn split<L: Ledger>(
         &mut self,
         spot: Spot,
         node: Node,
+        own: u64,
         visits: &mut Steps<L>,
-    ) -> Result<u64, NoMem>
+    ) -> Result<(), NoMem>
         requires laid { AreLabelled self.old.tree.pairs self.old.labels }
         requires stands { Stands self.old.tree.pairs spot.label spot.offset node }
         requires inside { 0 < spot.offset }
-        requires room { HasRoom self.old.tree.pairs spot.label }
+        requires above { spot.label < own }
+        requires within { own < next_label (2 ^ 64) self.old.tree.pairs spot.label }
         requires few { length self.old.tree.pairs < 4294967295 }
         ensures laid { AreLabelled self.new.tree.pairs self.new.labels }
         ensures chars { chars_in self.new.tree.pairs ≡ chars_in self.old.tree.pairs }
         ensures first { OnOk result (BeginsRun self.new.tree.pairs node) }
         ensures begun { (v : Nodes) → BeginsRun self.old.tree.pairs v → BeginsRun self.new.tree.pairs v }
         ensures cut { MayBeCut (runs self.old.tree.pairs) (runs self.new.tree.pairs) node }
-        ensures parts { IfOk result (λ own. (run : Stretch) → Contains self.old.tree.pairs (spot.label, run) → self.new.tree.pairs ≡ lower self.old.tree.pairs spot.label ++ (spot.label, first_part run spot.offset) ∷ (own, second_part run spot.offset) ∷ greater self.old.tree.pairs spot.label) }
+        ensures parts { OnOk result ((run : Stretch) → Contains self.old.tree.pairs (spot.label, run) → self.new.tree.pairs ≡ lower self.old.tree.pairs spot.label ++ (spot.label, first_part run spot.offset) ∷ (own, second_part run spot.offset) ∷ greater self.old.tree.pairs spot.label) }
         ensures err { OnErr result (self.new.tree ≡ self.old.tree) }
     {
         let _runs = self.tree.runs();
-        self.labels.insert(node, spot.label)?;
-        match self.tree.split(spot.label, spot.offset, visits) {
-            Ok(own) => {
-                self.labels.set(node, own);
-                Ok(own)
-            }
+        self.labels.insert(node, own)?;
+        match self.tree.split_under(spot.label, spot.offset, own, visits) {
+            Ok(()) => Ok(()),
             Err(e) => {
                 self.labels.remove(node);
                 Err(e)
@@ -64,8 +63,13 @@ impl Runs {
         let Some(spot) = self.make_room(node, visits)? else {
             unreachable!()
         };
-        self.split(spot, node, visits)?;
-        Ok(())
+        let _runs = self.tree.runs();
+        let size = self.record(spot.label, visits).len;
+        let Spot { label, offset } = spot;
+        let Some(own) = self.tree.share_behind(label, offset, size, visits) else {
+            unreachable!()
+        };
+        self.split(spot, node, own, visits)
     }
 
     /// Cuts a run that was found right before a character of it, a node's, where a label is free behind it and there are fewer
@@ -91,14 +95,21 @@ impl Runs {
         ensures none { IfOk result (λ o. IfNone o (self.new.tree ≡ self.old.tree)) }
         ensures err { OnErr result (self.new.tree ≡ self.old.tree) }
     {
-        if self.tree.runs() == u32::MAX || !self.tree.has_room(found.label, visits) {
+        if self.tree.runs() == u32::MAX {
             return Ok(None);
         }
         let spot = found.spot();
-        let label = self.split(spot, node, visits)?;
+        let size = found.run.len;
+        let Some(own) = self
+            .tree
+            .share_behind(spot.label, spot.offset, size, visits)
+        else {
+            return Ok(None);
+        };
+        self.split(spot, node, own, visits)?;
         let (_, run) = found.run.split(found.offset);
         Ok(Some(Located {
-            label,
+            label: own,
             run,
             offset: 0,
         }))

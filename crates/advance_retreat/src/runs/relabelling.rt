@@ -1,7 +1,8 @@
 //! New labels for the runs of a state.
 
-ghost use Rattle.std.specs.Prelude.{◌≡◌, ◌<◌, ℕ, ◌⊎◌, IfSome, IfNone, IfOk, OnOk, OnErr, IsTrue, IsSome, Some, ◌↔◌, length, Contains};
-ghost use Rattle.order_tree.specs.Pairs.{labels, runs, HasRoom};
+ghost use Rattle.std.specs.Prelude.{◌≡◌, ◌<◌, ℕ, List, ◌⊎◌, IfSome, IfNone, IfOk, OnOk, OnErr, IsTrue, IsSome, Some, ◌↔◌, length, Contains};
+ghost use Rattle.order_tree.specs.Pairs.{labels, runs, IsRising, HasRoom, AreGivenIn};
+ghost use Rattle.walker_record.specs.Stretches.{Stretch};
 ghost use Rattle.advance_retreat.specs.Labelled.{label_of, Sets};
 ghost use Rattle.advance_retreat.specs.Laid.{Stands, AreLabelled};
 
@@ -25,11 +26,32 @@ impl Runs {
     {
         let _old = self.tree.runs();
         let given = self.tree.relabel(visits)?;
-        for k in 0..given.len() {
-            let (_, (label, run)) = given[k];
-            note(&mut self.labels, label, &run);
-        }
+        note_each(&mut self.labels, &given);
         Ok(())
+    }
+
+    /// Gives the runs of a part about a label's new labels, so that one is free behind that run. Answers its new label. None where
+    /// there is no such part; nothing has changed then, nor after an error for want of memory.
+    fn relabel_about<L: Ledger>(
+        &mut self,
+        label: u64,
+        visits: &mut Steps<L>,
+    ) -> Result<Option<u64>, NoMem>
+        requires laid { AreLabelled self.old.tree.pairs self.old.labels }
+        requires held { Contains (labels self.old.tree.pairs) label }
+        ensures laid { AreLabelled self.new.tree.pairs self.new.labels }
+        ensures runs { runs self.new.tree.pairs ≡ runs self.old.tree.pairs }
+        ensures own { IfOk result (λ o. IfSome o (λ own. (run : Stretch) → Contains self.old.tree.pairs (label, run) → Contains self.new.tree.pairs (own, run))) }
+        ensures room { IfOk result (λ o. IfSome o (λ own. HasRoom self.new.tree.pairs own)) }
+        ensures none { IfOk result (λ o. IfNone o (self.new ≡ self.old)) }
+        ensures err { OnErr result (self.new ≡ self.old) }
+    {
+        let _old = self.tree.runs();
+        let Some(about) = self.tree.relabel_about(label, visits)? else {
+            return Ok(None);
+        };
+        note_each(&mut self.labels, &about.given);
+        Ok(Some(about.own))
     }
 
     /// Whether a label is free behind the run of a spot, or before all runs.
@@ -88,8 +110,24 @@ impl Runs {
         if self.has_room_at(spot, visits) {
             return Ok(spot);
         }
+        if let Some(Spot { label, offset }) = spot {
+            if let Some(label) = self.relabel_about(label, visits)? {
+                return Ok(Some(Spot { label, offset }));
+            }
+        }
         self.relabel(visits)?;
         Ok(self.find(node, visits))
+    }
+}
+
+/// The first nodes of runs that got new labels among others get these labels for theirs.
+fn note_each(held: &mut Labels, given: &Vec<(u64, (u64, Record))>)
+    requires { (ps qs : List (ℕ × Stretch)) × AreLabelled ps held.old × IsRising ps × (runs qs ≡ runs ps) × AreGivenIn ps qs given.now.items }
+    ensures { (ps qs : List (ℕ × Stretch)) → AreLabelled ps held.old → IsRising ps → runs qs ≡ runs ps → AreGivenIn ps qs given.now.items → AreLabelled qs held.new }
+{
+    for k in 0..given.len() {
+        let (_, (label, run)) = given[k];
+        note(held, label, &run);
     }
 }
 

@@ -57,8 +57,7 @@ impl Runs {
     {
         let _runs = self.tree.runs();
         let node = cursor.last_node();
-        self.labels.insert(node, struck.label)?;
-        self.labels.remove(struck.run.from);
+        self.labels.hand_over(struck.run.from, node, struck.label)?;
         let run = Record {
             from: node,
             len: struck.run.len + 1,
@@ -89,15 +88,22 @@ impl Runs {
         ensures none { IfOk result (λ o. IfNone o (self.new.tree ≡ self.old.tree)) }
         ensures err { OnErr result (self.new.tree ≡ self.old.tree) }
     {
-        if self.tree.runs() == u32::MAX || !self.tree.has_room(cursor.label, visits) {
+        if self.tree.runs() == u32::MAX {
             return Ok(None);
         }
-        let node = cursor.last_node();
+        let size = cursor.run.len;
         let last = Spot {
             label: cursor.label,
-            offset: cursor.run.len - 1,
+            offset: size - 1,
         };
-        let label = self.split(last, node, visits)?;
+        let Some(label) = self
+            .tree
+            .share_behind(last.label, last.offset, size, visits)
+        else {
+            return Ok(None);
+        };
+        let node = cursor.last_node();
+        self.split(last, node, label, visits)?;
         let _runs = self.tree.runs();
         let run = Record {
             from: node,

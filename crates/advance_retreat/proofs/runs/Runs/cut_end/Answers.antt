@@ -21,16 +21,16 @@ pub change-requires-clause-held : goal.change-requires-clause-held
 change-requires-clause-held g c =
     let ps = c.args.self.now.tree.pairs in
     let qs = c.split.new.self.tree.pairs in
-    let cut = parts ps qs c.in_ok-label.label _ c.args.cursor.now c.cursor.view_is c.requires.at.held c.in_ok-label.ensures.parts in
-    cut_label ps qs c.args.self.now.labels c.split.new.self.labels c.args.cursor.now c.in_ok-label.label c.requires.laid c.runs.ensures.rising c.runs-runs.ensures.rising c.requires.at c.requires.first c.requires.long cut
+    let cut = parts ps qs c.in-Some.label _ c.args.cursor.now c.cursor.view_is c.requires.at.held c.in_ok-split.ensures.parts in
+    cut_label ps qs c.args.self.now.labels c.split.new.self.labels c.args.cursor.now c.in-Some.label c.requires.laid c.runs.ensures.rising c.runs-runs.ensures.rising c.requires.at c.requires.first c.requires.long cut
 
 pub change-requires-clause-fit : goal.change-requires-clause-fit
 change-requires-clause-fit g c =
     let ps = c.args.self.now.tree.pairs in
     let qs = c.split.new.self.tree.pairs in
-    let own = c.in_ok-label.label in
+    let own = c.in-Some.label in
     let run : Node → Stretch = λ v. record { from = v; len = 1; prepared = 2; effect = false } in
-    let cut = parts ps qs own _ c.args.cursor.now c.cursor.view_is c.requires.at.held c.in_ok-label.ensures.parts in
+    let cut = parts ps qs own _ c.args.cursor.now c.cursor.view_is c.requires.at.held c.in_ok-split.ensures.parts in
     let long = cut_long ps qs c.args.self.now.labels c.split.new.self.labels c.args.cursor.now own c.requires.laid c.runs.ensures.rising c.runs-runs.ensures.rising c.requires.at c.requires.first c.requires.long cut in
     let same = ap (λ (v : Node). length (chars_in (changed qs own (run v)))) c.last_node-node.ensures in
     let kept = ap (λ (xs : List Stretch). length xs) c.split.ensures.chars in
@@ -42,8 +42,8 @@ pub returns-clause-laid : goal.returns-clause-laid
 returns-clause-laid g c =
     let ps = c.args.self.now.tree.pairs in
     let qs = c.split.new.self.tree.pairs in
-    let own = c.in_ok-label.label in
-    let cut = parts ps qs own _ c.args.cursor.now c.cursor.view_is c.requires.at.held c.in_ok-label.ensures.parts in
+    let own = c.in-Some.label in
+    let cut = parts ps qs own _ c.args.cursor.now c.cursor.view_is c.requires.at.held c.in_ok-split.ensures.parts in
     let is = c.change.ensures.pairs ∙ ap (λ (v : Node). changed qs own (record { from = v; len = 1; prepared = 2; effect = false })) c.last_node-node.ensures in
     subst (λ (xs : List (ℕ × Stretch)). AreLabelled xs c.split.new.self.labels) (sym is)
     (cut_laid ps qs c.args.self.now.labels c.split.new.self.labels c.args.cursor.now own c.requires.laid c.runs.ensures.rising c.runs-runs.ensures.rising c.requires.at c.requires.first c.requires.long cut c.split.ensures.laid)
@@ -52,8 +52,8 @@ pub returns-clause-chars : goal.returns-clause-chars
 returns-clause-chars g c =
     let ps = c.args.self.now.tree.pairs in
     let qs = c.split.new.self.tree.pairs in
-    let own = c.in_ok-label.label in
-    let cut = parts ps qs own _ c.args.cursor.now c.cursor.view_is c.requires.at.held c.in_ok-label.ensures.parts in
+    let own = c.in-Some.label in
+    let cut = parts ps qs own _ c.args.cursor.now c.cursor.view_is c.requires.at.held c.in_ok-split.ensures.parts in
     let is = c.change.ensures.pairs ∙ ap (λ (v : Node). changed qs own (record { from = v; len = 1; prepared = 2; effect = false })) c.last_node-node.ensures in
     ap chars_in is
     ∙ cut_struck ps qs c.args.self.now.labels c.split.new.self.labels c.args.cursor.now own c.requires.laid c.runs.ensures.rising c.runs-runs.ensures.rising c.requires.at c.requires.first c.requires.long cut
@@ -62,9 +62,9 @@ pub returns-clause-gave : goal.returns-clause-gave
 returns-clause-gave g c =
     let ps = c.args.self.now.tree.pairs in
     let qs = c.split.new.self.tree.pairs in
-    let own = c.in_ok-label.label in
+    let own = c.in-Some.label in
     let run : Node → Stretch = λ v. record { from = v; len = 1; prepared = 2; effect = false } in
-    let cut = parts ps qs own _ c.args.cursor.now c.cursor.view_is c.requires.at.held c.in_ok-label.ensures.parts in
+    let cut = parts ps qs own _ c.args.cursor.now c.cursor.view_is c.requires.at.held c.in_ok-split.ensures.parts in
     let is = c.change.ensures.pairs ∙ ap (λ (v : Node). changed qs own (run v)) c.last_node-node.ensures in
     subst (λ (xs : List (ℕ × Stretch)). GaveEnd ps xs c.args.cursor.now (record { label = own; run = run c.last_node-node.result })) (sym is)
     (subst (λ (v : Node). GaveEnd ps (changed qs own (run (last_of c.args.cursor.now.run))) c.args.cursor.now (record { label = own; run = run v })) (sym c.last_node-node.ensures)

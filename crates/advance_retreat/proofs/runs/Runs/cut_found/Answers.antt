@@ -17,17 +17,17 @@ pub returns-clause-first : goal.returns-clause-first
 returns-clause-first g c =
     let ps = c.args.self.now.tree.pairs in
     let qs = c.split.new.self.tree.pairs in
-    let own = c.in_ok-label.label in
+    let own = c.in-Some.own in
     let found = c.args.found in
     held_first qs (lower ps found.label) (greater ps found.label) found.label own (first_part found.run found.offset) (second_part found.run found.offset)
-    (parts ps qs own c.spot-spot.result (record { label = found.label; offset = found.offset }) found.run c.spot-spot.ensures c.requires.held c.in_ok-label.ensures.parts)
+    (parts ps qs own c.spot-spot.result (record { label = found.label; offset = found.offset }) found.run c.spot-spot.ensures c.requires.held c.in_ok-split.ensures.parts)
 
 pub returns-clause-second : goal.returns-clause-second
 returns-clause-second g c =
     let ps = c.args.self.now.tree.pairs in
     let qs = c.split.new.self.tree.pairs in
-    let own = c.in_ok-label.label in
+    let own = c.in-Some.own in
     let found = c.args.found in
     subst (λ (r : Stretch). Contains qs (own, r)) (sym c.split-run.ensures.second)
     (held_second qs (lower ps found.label) (greater ps found.label) found.label own (first_part found.run found.offset) (second_part found.run found.offset)
-    (parts ps qs own c.spot-spot.result (record { label = found.label; offset = found.offset }) found.run c.spot-spot.ensures c.requires.held c.in_ok-label.ensures.parts))
+    (parts ps qs own c.spot-spot.result (record { label = found.label; offset = found.offset }) found.run c.spot-spot.ensures c.requires.held c.in_ok-split.ensures.parts))

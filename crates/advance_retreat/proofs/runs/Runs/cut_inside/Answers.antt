@@ -1,10 +1,12 @@
-use Rattle.std.proofs.Common.{ℕ, Option, IfSome, IfNone, ◌∙◌, subst, sym, List, inl}
+use Rattle.std.proofs.Common.{ℕ, ◌<◌, Option, IfSome, IfNone, ◌∙◌, subst, sym, ap, List, inl}
 use Rattle.advance_retreat.specs.declared.runs.Spot.{Spot}
 use Rattle.advance_retreat.specs.Laid.{Stands}
 use Rattle.advance_retreat.proofs.RunsAt.{same_chars, stands_too}
+use Rattle.advance_retreat.proofs.KnownRuns.{held_label}
+use Rattle.advance_retreat.proofs.PartedRuns.{same_run}
 use Rattle.advance_retreat.proofs.Parting.{still_begins, still_inside}
 use Rattle.walker_record.specs.Stretches.{Stretch}
-use Rattle.order_tree.specs.Pairs.{runs}
+use Rattle.order_tree.specs.Pairs.{HasRoom, runs}
 use Rattle.advance_retreat.specs.Loose.{MayBeCut}
 use Rattle.advance_retreat.proofs.runs.Runs.cut_inside.Goals as goal
 
@@ -32,6 +34,28 @@ split-requires-clause-inside g c =
     still_inside ps qs c.args.self.now.labels c.make_room.new.self.labels c.requires.laid c.make_room.ensures.laid c.make_room.ensures.runs c.args.node
     c.requires.inside.0 c.requires.inside.1 spot.label spot.offset c.requires.inside.2 c.requires.inside.3 stands
 
+pub record-requires : goal.record-requires
+record-requires g c =
+    let qs = c.make_room.new.self.tree.pairs in
+    let spot = c.in-Some.spot in
+    let stands = subst (λ (o : Option Spot). IfSome o (λ s. Stands qs s.label s.offset c.args.node)) c.in-Some.is c.in_ok-spot.ensures.spot in
+    held_label qs spot.label stands.run stands.held
+
+pub share_behind-requires : goal.share_behind-requires
+share_behind-requires g c =
+    let qs = c.make_room.new.self.tree.pairs in
+    let spot = c.in-Some.spot in
+    let stands = subst (λ (o : Option Spot). IfSome o (λ s. Stands qs s.label s.offset c.args.node)) c.in-Some.is c.in_ok-spot.ensures.spot in
+    let inside = subst (λ (r : Stretch). spot.offset < r.len) (same_run qs spot.label stands.run c.record.result c.runs-runs.ensures.rising stands.held c.record.ensures) stands.inside in
+    record { inside = subst (λ (n : ℕ). spot.offset < n) (sym (ap (λ (r : Stretch). r.len) c.size.view_is)) inside }
+
+pub unreachable-requires-in_default-share_behind : goal.unreachable-requires-in_default-share_behind
+unreachable-requires-in_default-share_behind g c =
+    let qs = c.make_room.new.self.tree.pairs in
+    let room = subst (λ (o : Option Spot). IfSome o (λ s. HasRoom qs s.label)) c.in-Some.is c.in_ok-spot.ensures.behind in
+    let none = subst (λ (o : Option ℕ). IfNone o (HasRoom qs c.in-Some.spot.label → ⊥)) c.in_default-share_behind.is c.share_behind.ensures.none in
+    none room
+
 pub returns-clause-chars : goal.returns-clause-chars
 returns-clause-chars g c = c.split.ensures.chars ∙ same_chars c.make_room.new.self.tree.pairs c.args.self.now.tree.pairs c.make_room.ensures.runs
 
@@ -45,11 +69,3 @@ returns-in_err-spot-clause-cut g c = inl c.make_room.ensures.runs
 
 pub returns-clause-cut : goal.returns-clause-cut
 returns-clause-cut g c = subst (λ (rs : List Stretch). MayBeCut rs (runs c.split.new.self.tree.pairs) c.args.node) c.make_room.ensures.runs c.split.ensures.cut
-
-pub returns-in_err-split-clause-chars : goal.returns-in_err-split-clause-chars
-returns-in_err-split-clause-chars g c = c.split.ensures.chars ∙ same_chars c.make_room.new.self.tree.pairs c.args.self.now.tree.pairs c.make_room.ensures.runs
-
-pub returns-in_err-split-clause-begun : goal.returns-in_err-split-clause-begun
-returns-in_err-split-clause-begun g c v first =
-    c.split.ensures.begun v
-    (still_begins c.args.self.now.tree.pairs c.make_room.new.self.tree.pairs c.args.self.now.labels c.make_room.new.self.labels c.requires.laid c.make_room.ensures.laid c.make_room.ensures.runs v first)

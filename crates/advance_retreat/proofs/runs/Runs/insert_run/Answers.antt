@@ -1,8 +1,9 @@
-use Rattle.std.proofs.Common.{ℕ, List, Contains, ap, ◌∙◌, subst, sym, ◌+◌, ◌≤◌, Bool, arith}
+use Rattle.std.proofs.Common.{ℕ, List, Contains, Some, ap, ◌∙◌, subst, sym, ◌+◌, ◌≤◌, Bool, arith}
 use Rattle.std.specs.List.{list_any}
 use Rattle.ew_model.specs.declared.node.Node.TheVariants.{Event}
 use Rattle.walker_record.specs.Stretches.{Stretch}
 use Rattle.advance_retreat.specs.Kept.{is_of}
+use Rattle.advance_retreat.specs.Labelled.{Sets}
 use Rattle.advance_retreat.specs.Laid.{chars_in}
 use Rattle.advance_retreat.proofs.Places.{laid_same}
 use Rattle.advance_retreat.proofs.CharPlaces.{stands_not, label_not}
@@ -21,6 +22,14 @@ enlist-requires-clause-bare g c =
 pub returns-in_err-enlist-clause-laid : goal.returns-in_err-enlist-clause-laid
 returns-in_err-enlist-clause-laid g c =
     laid_same c.open_run.new.self.tree.pairs c.open_run.new.self.labels c.enlist.new.labels c.in_err-enlist.ensures.same c.open_run.ensures.laid
+
+pub fill-requires-clause-laid : goal.fill-requires-clause-laid
+fill-requires-clause-laid g c = (
+  c.open_run.new.self.labels,
+  c.open_run.ensures.laid,
+  subst (λ (v : Node). Sets c.open_run.new.self.labels c.enlist.new.labels v (Some c.in_ok-own.own)) (sym (ap (λ (r : Stretch). r.from) c.run.ensures))
+      c.in_ok-enlist.ensures.sets,
+)
 
 pub fill-requires-clause-held : goal.fill-requires-clause-held
 fill-requires-clause-held g c = (

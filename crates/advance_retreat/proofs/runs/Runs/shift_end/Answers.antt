@@ -6,11 +6,19 @@ use Rattle.advance_retreat.specs.Cursors.{GaveEnd}
 use Rattle.advance_retreat.specs.Laid.{AreLabelled, chars_in}
 use Rattle.advance_retreat.proofs.AlteredChars.{sums_fit}
 use Rattle.advance_retreat.proofs.Places.{laid_same}
-use Rattle.advance_retreat.proofs.StruckEnds.{struck_label, mid_long, mid_label, shifted_chars, shifted_long, shifted_gave, shifted_labelled}
+use Rattle.advance_retreat.proofs.StruckEnds.{struck_label, mid_long, mid_label, shifted_chars, shifted_long, shifted_gave, shifted_labelled, shifted_bare, shifted_root}
 use Rattle.advance_retreat.proofs.runs.Runs.shift_end.Goals as goal
 
-pub returns-in_err-insert-clause-laid : goal.returns-in_err-insert-clause-laid
-returns-in_err-insert-clause-laid g c = laid_same c.args.self.now.tree.pairs c.args.self.now.labels c.insert.new.self c.in_err-insert.ensures.err c.requires.laid
+pub hand_over-requires-clause-some : goal.hand_over-requires-clause-some
+hand_over-requires-clause-some g c =
+    shifted_root c.args.self.now.tree.pairs c.args.self.now.labels c.args.cursor.now _ c.last_node-node.result c.requires.laid c.runs-runs.ensures.rising c.requires.at (c.requires.behind ∙ ap (λ (x : Struck). Some x) (sym c.struck.view_is)) c.requires.long c.last_node-node.ensures
+
+pub hand_over-requires-clause-bare : goal.hand_over-requires-clause-bare
+hand_over-requires-clause-bare g c =
+    shifted_bare c.args.self.now.tree.pairs c.args.self.now.labels c.args.cursor.now _ c.last_node-node.result c.requires.laid c.runs-runs.ensures.rising c.requires.at (c.requires.behind ∙ ap (λ (x : Struck). Some x) (sym c.struck.view_is)) c.requires.long c.last_node-node.ensures
+
+pub returns-in_err-hand_over-clause-laid : goal.returns-in_err-hand_over-clause-laid
+returns-in_err-hand_over-clause-laid g c = laid_same c.args.self.now.tree.pairs c.args.self.now.labels c.hand_over.new.self c.in_err-hand_over.ensures.err c.requires.laid
 
 pub change-requires-clause-held : goal.change-requires-clause-held
 change-requires-clause-held g c =
@@ -39,9 +47,9 @@ change-requires-2-clause-fit g c =
 
 pub returns-clause-laid : goal.returns-clause-laid
 returns-clause-laid g c =
-    subst (λ (xs : List (ℕ × Stretch)). AreLabelled xs c.remove.new.self) (sym (c.change-2.ensures.pairs ∙ (λ i. changed (c.change.ensures.pairs i) c.args.cursor.now.label (c.shorter.ensures i))))
+    subst (λ (xs : List (ℕ × Stretch)). AreLabelled xs c.hand_over.new.self) (sym (c.change-2.ensures.pairs ∙ (λ i. changed (c.change.ensures.pairs i) c.args.cursor.now.label (c.shorter.ensures i))))
     (shifted_labelled c.args.self.now.tree.pairs c.args.self.now.labels c.args.cursor.now _ c.last_node-node.result c.requires.laid c.runs-runs.ensures.rising c.requires.at (c.requires.behind ∙ ap (λ (x : Struck). Some x) (sym c.struck.view_is)) c.requires.long c.last_node-node.ensures
-    c.insert.new.self c.remove.new.self c.in_ok-insert.ensures.ok c.remove.ensures)
+    c.hand_over.new.self c.in_ok-hand_over.ensures.ok)
 
 pub returns-clause-chars : goal.returns-clause-chars
 returns-clause-chars g c =

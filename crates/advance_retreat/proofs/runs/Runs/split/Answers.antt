@@ -16,8 +16,8 @@ insert-requires g c e =
 pub returns-in_err-insert-clause-laid : goal.returns-in_err-insert-clause-laid
 returns-in_err-insert-clause-laid g c = laid_same c.args.self.now.tree.pairs c.args.self.now.labels c.insert.new.self c.in_err-insert.ensures.err c.requires.laid
 
-pub split-requires-clause-inside : goal.split-requires-clause-inside
-split-requires-clause-inside g c =
+pub split_under-requires-clause-inside : goal.split_under-requires-clause-inside
+split_under-requires-clause-inside g c =
     let s = c.requires.stands in
     let long = length-chars_of s.run in
     let lt = s.inside in
@@ -25,29 +25,29 @@ split-requires-clause-inside g c =
 
 pub returns-in-Ok-clause-laid : goal.returns-in-Ok-clause-laid
 returns-in-Ok-clause-laid g c =
-    split_laid _ (λ s. refl) c.args.self.now.tree.pairs c.split.new.self.pairs c.args.self.now.labels c.insert.new.self c.set.new.self c.args.spot.label c.in-Ok.own c.args.spot.offset c.args.node
-    c.requires.laid c.runs-runs.ensures.rising c.requires.stands c.requires.inside c.in-Ok.ensures.pairs c.in-Ok.ensures.between.0 c.in_ok-insert.ensures.ok c.set.ensures
+    split_laid _ (λ s. refl) c.args.self.now.tree.pairs c.split_under.new.self.pairs c.args.self.now.labels c.insert.new.self c.args.spot.label c.args.own c.args.spot.offset c.args.node
+    c.requires.laid c.runs-runs.ensures.rising c.requires.stands c.requires.inside c.in-Ok.ensures.pairs c.requires.above c.in_ok-insert.ensures.ok
 
 pub returns-in-Ok-clause-chars : goal.returns-in-Ok-clause-chars
 returns-in-Ok-clause-chars g c =
-    split_chars _ (λ s. refl) c.args.self.now.tree.pairs c.split.new.self.pairs c.args.self.now.labels c.insert.new.self c.set.new.self c.args.spot.label c.in-Ok.own c.args.spot.offset c.args.node
-    c.requires.laid c.runs-runs.ensures.rising c.requires.stands c.requires.inside c.in-Ok.ensures.pairs c.in-Ok.ensures.between.0 c.in_ok-insert.ensures.ok c.set.ensures
+    split_chars _ (λ s. refl) c.args.self.now.tree.pairs c.split_under.new.self.pairs c.args.self.now.labels c.insert.new.self c.args.spot.label c.args.own c.args.spot.offset c.args.node
+    c.requires.laid c.runs-runs.ensures.rising c.requires.stands c.requires.inside c.in-Ok.ensures.pairs c.requires.above c.in_ok-insert.ensures.ok
 
 pub returns-in-Ok-clause-first : goal.returns-in-Ok-clause-first
 returns-in-Ok-clause-first g c =
-    split_first _ (λ s. refl) c.args.self.now.tree.pairs c.split.new.self.pairs c.args.self.now.labels c.insert.new.self c.set.new.self c.args.spot.label c.in-Ok.own c.args.spot.offset c.args.node
-    c.requires.laid c.runs-runs.ensures.rising c.requires.stands c.requires.inside c.in-Ok.ensures.pairs c.in-Ok.ensures.between.0 c.in_ok-insert.ensures.ok c.set.ensures
+    split_first _ (λ s. refl) c.args.self.now.tree.pairs c.split_under.new.self.pairs c.args.self.now.labels c.insert.new.self c.args.spot.label c.args.own c.args.spot.offset c.args.node
+    c.requires.laid c.runs-runs.ensures.rising c.requires.stands c.requires.inside c.in-Ok.ensures.pairs c.requires.above c.in_ok-insert.ensures.ok
 
 pub returns-in-Ok-clause-begun : goal.returns-in-Ok-clause-begun
 returns-in-Ok-clause-begun g c =
-    split_begins _ (λ s. refl) c.args.self.now.tree.pairs c.split.new.self.pairs c.args.self.now.labels c.insert.new.self c.set.new.self c.args.spot.label c.in-Ok.own c.args.spot.offset c.args.node
-    c.requires.laid c.runs-runs.ensures.rising c.requires.stands c.requires.inside c.in-Ok.ensures.pairs c.in-Ok.ensures.between.0 c.in_ok-insert.ensures.ok c.set.ensures
+    split_begins _ (λ s. refl) c.args.self.now.tree.pairs c.split_under.new.self.pairs c.args.self.now.labels c.insert.new.self c.args.spot.label c.args.own c.args.spot.offset c.args.node
+    c.requires.laid c.runs-runs.ensures.rising c.requires.stands c.requires.inside c.in-Ok.ensures.pairs c.requires.above c.in_ok-insert.ensures.ok
 
 pub returns-in-Err-clause-laid : goal.returns-in-Err-clause-laid
 returns-in-Err-clause-laid g c =
     subst (λ (ps : List (ℕ × Stretch)). AreLabelled ps c.remove.new.self) (sym (ap (λ (t : Tree Stretch). t.pairs) c.in-Err.ensures.err))
     (laid_same c.args.self.now.tree.pairs c.args.self.now.labels c.remove.new.self
-    (taken_same c.args.self.now.tree.pairs c.args.self.now.labels c.insert.new.self c.remove.new.self c.args.spot.label c.args.spot.offset c.args.node c.requires.laid c.requires.stands c.requires.inside c.in_ok-insert.ensures.ok c.remove.ensures)
+    (taken_same c.args.self.now.tree.pairs c.args.self.now.labels c.insert.new.self c.remove.new.self c.args.spot.label c.args.own c.args.spot.offset c.args.node c.requires.laid c.requires.stands c.requires.inside c.in_ok-insert.ensures.ok c.remove.ensures)
     c.requires.laid)
 
 pub returns-in-Err-clause-begun : goal.returns-in-Err-clause-begun
@@ -58,8 +58,8 @@ returns-in_err-insert-clause-cut g c = inl refl
 
 pub returns-in-Ok-clause-cut : goal.returns-in-Ok-clause-cut
 returns-in-Ok-clause-cut g c =
-    inr (split_cut _ (λ s. refl) c.args.self.now.tree.pairs c.split.new.self.pairs c.args.self.now.labels c.insert.new.self c.set.new.self c.args.spot.label c.in-Ok.own c.args.spot.offset c.args.node
-    c.requires.laid c.runs-runs.ensures.rising c.requires.stands c.requires.inside c.in-Ok.ensures.pairs c.in-Ok.ensures.between.0 c.in_ok-insert.ensures.ok c.set.ensures)
+    inr (split_cut _ (λ s. refl) c.args.self.now.tree.pairs c.split_under.new.self.pairs c.args.self.now.labels c.insert.new.self c.args.spot.label c.args.own c.args.spot.offset c.args.node
+    c.requires.laid c.runs-runs.ensures.rising c.requires.stands c.requires.inside c.in-Ok.ensures.pairs c.requires.above c.in_ok-insert.ensures.ok)
 
 pub returns-in-Err-clause-cut : goal.returns-in-Err-clause-cut
 returns-in-Err-clause-cut g c = inl (ap (λ (t : Tree Stretch). runs t.pairs) c.in-Err.ensures.err)
@@ -69,7 +69,7 @@ returns-in-Ok-clause-parts g c run held =
     let ps = c.args.self.now.tree.pairs in
     let label = c.args.spot.label in
     let offset = c.args.spot.offset in
-    subst (λ (r : Stretch). c.split.new.self.pairs ≡ lower ps label ++ (label, first_part r offset) ∷ (c.in-Ok.own, second_part r offset) ∷ greater ps label)
+    subst (λ (r : Stretch). c.split_under.new.self.pairs ≡ lower ps label ++ (label, first_part r offset) ∷ (c.args.own, second_part r offset) ∷ greater ps label)
     (same_run ps label c.requires.stands.run run c.runs-runs.ensures.rising c.requires.stands.held held)
-    (parts _ (λ s. refl) ps c.split.new.self.pairs c.args.self.now.labels c.insert.new.self c.set.new.self label c.in-Ok.own offset c.args.node
-    c.requires.laid c.runs-runs.ensures.rising c.requires.stands c.requires.inside c.in-Ok.ensures.pairs c.in-Ok.ensures.between.0 c.in_ok-insert.ensures.ok c.set.ensures)
+    (parts _ (λ s. refl) ps c.split_under.new.self.pairs c.args.self.now.labels c.insert.new.self label c.args.own offset c.args.node
+    c.requires.laid c.runs-runs.ensures.rising c.requires.stands c.requires.inside c.in-Ok.ensures.pairs c.requires.above c.in_ok-insert.ensures.ok)
