@@ -18,8 +18,10 @@ pub fn give_events(alloc: Global, bytes: &[u8], limits: &Limits) -> Result<Loadi
 {
     let mut reader = EventReader::new(alloc, bytes, limits.events())?;
     let mut given = Loading::new(alloc, *limits)?;
-    while let Some(event) = reader.next()? {
+    let mut room = Vec::new(alloc);
+    while let Some(event) = reader.next_in(room)? {
         given.push(&event)?;
+        room = event.parents.into_vec();
     }
     Ok(given)
 }

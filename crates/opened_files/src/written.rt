@@ -51,19 +51,29 @@ fn put_events(
 {
     let mut parents = Vec::new(alloc);
     let mut near = Near::start();
+    let mut agent = 0;
     for lv in 0..graph.count() {
-        put_event(graph, agents, lv, &mut near, &mut parents, writer)?;
+        put_event(
+            graph,
+            agents,
+            lv,
+            &mut near,
+            &mut agent,
+            &mut parents,
+            writer,
+        )?;
     }
     Ok(())
 }
 
-/// Puts the record of the event at a position behind the others. `near` tells where the event before it was found, and `parents`
-/// is room for the positions of its parents.
+/// Puts the record of the event at a position behind the others. `near` tells where the event before it was found, `agent_near`
+/// the place of that one's agent, and `parents` is room for the positions of its parents.
 fn put_event(
     graph: &Graph,
     agents: &Agents,
     lv: u32,
     near: &mut Near,
+    agent_near: &mut u32,
     parents: &mut Vec<u32>,
     writer: &mut FileWriter,
 ) -> Result<(), NoMem>
@@ -74,7 +84,7 @@ fn put_event(
 {
     find_parents(graph, lv, near, parents)?;
     let id = graph.id_near(lv, near);
-    let agent = agents.number_of(&id.agent);
+    let agent = agents.number_near(&id.agent, agent_near);
     let op = graph.op_near(lv, near);
     writer.put(agent, id.seq, parents, &op)
 }

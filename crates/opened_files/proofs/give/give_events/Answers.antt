@@ -28,13 +28,13 @@ returns-in_err-push-clause-fault c =
 pub loop-given-preserved : goal.loop-given-preserved
 loop-given-preserved c =
     let front = c.loop-given.invariant.front in
-    let next : IsNext (Ok (Some c.in-Some.event)) c.loop-given.reader c.next.new.self =
-    subst (λ (o : Option Event). IsNext (Ok o) c.loop-given.reader c.next.new.self) c.in-Some.is c.in_ok-event.ensures in
+    let next : IsNext (Ok (Some c.in-Some.event)) c.loop-given.reader c.next_in.new.self =
+    subst (λ (o : Option Event). IsNext (Ok o) c.loop-given.reader c.next_in.new.self) c.in-Some.is c.in_ok-event.ensures in
     let were : WereGiven (front.0 ++ c.in-Some.event ∷ []) c.push.new.self = c.in_ok-push.ensures.given front.0 front.1.0 in
     record {
       limits = c.in_ok-push.ensures.limits ∙ c.loop-given.invariant.limits;
       front = (
         front.0 ++ c.in-Some.event ∷ [],
-        one_more front.0 c.in-Some.event c.in_ok-reader.reader.found c.loop-given.given c.push.new.self c.loop-given.reader c.next.new.self c.args.limits.now.events front.1 next.0 next.1 were,
+        one_more front.0 c.in-Some.event c.in_ok-reader.reader.found c.loop-given.given c.push.new.self c.loop-given.reader c.next_in.new.self c.args.limits.now.events front.1 next.0 next.1 were,
       );
     }

@@ -13,8 +13,8 @@ use Rattle.opened_files.specs.Places.{place_of, places_of}
 use Rattle.opened_files.proofs.GraphRecords.{asked, record_by_places}
 use Rattle.opened_files.proofs.written.put_event.Goals as goal
 
-pub number_of-agent-requires : goal.number_of-agent-requires
-number_of-agent-requires c =
+pub number_near-agent-requires : goal.number_near-agent-requires
+number_near-agent-requires c =
     let history = c.args.graph.now in
     let here = element_there history c.args.lv c.requires.within in
     let same = same_made (λ (e : Event). e.id) history c.args.lv here.0 c.id_near-id.result here.1 c.id_near-id.ensures in
@@ -36,7 +36,7 @@ returns c e at =
     let parents = c.deref.result.now in
     let same = same_made (λ (f : Event). f.id) history c.args.lv e id at c.id_near-id.ensures in
     let same_op = same_made (λ (f : Event). f.op) history c.args.lv e op at c.op_near-op.ensures in
-    let fields = ap (λ n. fields_of n id.seq parents op) (c.number_of-agent.ensures ∙ ap (position_or_len (name_eq id.agent)) c.requires.agents)
+    let fields = ap (λ n. fields_of n id.seq parents op) (c.number_near-agent.ensures.value ∙ ap (position_or_len (name_eq id.agent)) c.requires.agents)
     ∙ ap (λ (x : Id). fields_of (position_or_len (name_eq x.agent) (agents_of history)) x.seq parents op) same
     ∙ ap (λ ps. fields_of (position_or_len (name_eq e.id.agent) (agents_of history)) e.id.seq ps op) (c.deref.ensures.value ∙ c.in_ok-find_parents.ensures e at)
     ∙ ap (λ (o : Op). fields_of (position_or_len (name_eq e.id.agent) (agents_of history)) e.id.seq (places_of history e.parents) o) same_op
