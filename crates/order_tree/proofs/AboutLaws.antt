@@ -13,7 +13,7 @@ use Rattle.order_tree.specs.Relabels.{relabelled, renamed, reached}
 use Rattle.order_tree.specs.Abouts.{IsSpreadIn, IsWithin, IsIdle, IsCounting}
 use Rattle.order_tree.specs.Whole.{IsWhole}
 use Rattle.order_tree.proofs.PairLaws.{rises_rest, rises_weaker, rises_above, total-cons, All_right}
-use Rattle.order_tree.proofs.PartLists.{parts_at, parts_more}
+use Rattle.order_tree.proofs.PartLists.{parts_at, parts_set, parts_more}
 use Rattle.order_tree.proofs.LeafEdits.{same_sums}
 use Rattle.order_tree.proofs.Around.{held_all, next_around, held_below, held_above}
 use Rattle.order_tree.proofs.SpreadLaws.{reached_is, times_more, runs-relabelled, zip-relabelled, all_below, room_label}
@@ -115,28 +115,21 @@ module _ {R : Type 0} (kids : List (Tree R)) (k : ℕ) (kid w : Tree R) (lt : k 
   kids_at : all_pairs (λ t. t.pairs) kids ≡ all_pairs (λ t. t.pairs) (take k kids) ++ (kid.pairs ++ all_pairs (λ t. t.pairs) (drop (k + 1) kids))
   kids_at = parts_at (λ t. t.pairs) kids k kid lt is
 
-  kids_set : (xs : List (Tree R)) (j : ℕ) → j < length xs → all_pairs (λ t. t.pairs) (slice_set xs j w) ≡ all_pairs (λ t. t.pairs) (take j xs) ++ (w.pairs ++ all_pairs (λ t. t.pairs) (drop (j + 1) xs))
-  kids_set [] j less = absurd (omega (arith, less))
-  kids_set (x ∷ xs) zero less = refl
-  kids_set (x ∷ xs) (suc j) less =
-      let more : suc j + 1 ≡ suc (j + 1) = omega arith in
-      rw more (ap (λ (ps : List (ℕ × R)). x.pairs ++ ps) (kids_set xs j (omega (arith, less))) ∙ sym (append_assoc x.pairs (all_pairs (λ (t : Tree R). t.pairs) (take j xs)) (w.pairs ++ all_pairs (λ (t : Tree R). t.pairs) (drop (j + 1) xs))))
-
   pub kids_runs : runs w.pairs ≡ runs kid.pairs → runs (all_pairs (λ t. t.pairs) (slice_set kids k w)) ≡ runs (all_pairs (λ t. t.pairs) kids)
-  kids_runs e = ap (λ (ps : List (ℕ × R)). runs ps) (kids_set kids k lt) ∙ runs_around (all_pairs (λ t. t.pairs) (take k kids)) kid.pairs w.pairs (all_pairs (λ t. t.pairs) (drop (k + 1) kids)) e ∙ sym (ap (λ (ps : List (ℕ × R)). runs ps) kids_at)
+  kids_runs e = ap (λ (ps : List (ℕ × R)). runs ps) (parts_set (λ t. t.pairs) kids k w lt) ∙ runs_around (all_pairs (λ t. t.pairs) (take k kids)) kid.pairs w.pairs (all_pairs (λ t. t.pairs) (drop (k + 1) kids)) e ∙ sym (ap (λ (ps : List (ℕ × R)). runs ps) kids_at)
 
   pub kids_spread : (bound most label : ℕ) (given : List (ℕ × (ℕ × R))) → most ≡ unwrap_or (first_label (all_pairs (λ t. t.pairs) (drop (k + 1) kids))) bound → IsSpreadIn most label kid.pairs w.pairs given
       → IsSpreadIn bound label (all_pairs (λ t. t.pairs) kids) (all_pairs (λ t. t.pairs) (slice_set kids k w)) given
   kids_spread bound most label given free h =
       let inner : IsSpreadIn (unwrap_or (first_label (all_pairs (λ t. t.pairs) (drop (k + 1) kids))) bound) label kid.pairs w.pairs given = subst (λ (n : ℕ). IsSpreadIn n label kid.pairs w.pairs given) free h in
       let up = spread_around (all_pairs (λ t. t.pairs) (take k kids)) kid.pairs (all_pairs (λ t. t.pairs) (drop (k + 1) kids)) bound label w.pairs given inner in
-      subst (λ (ps : List (ℕ × R)). IsSpreadIn bound label (all_pairs (λ t. t.pairs) kids) ps given) (sym (kids_set kids k lt))
+      subst (λ (ps : List (ℕ × R)). IsSpreadIn bound label (all_pairs (λ t. t.pairs) kids) ps given) (sym (parts_set (λ t. t.pairs) kids k w lt))
       (subst (λ (ps : List (ℕ × R)). IsSpreadIn bound label ps (all_pairs (λ t. t.pairs) (take k kids) ++ (w.pairs ++ all_pairs (λ t. t.pairs) (drop (k + 1) kids))) given) (sym kids_at) up)
 
   -- one of the branches has the same pairs as before: so have all
   pub kids_same : w.pairs ≡ kid.pairs → all_pairs (λ t. t.pairs) (slice_set kids k w) ≡ all_pairs (λ t. t.pairs) kids
   kids_same e =
-      kids_set kids k lt ∙ ap (λ (ps : List (ℕ × R)). all_pairs (λ (t : Tree R). t.pairs) (take k kids) ++ (ps ++ all_pairs (λ (t : Tree R). t.pairs) (drop (k + 1) kids))) e ∙ sym kids_at
+      parts_set (λ t. t.pairs) kids k w lt ∙ ap (λ (ps : List (ℕ × R)). all_pairs (λ (t : Tree R). t.pairs) (take k kids) ++ (ps ++ all_pairs (λ (t : Tree R). t.pairs) (drop (k + 1) kids))) e ∙ sym kids_at
 
   -- it has so many, and the others so many
   pub kids_counted : w ≡ kid → (count others : ℕ) (list : List (Tree R)) → list ≡ slice_set kids k w → count ≡ length kid.pairs → others + length (slice_index_or list k kid).pairs ≡ length (all_pairs (λ t. t.pairs) list) → count + others ≡ length (all_pairs (λ t. t.pairs) kids)

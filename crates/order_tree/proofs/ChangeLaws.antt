@@ -1,5 +1,5 @@
 -- Runs of which one gave way to another.
-use Rattle.std.proofs.Common.{◌≡◌, ◌≢◌, ℕ, zero, suc, ◌+◌, ◌^◌, ◌<◌, true, false, None, List, [], ◌∷◌, ◌++◌, length, take, drop, slice_set, slice_index_or, All, nat_eq, if◌then◌else◌, arith, refl, sym, ap, ◌∙◌, subst, append-nil, eq-eqb}
+use Rattle.std.proofs.Common.{◌≡◌, ◌≢◌, ℕ, zero, suc, ◌+◌, ◌^◌, ◌<◌, true, false, List, [], ◌∷◌, ◌++◌, length, take, drop, slice_set, slice_index_or, All, nat_eq, if◌then◌else◌, arith, refl, sym, ap, ◌∙◌, subst, eq-eqb}
 use Rattle.std.proofs.lemmas.Bool.{ne_eqb, eqb-true, cond_both}
 use Rattle.std.proofs.lemmas.List.{map-append, length-map, set_split}
 use Rattle.std.proofs.lemmas.List.Elements.{All-nil, All-cons, All-head, All-tail, All-weaker}
@@ -10,8 +10,8 @@ use Rattle.order_tree.specs.Parts.{all_pairs, one_pair, sums_of, IsMoved}
 use Rattle.order_tree.specs.Shape.{AllBelow}
 use Rattle.order_tree.specs.Whole.{IsWhole}
 use Rattle.order_tree.proofs.PairLaws.{total-one}
-use Rattle.order_tree.proofs.PartLists.{entries_are, parts_at}
-use Rattle.order_tree.proofs.InnerEdits.{total-around, fit_part, grown_none, pairs-grown}
+use Rattle.order_tree.proofs.PartLists.{entries_are, parts_at, parts_set}
+use Rattle.order_tree.proofs.InnerEdits.{total-around, fit_part}
 
 module _ {R : Type 0} (label : ℕ) (run : R) where
   changed_other : (ps : List (ℕ × R)) → All (λ p. p.0 ≢ label) ps → changed ps label run ≡ ps
@@ -122,11 +122,6 @@ module _ {R : Type 0} (G : Ghosts R) (kids : List (Tree R)) (k label : ℕ) (kid
   kids_at : all_pairs (λ t. t.pairs) kids ≡ all_pairs (λ t. t.pairs) (take k kids) ++ (kid.pairs ++ all_pairs (λ t. t.pairs) (drop (k + 1) kids))
   kids_at = parts_at (λ t. t.pairs) kids k kid lt is
 
-  kids_set : (w : Tree R) → all_pairs (λ t. t.pairs) (slice_set kids k w) ≡ all_pairs (λ t. t.pairs) (take k kids) ++ (w.pairs ++ all_pairs (λ t. t.pairs) (drop (k + 1) kids))
-  kids_set w =
-      ap (λ (ks : List (Tree R)). all_pairs (λ t. t.pairs) ks) (grown_none kids k w) ∙ pairs-grown kids k w None lt
-      ∙ ap (λ (xs : List (ℕ × R)). all_pairs (λ t. t.pairs) (take k kids) ++ (xs ++ all_pairs (λ t. t.pairs) (drop (k + 1) kids))) (append-nil w.pairs)
-
   kids_around : (run : R) → changed (all_pairs (λ t. t.pairs) kids) label run ≡ all_pairs (λ t. t.pairs) (take k kids) ++ (changed kid.pairs label run ++ all_pairs (λ t. t.pairs) (drop (k + 1) kids))
   kids_around run = ap (λ (xs : List (ℕ × R)). changed xs label run) kids_at ∙ changed_around label run (all_pairs (λ t. t.pairs) (take k kids)) kid.pairs (all_pairs (λ t. t.pairs) (drop (k + 1) kids)) below above
 
@@ -135,11 +130,11 @@ module _ {R : Type 0} (G : Ghosts R) (kids : List (Tree R)) (k label : ℕ) (kid
       fit_part G (all_pairs (λ t. t.pairs) (take k kids)) (changed kid.pairs label run) (all_pairs (λ t. t.pairs) (drop (k + 1) kids)) (subst (λ (xs : List (ℕ × R)). SumsFit G xs) (kids_around run) h)
 
   pub kid_changed : (run : R) (w : Tree R) → w.pairs ≡ changed kid.pairs label run → all_pairs (λ t. t.pairs) (slice_set kids k w) ≡ changed (all_pairs (λ t. t.pairs) kids) label run
-  kid_changed run w e = kids_set w ∙ ap (λ (xs : List (ℕ × R)). all_pairs (λ t. t.pairs) (take k kids) ++ (xs ++ all_pairs (λ t. t.pairs) (drop (k + 1) kids))) e ∙ sym (kids_around run)
+  kid_changed run w e = parts_set (λ t. t.pairs) kids k w lt ∙ ap (λ (xs : List (ℕ × R)). all_pairs (λ t. t.pairs) (take k kids) ++ (xs ++ all_pairs (λ t. t.pairs) (drop (k + 1) kids))) e ∙ sym (kids_around run)
 
   pub kid_moved : (w : Tree R) (lost gained : Sums) → IsMoved (sums_of G kid.pairs) lost gained (sums_of G w.pairs) → IsMoved (sums_of G (all_pairs (λ t. t.pairs) kids)) lost gained (sums_of G (all_pairs (λ t. t.pairs) (slice_set kids k w)))
   kid_moved w lost gained h =
-      subst (λ (xs : List (ℕ × R)). IsMoved (sums_of G (all_pairs (λ t. t.pairs) kids)) lost gained (sums_of G xs)) (sym (kids_set w))
+      subst (λ (xs : List (ℕ × R)). IsMoved (sums_of G (all_pairs (λ t. t.pairs) kids)) lost gained (sums_of G xs)) (sym (parts_set (λ t. t.pairs) kids k w lt))
       (subst (λ (xs : List (ℕ × R)). IsMoved (sums_of G xs) lost gained (sums_of G (all_pairs (λ t. t.pairs) (take k kids) ++ (w.pairs ++ all_pairs (λ t. t.pairs) (drop (k + 1) kids))))) (sym kids_at)
       (moved_around G (all_pairs (λ t. t.pairs) (take k kids)) kid.pairs w.pairs (all_pairs (λ t. t.pairs) (drop (k + 1) kids)) lost gained h))
 

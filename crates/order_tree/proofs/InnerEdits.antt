@@ -30,7 +30,7 @@ module _ {R : Type 0} where
   grown (x ∷ xs) zero w (Some b) = w ∷ b ∷ xs
   grown (x ∷ xs) (suc k) w right = x ∷ grown xs k w right
 
-  pub grown_none : (ks : List (Tree R)) (k : ℕ) (w : Tree R) → slice_set ks k w ≡ grown ks k w None
+  grown_none : (ks : List (Tree R)) (k : ℕ) (w : Tree R) → slice_set ks k w ≡ grown ks k w None
   grown_none [] k w = refl
   grown_none (x ∷ xs) zero w = refl
   grown_none (x ∷ xs) (suc k) w = ap (λ (ys : List (Tree R)). x ∷ ys) (grown_none xs k w)

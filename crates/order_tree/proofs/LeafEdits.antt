@@ -1,5 +1,5 @@
 -- What edits of a leaf leave.
-use Rattle.std.proofs.Common.{true, ◌≡◌, ℕ, Option, Some, None, IfSome, IfNone, zero, suc, ◌+◌, ◌<◌, ◌≤◌, List, [], ◌∷◌, ◌++◌, length, take, drop, insert, slice_set, slice_index_or, unwrap_or, All, Contains, arith, refl, sym, ap, ◌∙◌, subst, take-append-drop, append_assoc}
+use Rattle.std.proofs.Common.{true, ◌≡◌, ℕ, Option, Some, None, IfSome, IfNone, ◌+◌, ◌<◌, ◌≤◌, List, [], ◌∷◌, ◌++◌, length, take, drop, insert, slice_set, slice_index_or, unwrap_or, All, Contains, arith, refl, sym, ap, ◌∙◌, subst, take-append-drop, append_assoc}
 use Rattle.std.proofs.lemmas.List.{drop_more, take_more, take_more_set, drop-set-lt}
 use Rattle.std.proofs.lemmas.List.Elements.{All-weaker, All-append, All-cons, All-nil}
 use Rattle.ew_model.specs.declared.run.Run.{Ghosts}
@@ -10,8 +10,7 @@ use Rattle.order_tree.specs.Parts.{all_pairs, one_pair, sums_of}
 use Rattle.order_tree.specs.Edits.{IsFree, IsEdited}
 use Rattle.order_tree.proofs.PairLaws.{total-cons, total-one}
 use Rattle.order_tree.proofs.PartLists.{entries_are}
-use Rattle.order_tree.proofs.KidPlaces.{part_holds}
-use Rattle.order_tree.proofs.EntryLaws.{as_parts, next_is}
+use Rattle.order_tree.proofs.EntryLaws.{entry_is, next_is}
 
 module _ {R : Type 0} (G : Ghosts R) where
   pub same_sums : (s t : Sums) → s.known ≡ t.known → s.prepared ≡ t.prepared → s.effect ≡ t.effect → s ≡ t
@@ -48,15 +47,8 @@ module _ {R : Type 0} (G : Ghosts R) where
 
 module _ {R : Type 0} (G : Ghosts R) (ps : List (ℕ × R)) (k label : ℕ) (p : ℕ × R) (r : R) (lt : k < length ps) (is : p ≡ slice_index_or ps k p) (rising : IsRising ps)
     (below : All (λ q. q.0 < label) (all_pairs one_pair (take k ps))) (above : All (λ q. label < q.0) (all_pairs one_pair (drop (k + 1) ps))) (held : Contains ps (label, r)) where
-  -- the entry at the place of the label is the run that is held
-  pub entry_is : p ≡ (label, r)
-  entry_is =
-      let here : Contains (one_pair p) (label, r) = part_holds one_pair ps k p lt is (as_parts ps rising) label r below above (subst (λ (qs : List (ℕ × R)). Contains qs (label, r)) (sym (entries_are ps)) held) in
-      one_is p (label, r) here.0 here.1 here.2
-    where
-      one_is : (x y : ℕ × R) (j : ℕ) → j < 1 → slice_index_or (x ∷ []) j y ≡ y → x ≡ y
-      one_is x y zero lt e = e
-      one_is x y (suc j) lt e = absurd (omega (arith, lt))
+  here : p ≡ (label, r)
+  here = entry_is ps k label p r lt is rising below above held
 
   front_le : All (λ q. q.0 ≤ label) (take k ps)
   front_le = All-weaker (λ q. q.0 < label) (λ q. q.0 ≤ label) (λ q h. omega (arith, h)) (take k ps) (subst (λ (qs : List (ℕ × R)). All (λ q. q.0 < label) qs) (entries_are (take k ps)) below)
@@ -65,7 +57,7 @@ module _ {R : Type 0} (G : Ghosts R) (ps : List (ℕ × R)) (k label : ℕ) (p :
   back_gt = subst (λ (qs : List (ℕ × R)). All (λ q. label < q.0) qs) (entries_are (drop (k + 1) ps)) above
 
   old_is : ps ≡ take k ps ++ ((label, r) ∷ drop (k + 1) ps)
-  old_is = sym (take-append-drop k ps) ∙ ap (λ (qs : List (ℕ × R)). take k ps ++ qs) (drop_more ps k p lt ∙ ap (λ (q : ℕ × R). q ∷ drop (k + 1) ps) (sym is ∙ entry_is))
+  old_is = sym (take-append-drop k ps) ∙ ap (λ (qs : List (ℕ × R)). take k ps ++ qs) (drop_more ps k p lt ∙ ap (λ (q : ℕ × R). q ∷ drop (k + 1) ps) (sym is ∙ here))
 
   up_to_here : All (λ q. q.0 ≤ label) (take (k + 1) ps)
   up_to_here =
@@ -74,7 +66,7 @@ module _ {R : Type 0} (G : Ghosts R) (ps : List (ℕ × R)) (k label : ℕ) (p :
       subst (λ (qs : List (ℕ × R)). All (λ q. q.0 ≤ label) qs) (sym more) (All-append (λ q. q.0 ≤ label) (take k ps) ((label, r) ∷ []) front_le own)
     where
       take_more' : take (k + 1) ps ≡ take k ps ++ ((label, r) ∷ [])
-      take_more' = take_more ps k p lt ∙ ap (λ (q : ℕ × R). take k ps ++ (q ∷ [])) (sym is ∙ entry_is)
+      take_more' = take_more ps k p lt ∙ ap (λ (q : ℕ × R). take k ps ++ (q ∷ [])) (sym is ∙ here)
 
   -- it is cut in two
   pub split_is : (new : List (ℕ × R)) (at : ℕ) (given : Option ℕ) (bound own most : ℕ) (first second : R) (lost gained : Sums) → new ≡ insert (slice_set ps k (label, first)) (k + 1) (own, second) → ArePartsOf G r at first second
@@ -95,7 +87,7 @@ module _ {R : Type 0} (G : Ghosts R) (ps : List (ℕ × R)) (k label : ℕ) (p :
         replaces = record { front = take k ps; back = drop (k + 1) ps; old_is = old_is; new_is = set; below = front_le; above = back_gt };
         puts = (r, first, second, refl, refl, parts, asked);
         between = (more, omega (arith, less, next, next_is ps (k + 1) label bound up_to_here back_gt));
-        lost_is = sums_one G lost p x y z ∙ ap (λ (q : ℕ × R). sums_of G (q ∷ [])) entry_is;
+        lost_is = sums_one G lost p x y z ∙ ap (λ (q : ℕ × R). sums_of G (q ∷ [])) here;
         gained_is = sums_two G gained (label, first) (own, second) a b c;
       }
 

@@ -1,10 +1,10 @@
 -- Lists of runs with rising labels.
 use Rattle.std.proofs.Common.{Contains, slice_index_or, ◌≡◌, ℕ, zero, suc, ◌+◌, ◌<◌, ◌≤◌, Bool, true, false, not, List, [], ◌∷◌, ◌++◌, length, filter, All, cond, nat_eq, nat_lt, nat_le, arith, refl, sym, ap, ◌∙◌}
-use Rattle.std.proofs.lemmas.List.Elements.{All-nil, All-cons, All-head, All-tail, Contains-append_right}
+use Rattle.std.proofs.lemmas.List.Elements.{All-nil, All-cons, All-head, All-tail, All-weaker, Contains-append_right}
 use Rattle.std.proofs.lemmas.List.Filters.{sum_by-filter_both}
 use Rattle.std.proofs.lemmas.List.Sums.{sum_by-cons, sum_by-append}
 use Rattle.std.proofs.lemmas.Bool.{lt-ltb, le-ltb, le-leb, lt-leb, ne_eqb}
-use Rattle.order_tree.specs.Pairs.{RisesFrom, lower, up_to, greater, total, labels}
+use Rattle.order_tree.specs.Pairs.{RisesFrom, IsRising, lower, up_to, greater, total, labels}
 use Rattle.order_tree.specs.Parts.{first_or_zero, last_known}
 
 module _ {X : Type 0} where
@@ -83,6 +83,12 @@ module _ {R : Type 0} where
 
   pub lower_none : (label : ℕ) (ps : List (ℕ × R)) → All (λ p. label ≤ p.0) ps → lower ps label ≡ []
   lower_none label ps h = filter_none (λ p. nat_lt p.0 label) ps (λ k d lt. le-ltb _ label (h k d lt))
+
+  -- none has a lower label where the first has none
+  pub lower_from : (label : ℕ) (ps : List (ℕ × R)) → IsRising ps → label ≤ first_or_zero ps → lower ps label ≡ []
+  lower_from label [] rising le = refl
+  lower_from label (p ∷ ps) rising le =
+      lower_none label (p ∷ ps) (All-cons (λ q. label ≤ q.0) p ps le (All-weaker (λ q. p.0 < q.0) (λ q. label ≤ q.0) (λ q less. omega (arith, less, le)) ps (rises_above p.0 ps rising.1)))
 
   pub up_to_all : (label : ℕ) (ps : List (ℕ × R)) → All (λ p. p.0 ≤ label) ps → up_to ps label ≡ ps
   up_to_all label ps h = filter_all (λ p. nat_le p.0 label) ps (λ k d lt. le-leb _ label (h k d lt))

@@ -1,6 +1,6 @@
 -- Lists of parts, each of which stands for some runs.
-use Rattle.std.proofs.Common.{nat_eq, unwrap_or, ◌≡◌, ℕ, zero, suc, ◌+◌, ◌-◌, ◌<◌, ◌≤◌, List, [], ◌∷◌, ◌++◌, length, All, take, drop, arith, slice_index_or, refl, sym, ap, ◌∙◌, length-append, take-append-drop, append-nil, subst}
-use Rattle.std.proofs.lemmas.List.{take_more, drop_more}
+use Rattle.std.proofs.Common.{nat_eq, unwrap_or, ◌≡◌, ℕ, zero, suc, ◌+◌, ◌-◌, ◌<◌, ◌≤◌, List, [], ◌∷◌, ◌++◌, length, All, take, drop, arith, slice_set, slice_index_or, refl, sym, ap, ◌∙◌, length-append, take-append-drop, append-nil, subst}
+use Rattle.std.proofs.lemmas.List.{take_more, drop_more, set_split}
 use Rattle.std.proofs.lemmas.Bool.{cond_both}
 use Rattle.std.proofs.lemmas.List.Concat.{flat_map-append}
 use Rattle.std.proofs.lemmas.List.Elements.{All-nil, All-more, All-weaker}
@@ -42,6 +42,12 @@ module _ {R T : Type 0} (pairs : T → List (ℕ × R)) where
   -- the pairs before a part, its own, and those behind it
   pub parts_at : (parts : List T) (k : ℕ) (part : T) → k < length parts → part ≡ slice_index_or parts k part → all_pairs pairs parts ≡ all_pairs pairs (take k parts) ++ (pairs part ++ all_pairs pairs (drop (k + 1) parts))
   parts_at parts k part lt is = parts_split parts k ∙ ap (λ (xs : List (ℕ × R)). all_pairs pairs (take k parts) ++ xs) (parts_from parts k part lt is)
+
+  -- one part gave way to another
+  pub parts_set : (parts : List T) (k : ℕ) (part : T) → k < length parts → all_pairs pairs (slice_set parts k part) ≡ all_pairs pairs (take k parts) ++ (pairs part ++ all_pairs pairs (drop (k + 1) parts))
+  parts_set parts k part lt =
+      let next : suc k ≡ k + 1 = omega arith in
+      ap (all_pairs pairs) (set_split parts k part lt ∙ ap (λ (j : ℕ). take k parts ++ (part ∷ drop j parts)) next) ∙ flat_map-append pairs (take k parts) (part ∷ drop (k + 1) parts)
 
   -- PLACES BY LABEL
   pub first_front : (part : T) (ys : List (ℕ × R)) → 0 < length (pairs part) → first_or_zero (pairs part ++ ys) ≡ first_or_zero (pairs part)

@@ -7,7 +7,7 @@ use Rattle.order_tree.specs.Parts.{first_or_zero, all_pairs}
 use Rattle.order_tree.specs.Relabels.{relabelled, renamed}
 
 module _ {R : Type 0} where
-  -- the runs of a part of the list, one of them with this label, stand under new labels, which rise by steps from the first label that one of them had. A step behind the last is still before the next label, or below the bound where there is no next
+  -- the runs of a part of the list, one of them with this label, stand under new labels, which rise by steps of two or more from one below the first label that one of them had. A step behind the last is still before the next label, or below the bound where there is no next
   pub record IsSpreadIn (bound label : ℕ) (old new : List (ℕ × R)) (given : List (ℕ × (ℕ × R))) : Type 0 where
     pub front : List (ℕ × R)
     pub was : List (ℕ × R)
@@ -22,13 +22,13 @@ module _ {R : Type 0} where
     pub wide : 2 ≤ step
     pub fits : low + (length was + 1) * step < unwrap_or (first_label back) bound
 
-  -- new labels were given so, or there is no room and all is as it was, or no memory and all is as it was
+  -- new labels were given so, or all is as it was, and the answer counts the runs or says that there is no memory
   abbrev pub IsTried : ℕ → ℕ → Tree R → Tree R → Tried R → Type 0
   IsTried bound label old new (Given given) = IsSpreadIn bound label old.pairs new.pairs given.items
   IsTried bound label old new (Crowded count) = (new ≡ old) × (count ≡ length old.pairs)
   IsTried bound label old new NoMemory = new ≡ old
 
-  -- no more visits than these: at most two for each run where they were only counted, and else four for each, and one for each level
+  -- no more visits than these: fewer than two for each run where the answer counts the runs, and else four for each, and one for each level
   abbrev pub IsWithin : Tree R → ℕ → ℕ → Tried R → Type 0
   IsWithin t before after (Given given) = after ≤ before + (t.depth + 4 * length t.pairs)
   IsWithin t before after (Crowded count) = after + 1 ≤ before + 2 * length t.pairs
@@ -40,7 +40,7 @@ module _ {R : Type 0} where
     pub some : before ≤ visits
     pub cost : visits + k ≤ before + 2 * count
 
-  -- nothing more was visited where there is no room
+  -- nothing more was visited where the answer counts the runs
   abbrev pub IsIdle : ℕ → ℕ → Tried R → Type 0
   IsIdle before after (Given given) = Unit {0}
   IsIdle before after (Crowded count) = after ≡ before

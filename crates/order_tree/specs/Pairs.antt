@@ -73,6 +73,10 @@ module _ {R : Type 0} where
     pub before : total count (lower ps label) + place ≡ i
     pub inside : place < count run
 
+  -- the last is this run, under this label
+  abbrev pub EndsWith : List (ℕ × R) → ℕ → R → Type 0
+  EndsWith ps label run = (front : List (ℕ × R)) × (ps ≡ front ++ (label, run) ∷ [])
+
   -- another run stands at the label
   abbrev pub changed : List (ℕ × R) → ℕ → R → List (ℕ × R)
   changed ps label run = map (λ p. if nat_eq p.0 label then (label, run) else p) ps

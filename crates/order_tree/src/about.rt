@@ -28,7 +28,7 @@ pub struct Relabelled<R: Run> {
 pub enum Tried<R: Run> {
     /// New labels were given: of each run the old label, the new, and the run.
     Given(Vec<(u64, (u64, R))>),
-    /// No part has room. So many runs were counted.
+    /// No new labels were given. So many runs there are.
     Crowded(usize),
     /// There is no memory to note them.
     NoMemory,

@@ -1,8 +1,8 @@
 //! A branch of the tree: a node, and what is kept of the runs below it.
 
 ghost use Rattle.std.specs.Prelude.{◌≡◌, ℕ, ◌+◌, ◌*◌, ◌^◌, ◌<◌, ◌≤◌, Some, ◌++◌, length, Contains, vec_capacity, IfOk, OnErr};
-ghost use Rattle.order_tree.specs.Pairs.{labels, runs, IsRising, total, lower, up_to, next_label, first_label, counted_after, IsPlace, SumsFit, changed};
-ghost use Rattle.order_tree.specs.Parts.{last_known, sums_of, summary_of, all_pairs, IsMoved};
+ghost use Rattle.order_tree.specs.Pairs.{labels, runs, IsRising, EndsWith, total, lower, up_to, next_label, first_label, counted_after, IsPlace, SumsFit, changed};
+ghost use Rattle.order_tree.specs.Parts.{first_or_zero, last_known, sums_of, summary_of, all_pairs, IsMoved};
 ghost use Rattle.order_tree.specs.Counts.{count_of};
 ghost use Rattle.order_tree.specs.Shape.{AllBelow, IsNode, pairs_in};
 ghost use Rattle.order_tree.specs.Edits.{IsPlaced, IsFree, StaysFit};
@@ -14,10 +14,10 @@ use crate::about::{Tried, count_beside, place_about, step_for};
 use crate::change::{Moved, change_entry};
 use crate::count::Count;
 use crate::edit::Edit;
-use crate::entries::{effect_up_to_in, known_after_in, last_free_in, place_in, run_in};
+use crate::entries::{effect_up_to_in, known_after_in, last_free_in, last_in, place_in, run_in};
 use crate::finish::{edit_entries, finish};
 use crate::halves::{inner_summary, leaf_summary, way_down};
-use crate::kids::{kid_at, kid_before, kid_known_after, kid_up_to, kid_with};
+use crate::kids::{kid_at, kid_before, kid_known_after, kid_last, kid_up_to, kid_with};
 use crate::leaf::Way;
 use crate::part::{Part, place_of, summary_after, summary_with};
 use crate::relabel::{Reached, relabel_entries};
@@ -106,6 +106,23 @@ impl<R: Run> Branch<R> {
         match &self.node {
             Node::Leaf(entries) => run_in(entries.as_slice(), label),
             Node::Inner(kids) => kid_with(kids.as_slice(), self.depth, label).locate(label, visits),
+        }
+    }
+
+    /// The last run up to a label, with its own, where the first run is up to it.
+    pub fn last_up_to<L: Ledger>(&self, label: u64, visits: &mut Steps<L>) -> (u64, &R)
+        requires rising { IsRising self.now.pairs }
+        requires first { first_or_zero self.now.pairs ≤ label }
+        ensures last { EndsWith (up_to self.now.pairs label) result.0 result.1.now }
+        ensures onward { visits.old ≤ visits.new }
+        ensures cost { visits.new ≤ visits.old + self.now.depth }
+    {
+        visits.tick();
+        match &self.node {
+            Node::Leaf(entries) => last_in(entries.as_slice(), label),
+            Node::Inner(kids) => {
+                kid_last(kids.as_slice(), self.depth, label).last_up_to(label, visits)
+            }
         }
     }
 

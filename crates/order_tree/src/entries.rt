@@ -1,8 +1,8 @@
 //! The runs of a leaf.
 
 ghost use Rattle.std.specs.Prelude.{◌≡◌, ℕ, ◌+◌, ◌-◌, ◌<◌, ◌≤◌, ◌^◌, Some, length, Contains};
-ghost use Rattle.order_tree.specs.Pairs.{IsRising, first_label, next_label, up_to, counted_after, total, IsPlace};
-ghost use Rattle.order_tree.specs.Parts.{last_known};
+ghost use Rattle.order_tree.specs.Pairs.{IsRising, EndsWith, first_label, next_label, up_to, counted_after, total, IsPlace};
+ghost use Rattle.order_tree.specs.Parts.{first_or_zero, last_known};
 ghost use Rattle.order_tree.specs.Counts.{count_of};
 
 use crate::count::{Count, effect_in, part_at, part_known_after};
@@ -17,6 +17,18 @@ pub fn run_in<R: Run>(entries: &[(u64, R)], label: u64) -> &R
 {
     let k = place_of(entries, label);
     &entries[k].1
+}
+
+/// The last run up to a label, with its own, where the first run is up to it.
+pub fn last_in<R: Run>(entries: &[(u64, R)], label: u64) -> (u64, &R)
+    requires rising { IsRising entries.now }
+    requires some { 0 < length entries.now }
+    requires first { first_or_zero entries.now ≤ label }
+    ensures { EndsWith (up_to entries.now label) result.0 result.1.now }
+{
+    let many = entries_up_to(entries, label);
+    let last = &entries[many - 1];
+    (last.0, &last.1)
 }
 
 /// The label of the run with the i-th of the characters counted, and the character's number in it.

@@ -1,8 +1,8 @@
 //! The branches of a node: which of them a search goes into.
 
 ghost use Rattle.std.specs.Prelude.{◌≡◌, ℕ, ◌+◌, ◌-◌, ◌<◌, ◌≤◌, ◌^◌, Some, length, Contains};
-ghost use Rattle.order_tree.specs.Pairs.{IsRising, first_label, next_label, up_to, counted_after, total, IsPlace};
-ghost use Rattle.order_tree.specs.Parts.{all_pairs, last_known};
+ghost use Rattle.order_tree.specs.Pairs.{IsRising, EndsWith, first_label, next_label, up_to, counted_after, total, IsPlace};
+ghost use Rattle.order_tree.specs.Parts.{first_or_zero, all_pairs, last_known};
 ghost use Rattle.order_tree.specs.Shape.{AllBelow};
 ghost use Rattle.order_tree.specs.Counts.{count_of};
 
@@ -21,6 +21,21 @@ pub fn kid_with<R: Run>(kids: &[Branch<R>], depth: u32, label: u64) -> &Branch<R
     ensures rising { IsRising result.now.pairs }
     ensures held { (r : R) × Contains result.now.pairs (label, r) }
     ensures back { (r : R) → Contains result.now.pairs (label, r) → Contains (all_pairs (λ k. k.pairs) kids.now) (label, r) }
+{
+    let k = place_of(kids, label);
+    &kids[k]
+}
+
+/// The branch with the last run up to a label, where the first run is up to it.
+pub fn kid_last<R: Run>(kids: &[Branch<R>], depth: u32, label: u64) -> &Branch<R>
+    requires below { AllBelow depth kids.now }
+    requires one { 0 < length kids.now }
+    requires rising { IsRising (all_pairs (λ k. k.pairs) kids.now) }
+    requires first { first_or_zero (all_pairs (λ k. k.pairs) kids.now) ≤ label }
+    ensures lower { result.now.depth + 1 ≡ depth }
+    ensures rising { IsRising result.now.pairs }
+    ensures first { first_or_zero result.now.pairs ≤ label }
+    ensures back { (own : ℕ) (run : R) → EndsWith (up_to result.now.pairs label) own run → EndsWith (up_to (all_pairs (λ k. k.pairs) kids.now) label) own run }
 {
     let k = place_of(kids, label);
     &kids[k]

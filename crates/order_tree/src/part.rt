@@ -67,6 +67,7 @@ pub fn place_of<R: Run, T: Part<R>>(parts: &[T], label: u64) -> usize
     ensures within { result < length parts.now }
     ensures before { All (λ p. p.0 < label) (all_pairs T.pairs (take result parts.now)) }
     ensures behind { All (λ p. label < p.0) (all_pairs T.pairs (drop (result + 1) parts.now)) }
+    ensures first { (d : T) → 0 < result → first_or_zero (T.pairs (slice_index_or parts.now result d)) ≤ label }
 {
     let many = count_up_to(parts, label);
     if many > 0 { many - 1 } else { 0 }

@@ -2,7 +2,7 @@
 
 ghost use Rattle.std.specs.Prelude.{◌≡◌, ℕ, ◌+◌, ◌-◌, ◌*◌, ◌^◌, ◌<◌, ◌≤◌, ◌↔◌, ◌⊎◌, IsTrue, Option, [], length, zip, All, Contains, IfSome, IfNone, IfOk, OnOk, IsOkAnd, OnErr};
 ghost use Rattle.order_tree.specs.Edits.{IsPlaced, IsBetween, IsFree};
-ghost use Rattle.order_tree.specs.Pairs.{Tree, labels, runs, IsRising, lower, first_label, next_label, HasRoom, counted_after, total, SumsFit, IsPlace, changed, inserted, IsCut, AreSpread, AreGivenIn};
+ghost use Rattle.order_tree.specs.Pairs.{Tree, labels, runs, IsRising, EndsWith, lower, first_label, next_label, HasRoom, counted_after, total, SumsFit, IsPlace, changed, inserted, IsCut, AreSpread, AreGivenIn};
 
 use crate::about::{Relabelled, Tried, own_of};
 use crate::branch::Branch;
@@ -94,6 +94,19 @@ impl<R: Run> OrderTree<R> {
         root.locate(label, visits)
     }
 
+    /// The last run with a lower label, and that label; None where there is none. The label need not be that of a run.
+    pub fn ahead<L: Ledger>(&self, label: u64, visits: &mut Steps<L>) -> Option<(u64, &R)>
+        ensures some { IfSome result (λ p. EndsWith (lower self.now.pairs label) p.0 p.1.now) }
+        ensures none { IfNone result (lower self.now.pairs label ≡ []) }
+        ensures onward { visits.old ≤ visits.new }
+        ensures cost { visits.new ≤ visits.old + self.now.depth }
+    {
+        match &self.root {
+            Some(root) if root.first() < label => Some(root.last_up_to(label - 1, visits)),
+            _ => None,
+        }
+    }
+
     /// The label of the run with the i-th character, from 0, that is visible in what is prepared, and the character's place in it.
     pub fn find_prepared<L: Ledger>(&self, i: u32, visits: &mut Steps<L>) -> (u64, u32)
         requires { i < total R.prepared self.now.pairs }
@@ -169,8 +182,8 @@ impl<R: Run> OrderTree<R> {
         label < self.last_free(label, visits)
     }
 
-    /// A free label behind the run at a label, of so many characters, for its second part, where it is cut at one of them. None
-    /// where no label is free there.
+    /// A free label behind the run at a label, for its second part, where it is cut at `at` of `size` characters. None where no label
+    /// is free there. Which of the free ones it is isn't promised, and `size` need not be the run's: the two only choose among them.
     pub fn share_behind<L: Ledger>(
         &self,
         label: u64,
@@ -336,9 +349,9 @@ impl<R: Run + Copy> OrderTree<R> {
         Ok(given)
     }
 
-    /// Gives the runs of a part of the tree new labels, spread evenly in the part's room, so that a label is free behind the run at
-    /// this one. The smallest part about it is taken in which the new labels lie far enough apart. None where there is no such
-    /// part: nothing changes, and all need new labels.
+    /// Gives the runs of a part of the tree new labels, among them the run at this one, so that a label is free behind it. None where
+    /// it finds no part to relabel: nothing changes then. Which part is taken, and how the new labels lie in it, is not promised, nor
+    /// that a part is found where one could be.
     pub fn relabel_about<L: Ledger>(
         &mut self,
         label: u64,
@@ -347,7 +360,8 @@ impl<R: Run + Copy> OrderTree<R> {
         requires held { Contains (labels self.old.pairs) label }
         ensures runs { runs self.new.pairs ≡ runs self.old.pairs }
         ensures given { IfOk result (λ o. IfSome o (λ r. AreGivenIn self.old.pairs self.new.pairs r.given.items)) }
-        ensures own { IfOk result (λ o. IfSome o (λ r. (run : R) → Contains self.old.pairs (label, run) → Contains self.new.pairs (r.own, run))) }
+        ensures own { IfOk result (λ o. IfSome o (λ r. (run : R) × Contains r.given.items (label, (r.own, run)))) }
+        ensures stands { IfOk result (λ o. IfSome o (λ r. (run : R) → Contains self.old.pairs (label, run) → Contains self.new.pairs (r.own, run))) }
         ensures room { IfOk result (λ o. IfSome o (λ r. HasRoom self.new.pairs r.own)) }
         ensures none { IfOk result (λ o. IfNone o (self.new ≡ self.old)) }
         ensures err { OnErr result (self.new ≡ self.old) }

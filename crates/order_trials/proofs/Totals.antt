@@ -1,10 +1,10 @@
 -- The sums of a list of runs after a call.
-use Rattle.std.proofs.Common.{◌≡◌, ℕ, zero, suc, ◌+◌, ◌<◌, ◌≤◌, ◌≢◌, true, false, not, List, [], ◌∷◌, ◌++◌, length, All, Contains, Result, Ok, Err, IfOk, OnErr, nat_eq, nat_le, nat_lt, slice_index_or, arith, refl, sym, ap, ◌∙◌, subst, append-nil, eq-eqb}
+use Rattle.std.proofs.Common.{◌≡◌, ℕ, zero, suc, ◌+◌, ◌<◌, ◌≤◌, ◌≢◌, true, false, not, List, [], ◌∷◌, ◌++◌, length, All, Contains, Result, Ok, Err, IfOk, OnOk, OnErr, nat_eq, nat_le, nat_lt, slice_index_or, arith, refl, sym, ap, ◌∙◌, subst, append-nil, eq-eqb}
 use Rattle.std.proofs.lemmas.Bool.{ne_eqb}
 use Rattle.std.proofs.lemmas.List.Elements.{All-nil, All-cons, All-head, All-tail, All-weaker}
 use Rattle.std.proofs.lemmas.List.Filters.{sum_by-filter_both}
 use Rattle.ew_model.specs.declared.run.Run.{Ghosts}
-use Rattle.order_tree.specs.Pairs.{Tree, IsRising, runs, lower, up_to, greater, changed, inserted, total, IsCut}
+use Rattle.order_tree.specs.Pairs.{Tree, IsRising, lower, up_to, greater, changed, inserted, total, IsCut}
 use Rattle.order_tree.proofs.PairLaws.{total-append, total-cons, lower_none, greater_none}
 use Rattle.order_tree.proofs.Around.{held_below, held_above, lower_around, greater_around}
 
@@ -52,17 +52,6 @@ module _ {R : Type 0} (count : R → ℕ) where
         total-cons count (own, run) (greater ps label),
         sum_by-filter_both (λ p. nat_le p.0 label) (λ p. nat_lt label p.0) (λ p. other_side p.0 label) (λ p. count p.1) ps,
       )
-
-  abbrev of_runs : List R → ℕ
-  of_runs [] = 0
-  of_runs (r ∷ rs) = count r + of_runs rs
-
-  by_runs : (ps : List (ℕ × R)) → total count ps ≡ of_runs (runs ps)
-  by_runs [] = refl
-  by_runs (p ∷ ps) = total-cons count p ps ∙ ap (λ (n : ℕ). count p.1 + n) (by_runs ps)
-
-  pub total_same : (old new : List (ℕ × R)) → runs new ≡ runs old → total count new ≡ total count old
-  total_same old new e = by_runs new ∙ ap of_runs e ∙ sym (by_runs old)
 
   total_other : (label : ℕ) (run : R) (ps : List (ℕ × R)) → All (λ p. p.0 ≢ label) ps → total count (changed ps label run) ≡ total count ps
   total_other label run [] h = refl
@@ -117,3 +106,9 @@ module _ {R : Type 0} (count : R → ℕ) where
       → IfOk result (λ own. IsCut G old.pairs new.pairs label at own) → OnErr result (new ≡ old) → total count new.pairs ≡ total count old.pairs
   total_cut_or_same G (Ok own) old new label at joined rising cut same = total_cut G old.pairs new.pairs label at own joined rising cut
   total_cut_or_same G (Err e) old new label at joined rising cut same = ap (λ (t : Tree R). total count t.pairs) same
+
+  -- the same where the label of the second part is given
+  pub total_cut_under : {A E : Type 0} (G : Ghosts R) (result : Result A E) (old new : Tree R) (label at own : ℕ) → ((x y : R) → G.fits x y ≡ true → count (G.joined x y) ≡ count x + count y) → IsRising old.pairs
+      → OnOk result (IsCut G old.pairs new.pairs label at own) → OnErr result (new ≡ old) → total count new.pairs ≡ total count old.pairs
+  total_cut_under G (Ok a) old new label at own joined rising cut same = total_cut G old.pairs new.pairs label at own joined rising cut
+  total_cut_under G (Err e) old new label at own joined rising cut same = ap (λ (t : Tree R). total count t.pairs) same

@@ -49,8 +49,10 @@ impl<L: Ledger> Beside<L> {
         match call {
             Call::InsertAfter { place, len, states } => self.insert_after(place, len, states),
             Call::Split { place, at } => self.split(place, at),
+            Call::SplitShared { place, at } => self.split_shared(place, at),
             Call::Change { place, states } => Ok(self.change(place, states)),
             Call::Relabel => self.relabel(),
+            Call::RelabelAbout(place) => self.relabel_about(place),
             _ => Ok(self.compare(call)),
         }
     }
@@ -115,14 +117,25 @@ impl<L: Ledger> Beside<L> {
         if !self.list.is_inside(place, at) {
             return Ok(Told::REFUSED);
         }
-        let label = self.list.label_at(place);
-        match self.tree.split(label, at)? {
-            None => Ok(self.no_room(label)),
-            Some(own) => {
-                self.list.split(place, at, own)?;
-                Ok(self.put_at(place.saturating_add(1)))
-            }
+        let own = self.tree.split(self.list.label_at(place), at)?;
+        self.cut_at(place, at, own)
+    }
+
+    fn split_shared(&mut self, place: usize, at: u32) -> Result<Told, NoMem> {
+        if !self.list.is_inside(place, at) {
+            return Ok(Told::REFUSED);
         }
+        let own = self.tree.split_shared(self.list.label_at(place), at)?;
+        self.cut_at(place, at, own)
+    }
+
+    /// Cuts the run at a place of the list as that of the tree was cut.
+    fn cut_at(&mut self, place: usize, at: u32, own: Option<u64>) -> Result<Told, NoMem> {
+        let Some(own) = own else {
+            return Ok(self.no_room(self.list.label_at(place)));
+        };
+        self.list.split(place, at, own)?;
+        Ok(self.put_at(place.saturating_add(1)))
     }
 
     fn change(&mut self, place: usize, states: States) -> Told {
@@ -151,6 +164,20 @@ impl<L: Ledger> Beside<L> {
         })
     }
 
+    /// Tells how many runs got new labels.
+    fn relabel_about(&mut self, place: usize) -> Result<Told, NoMem> {
+        let Some(about) = self.tree.relabel_about(self.list.label_at(place))? else {
+            return Ok(Told::REFUSED);
+        };
+        let is_part = self.list.relabel_part(about.given.as_slice());
+        Ok(Told {
+            answer: Answer::Count(u32::try_from(about.given.len()).unwrap_or(u32::MAX)),
+            agrees: is_part
+                && self.list.label_at(place) == about.own
+                && self.list.has_room(about.own),
+        })
+    }
+
     /// A call that changes nothing.
     fn compare(&mut self, call: Call) -> Told {
         let answer = self.ask(call);
@@ -163,6 +190,10 @@ impl<L: Ledger> Beside<L> {
     fn ask(&mut self, call: Call) -> Answer {
         match call {
             Call::Locate(place) => self.locate(place),
+            Call::Ahead(spot) => {
+                let label = self.list.label_of(spot);
+                self.ahead(label)
+            }
             Call::FindPrepared(i) => {
                 let found = self.tree.find_prepared(i);
                 self.character(found)
@@ -187,6 +218,16 @@ impl<L: Ledger> Beside<L> {
         match self.tree.locate(self.list.label_at(place)) {
             Some(run) => Answer::Run(run),
             None => Answer::Refused,
+        }
+    }
+
+    fn ahead(&mut self, label: u64) -> Answer {
+        let Some((own, run)) = self.tree.ahead(label) else {
+            return Answer::Nowhere;
+        };
+        match self.list.place_of(own) {
+            Some(place) if self.list.run_at(place) == Some(run) => Answer::Place(place),
+            _ => Answer::Refused,
         }
     }
 

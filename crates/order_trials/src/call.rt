@@ -46,13 +46,22 @@ pub enum Call {
         place: usize,
         at: u32,
     },
+    /// The second part gets a free label that is asked for.
+    SplitShared {
+        place: usize,
+        at: u32,
+    },
     /// The same characters in other states.
     Change {
         place: usize,
         states: States,
     },
     Relabel,
+    /// New labels for the runs about a place.
+    RelabelAbout(usize),
     Locate(usize),
+    /// The last run with a lower label.
+    Ahead(Spot),
     FindPrepared(u32),
     FindEffect(u32),
     EffectBefore(Spot),

@@ -7,7 +7,7 @@ ghost use Rattle.walker_record.specs.Stretches.{known_of, prepared_of, effect_of
 use ew_model::NoMem;
 use ew_model::run::Run;
 use ew_model::steps::Steps;
-use order_tree::OrderTree;
+use order_tree::{OrderTree, Relabelled};
 use std::alloc::Global;
 use std::sync::ledger::Ledger;
 use walker_record::Record;
@@ -124,6 +124,11 @@ impl<L: Ledger> Guarded<L> {
         Some(*self.tree.locate(label, &mut self.visits))
     }
 
+    pub fn ahead(&mut self, label: u64) -> Option<(u64, Record)> {
+        let (own, run) = self.tree.ahead(label, &mut self.visits)?;
+        Some((own, *run))
+    }
+
     pub fn find_prepared(&mut self, i: u32) -> Option<(u64, u32)> {
         if i >= self.counts.prepared {
             return None;
@@ -174,6 +179,22 @@ impl<L: Ledger> Guarded<L> {
         Ok(Some(own))
     }
 
+    /// The second part gets a free label that is asked for.
+    pub fn split_shared(&mut self, label: u64, at: u32) -> Result<Option<u64>, NoMem> {
+        if !is_held(&self.tree, label, &mut self.visits) {
+            return Ok(None);
+        }
+        let size = self.tree.locate(label, &mut self.visits).size();
+        if at == 0 || at >= size || self.tree.runs() == u32::MAX {
+            return Ok(None);
+        }
+        let Some(own) = self.tree.share_behind(label, at, size, &mut self.visits) else {
+            return Ok(None);
+        };
+        self.tree.split_under(label, at, own, &mut self.visits)?;
+        Ok(Some(own))
+    }
+
     /// Answers whether the run was changed.
     pub fn change(&mut self, label: u64, run: Record) -> bool {
         if !is_held(&self.tree, label, &mut self.visits) {
@@ -190,5 +211,12 @@ impl<L: Ledger> Guarded<L> {
 
     pub fn relabel(&mut self) -> Result<Vec<(u64, (u64, Record))>, NoMem> {
         Ok(self.tree.relabel(&mut self.visits)?)
+    }
+
+    pub fn relabel_about(&mut self, label: u64) -> Result<Option<Relabelled<Record>>, NoMem> {
+        if !is_held(&self.tree, label, &mut self.visits) {
+            return Ok(None);
+        }
+        Ok(self.tree.relabel_about(label, &mut self.visits)?)
     }
 }

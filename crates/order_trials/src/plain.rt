@@ -130,15 +130,37 @@ impl Plain {
         }
     }
 
-    /// Takes the new labels. Answers whether the old ones and the runs are those in the list, and the new ones rise.
+    /// Takes the new labels of all runs. Answers whether the old ones and the runs are those in the list, and the new ones rise.
     pub fn relabel(&mut self, given: &[(u64, (u64, Record))]) -> bool {
-        let mut agrees = given.len() == self.entries.len();
+        given.len() == self.entries.len() && self.relabel_from(0, given)
+    }
+
+    /// Takes the new labels of the runs of a part of the list. Answers whether there is such a part, and the labels rise in the list.
+    pub fn relabel_part(&mut self, given: &[(u64, (u64, Record))]) -> bool {
+        let Some((old, _)) = given.first() else {
+            return false;
+        };
+        let Some(first) = self.place_of(*old) else {
+            return false;
+        };
+        self.relabel_from(first.saturating_sub(1), given)
+            && self.rises_at(first)
+            && self.rises_at(first.saturating_sub(1).saturating_add(given.len()))
+    }
+
+    /// Takes the new labels of the runs behind the first `from`. Answers whether the old ones and the runs are those in the list, and
+    /// the new ones rise.
+    fn relabel_from(&mut self, from: usize, given: &[(u64, (u64, Record))]) -> bool {
+        let mut agrees = true;
         let mut last = 0;
         for (k, (old, (new, run))) in given.iter().enumerate() {
-            if k < self.entries.len() {
-                agrees = agrees && self.entries[k] == (*old, *run) && last < *new;
-                self.entries[k].0 = *new;
+            let at = from.saturating_add(k);
+            if at < self.entries.len() {
+                agrees = agrees && self.entries[at] == (*old, *run) && last < *new;
+                self.entries[at].0 = *new;
                 last = *new;
+            } else {
+                agrees = false;
             }
         }
         agrees
@@ -148,6 +170,7 @@ impl Plain {
     pub fn ask(&self, call: Call) -> Answer {
         match call {
             Call::Locate(place) => self.run_at(place).map_or(Answer::Refused, Answer::Run),
+            Call::Ahead(spot) => self.ahead(self.label_of(spot)),
             Call::FindPrepared(i) => self.find(Counted::Prepared, i),
             Call::FindEffect(i) => self.find(Counted::Effect, i),
             Call::EffectBefore(spot) => Answer::Count(self.effect_before(self.label_of(spot))),
@@ -155,6 +178,16 @@ impl Plain {
             Call::HasRoom(spot) => Answer::Room(self.has_room(self.label_of(spot))),
             _ => Answer::Refused,
         }
+    }
+
+    fn ahead(&self, label: u64) -> Answer {
+        let mut last = Answer::Nowhere;
+        for (k, (at, _)) in self.entries.iter().enumerate() {
+            if *at < label {
+                last = Answer::Place(k + 1);
+            }
+        }
+        last
     }
 
     fn find(&self, counted: Counted, i: u32) -> Answer {

@@ -84,8 +84,10 @@ fn read_call(text: &str) -> Option<Call> {
     match name {
         "insert" => read_insertion(rest),
         "split" => read_split(rest),
+        "share" => read_shared(rest),
         "change" => read_change(rest),
         "relabel" => Some(Call::Relabel),
+        "about" => Some(Call::RelabelAbout(read_place(rest)?)),
         _ => read_question(name, rest),
     }
 }
@@ -93,6 +95,7 @@ fn read_call(text: &str) -> Option<Call> {
 fn read_question(name: &str, rest: &str) -> Option<Call> {
     match name {
         "run" => Some(Call::Locate(read_place(rest)?)),
+        "ahead" => Some(Call::Ahead(read_spot(rest)?)),
         "prepared" => Some(Call::FindPrepared(read_number(rest)?)),
         "effect" => Some(Call::FindEffect(read_number(rest)?)),
         "before" => Some(Call::EffectBefore(read_spot(rest)?)),
@@ -139,12 +142,20 @@ fn read_insertion(text: &str) -> Option<Call> {
     })
 }
 
-fn read_split(text: &str) -> Option<Call> {
+/// The place of a run, and that in it.
+fn read_inside(text: &str) -> Option<(usize, u32)> {
     let (place, at) = text.split_once(' ')?;
-    Some(Call::Split {
-        place: read_place(place)?,
-        at: read_number(at)?,
-    })
+    Some((read_place(place)?, read_number(at)?))
+}
+
+fn read_split(text: &str) -> Option<Call> {
+    let (place, at) = read_inside(text)?;
+    Some(Call::Split { place, at })
+}
+
+fn read_shared(text: &str) -> Option<Call> {
+    let (place, at) = read_inside(text)?;
+    Some(Call::SplitShared { place, at })
 }
 
 fn read_change(text: &str) -> Option<Call> {

@@ -81,10 +81,10 @@ impl Tally {
         let agrees = told.agrees;
         match call {
             Call::InsertAfter { .. } => self.insert_after.note(agrees),
-            Call::Split { .. } => self.split.note(agrees),
+            Call::Split { .. } | Call::SplitShared { .. } => self.split.note(agrees),
             Call::Change { .. } => self.change.note(agrees),
-            Call::Relabel => self.relabel.note(agrees),
-            Call::Locate(_) => self.locate.note(agrees),
+            Call::Relabel | Call::RelabelAbout(_) => self.relabel.note(agrees),
+            Call::Locate(_) | Call::Ahead(_) => self.locate.note(agrees),
             Call::FindPrepared(_) => self.find_prepared.note(agrees),
             Call::FindEffect(_) => self.find_effect.note(agrees),
             Call::EffectBefore(_) => self.effect_before.note(agrees),

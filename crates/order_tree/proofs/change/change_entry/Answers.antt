@@ -1,6 +1,5 @@
 use Rattle.std.proofs.Common.{◌≡◌, ◌<◌, ℕ, length, slice_index_or, sym, ap, ◌∙◌}
-use Rattle.order_tree.proofs.EntryLaws.{as_parts}
-use Rattle.order_tree.proofs.LeafEdits.{entry_is}
+use Rattle.order_tree.proofs.EntryLaws.{as_parts, entry_is}
 use Rattle.order_tree.proofs.ChangeLaws.{entry_changed, entry_moved, moved_one}
 use Rattle.order_tree.proofs.change.change_entry.Goals as goal
 
@@ -16,7 +15,7 @@ returns-clause-pairs g c =
     let is : c.index-list-k.result ≡ slice_index_or ps k c.index-list-k.result = rw list at c.index-list-k.is in
     let below = rw list at c.place_of-k.ensures.before in
     let above = rw list at c.place_of-k.ensures.behind in
-    let same = entry_is g.R.Run ps k c.args.label c.index-list-k.result c.requires.held.0 lt is c.requires.rising below above c.requires.held.1 in
+    let same = entry_is ps k c.args.label c.index-list-k.result c.requires.held.0 lt is c.requires.rising below above c.requires.held.1 in
     entry_changed g.R.Run ps k c.args.label c.index-list-k.result lt is below above c.args.run (ap (λ (q : ℕ × _). q.0) same)
 
 pub returns-clause-moved : goal.returns-clause-moved

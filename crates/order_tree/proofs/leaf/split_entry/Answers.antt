@@ -1,8 +1,8 @@
 use Rattle.std.proofs.Common.{◌≡◌, ◌+◌, ◌<◌, ℕ, length, slice_index_or, sym, ap, ◌∙◌, arith}
 use Rattle.std.proofs.lemmas.List.{get_or_default}
 use Rattle.order_tree.specs.declared.summary.Sums.{Sums}
-use Rattle.order_tree.proofs.EntryLaws.{as_parts}
-use Rattle.order_tree.proofs.LeafEdits.{entry_is, free_here, between_here, split_is, parts_are}
+use Rattle.order_tree.proofs.EntryLaws.{as_parts, entry_is}
+use Rattle.order_tree.proofs.LeafEdits.{free_here, between_here, split_is, parts_are}
 use Rattle.order_tree.proofs.leaf.split_entry.Goals as goal
 
 pub place_of-k-requires-clause-rising : goal.place_of-k-requires-clause-rising
@@ -48,7 +48,7 @@ label_for-own-requires-clause-inside g c =
     let below = rw list at c.place_of-k.ensures.before in
     let above = rw list at c.place_of-k.ensures.behind in
     let is : c.index-list-k.result ≡ slice_index_or ps k c.index-list-k.result = rw list at c.index-list-k.is in
-    let same = entry_is g.R.Run ps k c.args.way.label c.index-list-k.result c.requires.placed.0 lt is c.requires.rising below above c.requires.placed.1 in
+    let same = entry_is ps k c.args.way.label c.index-list-k.result c.requires.placed.0 lt is c.requires.rising below above c.requires.placed.1 in
     let long = ap (λ (q : ℕ × _). length (g.R.Run.chars q.1)) (sym c.index-list-k.is ∙ same) in
     omega (arith, c.size.ensures, long, c.requires.placed.3)
 
@@ -61,7 +61,7 @@ split-first-requires-clause-rest g c =
     let below = rw list at c.place_of-k.ensures.before in
     let above = rw list at c.place_of-k.ensures.behind in
     let is : c.index-list-k.result ≡ slice_index_or ps k c.index-list-k.result = rw list at c.index-list-k.is in
-    let same = entry_is g.R.Run ps k c.args.way.label c.index-list-k.result c.requires.placed.0 lt is c.requires.rising below above c.requires.placed.1 in
+    let same = entry_is ps k c.args.way.label c.index-list-k.result c.requires.placed.0 lt is c.requires.rising below above c.requires.placed.1 in
     rw (← c.index-list-k.is, same) c.requires.placed.3
 
 pub returns-clause-edited : goal.returns-clause-edited
@@ -76,7 +76,7 @@ returns-clause-edited g c =
     let is : c.index-list-k.result ≡ slice_index_or ps k c.index-list-k.result = rw list at c.index-list-k.is in
     let own = sym c.index-list-k.is in
     let r = c.requires.placed.0 in
-    let same = entry_is g.R.Run ps k c.args.way.label c.index-list-k.result r lt is c.requires.rising below above c.requires.placed.1 in
+    let same = entry_is ps k c.args.way.label c.index-list-k.result r lt is c.requires.rising below above c.requires.placed.1 in
     let cut = c.split-first.ensures in
     let first = c.split-first.result.0 in
     let second = c.split-first.result.1 in

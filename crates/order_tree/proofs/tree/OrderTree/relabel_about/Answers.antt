@@ -36,7 +36,13 @@ returns-in-Given-clause-given g c =
     subst (λ (t : Tree _). AreGivenIn t.pairs new.pairs given) (sym is) (spread_given g.R.Run c.self.inside.runs c.args.label old new given spread whole)
 
 pub returns-in-Given-clause-own : goal.returns-in-Given-clause-own
-returns-in-Given-clause-own g c = λ r there.
+returns-in-Given-clause-own g c =
+    let run = c.own_of-own.ensures.0 in
+    let own = c.own_of-own.result in
+    (run, subst (λ (gs : List (ℕ × (ℕ × _))). Contains gs (c.args.label, (own, run))) c.as_slice.ensures.value c.own_of-own.ensures.1)
+
+pub returns-in-Given-clause-stands : goal.returns-in-Given-clause-stands
+returns-in-Given-clause-stands g c = λ r there.
     let is : c.args.self.now ≡ c.in-Some.root = sym c.self.view_is ∙ ap tree_of c.in-Some.is in
     let whole = subst (λ (t : Tree _). IsWhole g.R.Run c.self.inside.runs t) (ap tree_of c.in-Some.is) c.self.invariant in
     let old : Tree _ = c.in-Some.root in
