@@ -40,7 +40,7 @@ effect_none r e = rw e refl
 one_total : (count : Stretch → ℕ) (front back : List (ℕ × Stretch)) (x : ℕ × Stretch) → total count (front ++ x ∷ back) ≡ total count front + (count x.1 + total count back)
 one_total count front back x = let all = total-append count front (x ∷ back) in let own = total-cons count x back in omega (arith, all, own)
 
-two_total : (count : Stretch → ℕ) (front back : List (ℕ × Stretch)) (x y : ℕ × Stretch) → total count (front ++ x ∷ y ∷ back) ≡ total count front + (count x.1 + (count y.1 + total count back))
+pub two_total : (count : Stretch → ℕ) (front back : List (ℕ × Stretch)) (x y : ℕ × Stretch) → total count (front ++ x ∷ y ∷ back) ≡ total count front + (count x.1 + (count y.1 + total count back))
 two_total count front back x y = let all = one_total count front (y ∷ back) x in let own = total-cons count y back in omega (arith, all, own)
 
 -- what a deletion at the end of the cursor's run leaves

@@ -15,29 +15,29 @@ use Rattle.advance_retreat.specs.Labelled.{without, label_by, label_at, label_of
 
 last_base : (t : Labels) (i label : ℕ) → IsLastIn (label_at t.base) i label → IsLast t (Base i) label
 last_base t i label h = record {
-  node = Base h.number;
-  before = le-leb h.number i h.before;
-  has = h.has;
+  node = Base h.0;
+  before = le-leb h.0 i h.1.before;
+  has = h.1.has;
   last = at;
 }
   where
-    at : (w : Node) → is_up_to w (Base i) ≡ true → IsSome (label_of t w) → is_up_to w (Base h.number) ≡ true
+    at : (w : Node) → is_up_to w (Base i) ≡ true → IsSome (label_of t w) → is_up_to w (Base h.0) ≡ true
     at Root e s = e
-    at (Base k) e s = le-leb k h.number (h.last k (leb-true k i e) s)
+    at (Base k) e s = le-leb k h.0 (h.1.last k (leb-true k i e) s)
     at (Event k) e s = e
 
 last_event : (t : Labels) (i label : ℕ) → IsLastIn (label_at t.events) i label → IsLast t (Event i) label
 last_event t i label h = record {
-  node = Event h.number;
-  before = le-leb h.number i h.before;
-  has = h.has;
+  node = Event h.0;
+  before = le-leb h.0 i h.1.before;
+  has = h.1.has;
   last = at;
 }
   where
-    at : (w : Node) → is_up_to w (Event i) ≡ true → IsSome (label_of t w) → is_up_to w (Event h.number) ≡ true
+    at : (w : Node) → is_up_to w (Event i) ≡ true → IsSome (label_of t w) → is_up_to w (Event h.0) ≡ true
     at Root e s = e
     at (Base k) e s = e
-    at (Event k) e s = le-leb k h.number (h.last k (leb-true k i e) s)
+    at (Event k) e s = le-leb k h.0 (h.1.last k (leb-true k i e) s)
 
 pub some_base : (t : Labels) (i : ℕ) (found : Option ℕ) → IfSome found (IsLastIn (label_at t.base) i) → IfSome found (IsLast t (Base i))
 some_base t i None h = h
@@ -145,7 +145,7 @@ module _ (m : Moved) (f : ℕ → Option ℕ) where
 
   -- another is the last
   pub last_above : (n k label : ℕ) → m.to < k → IsLastAt (without m.from f) n k label → IsLastIn now n label
-  last_above n k label above h = record { number = k; before = h.before; has = now_other k (apart_by k (λ e. omega (arith, e, above))) ∙ h.has; last = last }
+  last_above n k label above h = (k, record { before = h.before; has = now_other k (apart_by k (λ e. omega (arith, e, above))) ∙ h.has; last = last })
     where
       last : (q : ℕ) → q ≤ n → IsSome (now q) → q ≤ k
       last q le some = by (nat_eq m.to q) refl
@@ -156,7 +156,7 @@ module _ (m : Moved) (f : ℕ → Option ℕ) where
 
   -- it is the last itself
   pub last_is : (n : ℕ) → m.to ≤ n → ((q : ℕ) → q ≤ n → IsSome (without m.from f q) → q ≤ m.to) → IsLastIn now n m.label
-  last_is n le most = record { number = m.to; before = le; has = now_own; last = last }
+  last_is n le most = (m.to, record { before = le; has = now_own; last = last })
     where
       last : (q : ℕ) → q ≤ n → IsSome (now q) → q ≤ m.to
       last q lt some = by (nat_eq m.to q) refl
@@ -175,12 +175,12 @@ module _ (m : Moved) (f : ℕ → Option ℕ) where
 
 -- WHERE THE NUMBERS UP TO THIS ONE HAVE THE SAME LABELS
 pub last_first : (f : ℕ → Option ℕ) (n k label : ℕ) → IsLastAt f n k label → IsLastIn f n label
-last_first f n k label h = record { number = k; before = h.before; has = h.has; last = h.last }
+last_first f n k label h = (k, h)
 
 module _ (f g : ℕ → Option ℕ) (n : ℕ) (same : (q : ℕ) → q ≤ n → g q ≡ f q) where
   pub last_alike : (found : Option ℕ) → IfSome found (IsLastIn f n) → IfSome found (IsLastIn g n)
   last_alike None h = h
-  last_alike (Some label) h = record { number = h.number; before = h.before; has = same h.number h.before ∙ h.has; last = λ q le some. h.last q le (subst (λ (o : Option ℕ). IsSome o) (same q le) some) }
+  last_alike (Some label) h = (h.0, record { before = h.1.before; has = same h.0 h.1.before ∙ h.1.has; last = λ q le some. h.1.last q le (subst (λ (o : Option ℕ). IsSome o) (same q le) some) })
 
   pub none_alike : (found : Option ℕ) → IfNone found ((k : ℕ) → k ≤ n → f k ≡ None) → IfNone found ((k : ℕ) → k ≤ n → g k ≡ None)
   none_alike None h = λ k le. same k le ∙ h k le

@@ -65,10 +65,12 @@ pub mod RunsAt
 pub mod SameTrees
 pub mod Settled
 pub mod ShiftedEnds
+pub mod ShiftedFirsts
 pub mod SpanMoves
 pub mod Splits
 pub mod Standings
 pub mod StruckEnds
+pub mod StruckFirsts
 pub mod TreeMoves
 pub mod Typing
 pub mod VisiblePlaces

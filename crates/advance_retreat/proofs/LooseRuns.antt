@@ -61,7 +61,7 @@ module _ (among : Node → Bool) where
         let two : nat_lt 0 run.len ≡ true = lt-ltb 0 run.len (omega (arith, inside)) in
         ap (λ (b : Bool). b && among run.from) (one ∙ sym two)
 
-    ends_second : ends_in among (second_part run n) ≡ ends_in among run
+    pub ends_second : ends_in among (second_part run n) ≡ ends_in among run
     ends_second =
         let one : nat_lt 0 (run.len - n) ≡ true = lt-ltb 0 (run.len - n) (omega (arith, inside)) in
         let two : nat_lt 0 run.len ≡ true = lt-ltb 0 run.len (omega (arith, inside)) in

@@ -34,11 +34,11 @@ use Rattle.advance_retreat.proofs.RunChars.{one, chars-append}
 
 -- TWO RUNS, one behind the other
 module _ {R : Type 0} (front back : List (ℕ × R)) (label own : ℕ) where
-  abbrev pair_of : R → R → List (ℕ × R)
+  abbrev pub pair_of : R → R → List (ℕ × R)
   pair_of a b = front ++ (label, a) ∷ (own, b) ∷ back
 
   module _ (a b : R) (rising : IsRising (pair_of a b)) where
-    abbrev at_first : Parted (pair_of a b) label a
+    abbrev pub at_first : Parted (pair_of a b) label a
     at_first = record {
       front = front;
       back = (own, b) ∷ back;
@@ -47,10 +47,10 @@ module _ {R : Type 0} (front back : List (ℕ × R)) (label own : ℕ) where
       above = held_above front ((label, a) ∷ []) ((own, b) ∷ back) label a rising (is_first (label, a) []);
     }
 
-    regroup : (c : R) → pair_of a c ≡ (front ++ (label, a) ∷ []) ++ (((own, c) ∷ []) ++ back)
+    pub regroup : (c : R) → pair_of a c ≡ (front ++ (label, a) ∷ []) ++ (((own, c) ∷ []) ++ back)
     regroup c = sym (append_assoc front ((label, a) ∷ []) ((own, c) ∷ back))
 
-    abbrev at_second : Parted (pair_of a b) own b
+    abbrev pub at_second : Parted (pair_of a b) own b
     at_second =
         let rises = subst (λ (xs : List (ℕ × R)). IsRising xs) (regroup b) rising in
         record {
@@ -65,10 +65,10 @@ module _ {R : Type 0} (front back : List (ℕ × R)) (label own : ℕ) where
     second_changed c = changed_is own c (pair_of a b) b at_second ∙ sym (regroup c)
 
     -- the labels are two
-    first_less : label < own
+    pub first_less : label < own
     first_less = All-contains (λ p. label < p.0) ((own, b) ∷ back) (own, b) at_first.above (is_first (own, b) back)
 
-    both_changed : (c d : R) → changed (changed (pair_of a b) own c) label d ≡ pair_of d c
+    pub both_changed : (c d : R) → changed (changed (pair_of a b) own c) label d ≡ pair_of d c
     both_changed c d =
         let at : Parted (pair_of a c) label a = record {
           front = front;

@@ -1,7 +1,7 @@
 -- The run at whose end characters are typed or deleted one after another.
 use Rattle.std.specs.Prelude.{◌≡◌, ◌⊎◌, ℕ, ◌+◌, ◌-◌, ◌<◌, Bool, true, false, List, ◌++◌, ◌∷◌, Contains, Option, Some, None}
 use Rattle.ew_model.specs.declared.node.Node.{Node}
-use Rattle.walker_record.specs.Stretches.{Stretch, node_on, prepared_of, effect_of, first_part}
+use Rattle.walker_record.specs.Stretches.{Stretch, node_on, is_continued, prepared_of, effect_of, first_part}
 use Rattle.order_tree.specs.Pairs.{lower, total, changed}
 use Rattle.advance_retreat.specs.declared.cursor.Cursor.{Cursor}
 use Rattle.advance_retreat.specs.declared.cursor.Struck.{Struck}
@@ -31,6 +31,16 @@ StandsBehind ps label run None = Unit {0}
 StandsBehind ps label run (Some s) =
     (front : List (ℕ × Stretch)) × (back : List (ℕ × Stretch)) × (ps ≡ front ++ (label, run) ∷ (s.label, s.run) ∷ back)
     × (s.run.from ≡ node_on run.from run.len) × (0 < s.run.len) × (s.run.prepared ≡ 2) × (s.run.effect ≡ false)
+
+-- a struck run stands right ahead of the one at the label, and goes on with the first of its characters once that is deleted; this one has others too, all visible in what is prepared
+pub record StandsAhead (ps : List (ℕ × Stretch)) (s : Struck) (label : ℕ) (run : Stretch) : Type 0 where
+  pub front : List (ℕ × Stretch)
+  pub back : List (ℕ × Stretch)
+  pub stood : ps ≡ front ++ (s.label, s.run) ∷ (label, run) ∷ back
+  pub goes_on : is_continued s.run (struck_with run.from 0) ≡ true
+  pub some : 0 < s.run.len
+  pub long : 1 < run.len
+  pub prepared : run.prepared ≡ 1
 
 -- The run stands at the label, with characters, all visible in what is prepared and in the text. So many of the text are ahead of it, so many are visible up to its end, and what was deleted from its end stands behind it.
 pub record IsCursor (ps : List (ℕ × Stretch)) (c : Cursor) : Type 0 where

@@ -13,7 +13,7 @@ use Rattle.advance_retreat.specs.declared.labels.Table.{Table}
 abbrev pub without : ℕ → (ℕ → Option ℕ) → ℕ → Option ℕ
 without n kept k = if nat_eq n k then None else kept k
 
--- the label of a number: the one that went to it from another, or else what is kept under it
+-- the label of a number: that which has gone over to it, none where it was taken from, and else what is kept under it
 abbrev pub label_by : Option Moved → (ℕ → Option ℕ) → ℕ → Option ℕ
 label_by None kept k = kept k
 label_by (Some m) kept k = if nat_eq m.to k then Some m.label else without m.from kept k
@@ -44,23 +44,20 @@ pub record IsLast (t : Labels) (v : Node) (label : ℕ) : Type 0 where
   pub has : label_of t node ≡ Some label
   pub last : (w : Node) → is_up_to w v ≡ true → IsSome (label_of t w) → is_up_to w node ≡ true
 
--- the label of each node after one of them got another, or lost its own
+-- the label of each node after one of them got this one, or was left without one, whatever it had had
 abbrev pub Sets : Labels → Labels → Node → Option ℕ → Type 0
 Sets old new v label = (w : Node) → label_of new w ≡ (if node_eq v w then label else label_of old w)
 
--- the label of each node after that of one of them went over to another
+-- the label of each node after the first of these two was left without one, whether it had one or not, and the second got this one, whatever the first had had
 abbrev pub GoesOver : Labels → Labels → Node → Node → ℕ → Type 0
 GoesOver old new from to label = (w : Node) → label_of new w ≡ (if node_eq from w then None else (if node_eq to w then Some label else label_of old w))
 
 -- the last number up to this one that has a label, and the label
-pub record IsLastAt (label_at : ℕ → Option ℕ) (n number label : ℕ) : Type 0 where
+pub record IsLastAt (kept : ℕ → Option ℕ) (n number label : ℕ) : Type 0 where
   pub before : number ≤ n
-  pub has : label_at number ≡ Some label
-  pub last : (k : ℕ) → k ≤ n → IsSome (label_at k) → k ≤ number
+  pub has : kept number ≡ Some label
+  pub last : (k : ℕ) → k ≤ n → IsSome (kept k) → k ≤ number
 
--- one of the labels of numbers is that of the last number up to this one
-pub record IsLastIn (label_at : ℕ → Option ℕ) (n label : ℕ) : Type 0 where
-  pub number : ℕ
-  pub before : number ≤ n
-  pub has : label_at number ≡ Some label
-  pub last : (k : ℕ) → k ≤ n → IsSome (label_at k) → k ≤ number
+-- the label of that number, whichever it is
+abbrev pub IsLastIn : (ℕ → Option ℕ) → ℕ → ℕ → Type 0
+IsLastIn kept n label = (number : ℕ) × IsLastAt kept n number label

@@ -19,7 +19,7 @@ pub struct Labels {
     events: Table,
 }
 
-/// A label that went over from a number to a lower one.
+/// The label of a number, and another number, which has none.
 #[derive(Clone, Copy)]
 struct Moved {
     from: u32,
@@ -31,7 +31,7 @@ struct Moved {
 #[derive(Drop)]
 struct Table {
     map: BTreeMap<u32, u64>,
-    /// A label that stands in the map under the number that it went over from.
+    /// The label of a number that the map tells none of, and a greater number, which has none though the map may tell one.
     moved: Option<Moved>,
     ghost lower: { (m : Movement) → moved ≡ Some m → m.to < m.from },
     ghost bare: { (m : Movement) → moved ≡ Some m → get nat_cmp map m.to ≡ None },
@@ -76,7 +76,7 @@ impl Labels {
         }
     }
 
-    /// Gives a node that has a label another.
+    /// Gives a node that has a label this one for it.
     pub fn set(&mut self, node: Node, label: u64)
         requires { IsSome (label_of self.old node) }
         ensures { Sets self.old self.new node (Some label) }
@@ -86,7 +86,7 @@ impl Labels {
         };
     }
 
-    /// Takes a node's label away.
+    /// Takes a node's label away, if it has one.
     pub fn remove(&mut self, node: Node)
         ensures { Sets self.old self.new node None }
     {
@@ -97,7 +97,7 @@ impl Labels {
         }
     }
 
-    /// A node's label goes over to another, which has none.
+    /// Gives a node that has no label this one, and takes that of another away, if it has one.
     pub fn hand_over(&mut self, from: Node, to: Node, label: u64) -> Result<(), NoMem>
         requires some { to ≡ nodes.Root → ⊥ }
         requires bare { label_of self.old to ≡ None }
@@ -158,7 +158,7 @@ impl Table {
         Table::insert_in(&mut self.map, n, label)
     }
 
-    /// Takes a number's label away.
+    /// Takes a number's label away, if it has one.
     fn remove(&mut self, n: u32)
         ensures { (k : ℕ) → label_at self.new k ≡ (if nat_eq n k then None else label_at self.old k) }
     {
@@ -172,7 +172,7 @@ impl Table {
         }
     }
 
-    /// A number's label goes over to a lower one, which has none.
+    /// Gives a number that has no label this one, and takes that of a greater one away, if it has one.
     fn hand_over(&mut self, from: u32, to: u32, label: u64) -> Result<(), NoMem>
         requires lower { to < from }
         requires bare { label_at self.old to ≡ None }
@@ -194,7 +194,7 @@ impl Table {
         Ok(())
     }
 
-    /// Has the map tell which number the label went over to.
+    /// Has the map tell all labels. After an error for want of memory they are the same.
     fn settle(&mut self) -> Result<(), NoMem>
         ensures settled { OnOk result (self.new.moved ≡ None) }
         ensures same { (k : ℕ) → label_at self.new k ≡ label_at self.old k }
@@ -230,7 +230,7 @@ impl Table {
         }
     }
 
-    /// The last number up to this one and its label in the map, where that of one above 0 doesn't count.
+    /// The last number up to this one that the map tells a label of, and that label, where one above 0 doesn't count.
     fn last_but(map: &BTreeMap<u32, u64>, n: u32, but: u32) -> Option<(u32, u64)>
         requires { 0 < but }
         ensures some { IfSome result (λ e. IsLastAt (without but (get nat_cmp map.now)) n e.0 e.1) }
@@ -242,7 +242,7 @@ impl Table {
         }
     }
 
-    /// The label of the last number up to this one, where one went over to such a number.
+    /// The label of the last number up to this one, where such a number has a label that the map doesn't tell.
     fn last_with(map: &BTreeMap<u32, u64>, n: u32, moved: Moved) -> u64
         requires lower { moved.to < moved.from }
         requires within { moved.to ≤ n }

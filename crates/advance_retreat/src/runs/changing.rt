@@ -92,13 +92,17 @@ fn positions_within(run: &Record, within: Positions) -> Option<Positions>
 }
 
 impl Runs {
-    /// Makes a run of a node's character alone, where it has one. After an error for want of memory the characters are the same.
+    /// Makes a run of a node's character alone, which was found. Answers that run; there is one, so that None never comes. After an
+    /// error for want of memory the characters are the same.
     fn lone<L: Ledger>(
         &mut self,
         node: Node,
+        found: Located,
         visits: &mut Steps<L>,
     ) -> Result<Option<Located>, NoMem>
-        requires { AreLabelled self.old.tree.pairs self.old.labels }
+        requires laid { AreLabelled self.old.tree.pairs self.old.labels }
+        requires held { Contains self.old.tree.pairs (found.label, found.run) }
+        requires offset { IsOffset found.run node found.offset }
         ensures laid { AreLabelled self.new.tree.pairs self.new.labels }
         ensures chars { chars_in self.new.tree.pairs ≡ chars_in self.old.tree.pairs }
         ensures held { IfOk result (λ o. IfSome o (λ f. Contains self.new.tree.pairs (f.label, f.run))) }
@@ -108,9 +112,6 @@ impl Runs {
         ensures cut { (mid : List Stretch) × MayBeCut (runs self.old.tree.pairs) mid node × MayBeCut mid (runs self.new.tree.pairs) (node_on node 1) }
         ensures rising { OnOk result (IsRising self.new.tree.pairs) }
     {
-        let Some(found) = self.run_of(node, visits) else {
-            return Ok(None);
-        };
         let Some(begun) = self.begin_found(node, found, visits)? else {
             let _runs = self.tree.runs();
             return Ok(None);
@@ -151,6 +152,36 @@ impl Runs {
         }
     }
 
+    /// Changes the states of a node's character, which was found, once it is a run of its own. After an error for want of memory the
+    /// characters are the same.
+    fn change_lone<L: Ledger>(
+        &mut self,
+        node: Node,
+        found: Located,
+        change: Change,
+        visits: &mut Steps<L>,
+    ) -> Result<Option<Altered>, NoMem>
+        requires laid { AreLabelled self.old.tree.pairs self.old.labels }
+        requires held { Contains self.old.tree.pairs (found.label, found.run) }
+        requires offset { IsOffset found.run node found.offset }
+        requires room { AllByRecursion HasRoom (chars_in self.old.tree.pairs) }
+        requires few { length (chars_in self.old.tree.pairs) < 2 ^ 32 }
+        ensures laid { AreLabelled self.new.tree.pairs self.new.labels }
+        ensures chars { OnOk result (chars_in self.new.tree.pairs ≡ map (changed_at node change) (chars_in self.old.tree.pairs)) }
+        ensures one { IfOk result (StaysOr (chars_in self.old.tree.pairs) (chars_in self.new.tree.pairs)) }
+        ensures recounted { IfOk result (λ o. IfSome o (Recounted (chars_in self.old.tree.pairs) (chars_in self.new.tree.pairs))) }
+        ensures was { IfOk result (λ o. knows (chars_in self.old.tree.pairs) node ≡ were_inserted o) }
+        ensures is { IfOk result (λ o. knows (chars_in self.new.tree.pairs) node ≡ are_inserted o) }
+        ensures err { OnErr result (chars_in self.new.tree.pairs ≡ chars_in self.old.tree.pairs) }
+        ensures loose { (among : Nodes → Bool) → loose_in among (runs self.new.tree.pairs) ≤ loose_in among (runs self.old.tree.pairs) + 2 }
+        ensures told { (among : Nodes → Bool) → among node ≡ true → loose_in among (runs self.new.tree.pairs) ≤ loose_in among (runs self.old.tree.pairs) }
+    {
+        let Some(found) = self.lone(node, found, visits)? else {
+            return Ok(None);
+        };
+        Ok(Some(self.recast(found, change, visits)))
+    }
+
     /// Changes the states of a node's character, where it has one. After an error for want of memory the characters are the same.
     pub fn change<L: Ledger>(
         &mut self,
@@ -171,10 +202,13 @@ impl Runs {
         ensures loose { (among : Nodes → Bool) → loose_in among (runs self.new.tree.pairs) ≤ loose_in among (runs self.old.tree.pairs) + 2 }
         ensures told { (among : Nodes → Bool) → among node ≡ true → loose_in among (runs self.new.tree.pairs) ≤ loose_in among (runs self.old.tree.pairs) }
     {
-        let Some(found) = self.lone(node, visits)? else {
+        let Some(found) = self.run_of(node, visits) else {
             return Ok(None);
         };
-        Ok(Some(self.recast(found, change, visits)))
+        match self.struck_ahead(found, change, visits) {
+            Some(struck) => Ok(Some(self.shift_first(found, struck, visits)?)),
+            None => self.change_lone(node, found, change, visits),
+        }
     }
 
     /// Changes the states of the run of an event's character, where all of its characters are of events at positions within these.

@@ -30,8 +30,8 @@ impl Runs {
         Ok(())
     }
 
-    /// Gives the runs of a part about a label's new labels, so that one is free behind that run. Answers its new label. None where
-    /// there is no such part; nothing has changed then, nor after an error for want of memory.
+    /// Gives some runs new labels, among them the one at this label, so that one is free behind it. Answers its new label. None where
+    /// no part of them was found for that; nothing has changed then, nor after an error for want of memory.
     fn relabel_about<L: Ledger>(
         &mut self,
         label: u64,

@@ -1,12 +1,22 @@
-//! Characters that are deleted from the end of a run.
+//! Characters that are deleted from the end of a run, or from its front, and go over to others that were.
 
-ghost use Rattle.std.specs.Prelude.{◌≡◌, ◌≤◌, ◌<◌, ◌^◌, IfSome, IfNone, IfOk, OnErr, length, map};
+ghost use Rattle.std.specs.Prelude.{◌≡◌, ◌+◌, ◌≤◌, ◌<◌, ◌^◌, Bool, true, IfSome, IfNone, IfOk, OnOk, OnErr, IsTrue, None, length, map, Contains};
+ghost use Rattle.ew_model.specs.declared.node.Node.{Node as Nodes};
+ghost use Rattle.ew_model.specs.declared.node.Node.TheVariants as nodes;
+ghost use Rattle.order_tree.specs.Pairs.{runs};
 ghost use Rattle.advance_retreat.specs.declared.change.Change.TheVariants as changes;
-ghost use Rattle.advance_retreat.specs.Cursors.{IsCursor, GaveEnd, last_of};
-ghost use Rattle.advance_retreat.specs.Kept.{changed_at};
+ghost use Rattle.advance_retreat.specs.Cursors.{IsCursor, GaveEnd, StandsAhead, last_of, struck_with};
+ghost use Rattle.advance_retreat.specs.Kept.{is_inserted, knows, changed_at};
+ghost use Rattle.advance_retreat.specs.Labelled.{label_of, GoesOver};
 ghost use Rattle.advance_retreat.specs.Laid.{AreLabelled, chars_in};
+ghost use Rattle.advance_retreat.specs.Loose.{loose_in};
+ghost use Rattle.advance_retreat.specs.Replacing.{Replaces, Recounted};
 
+use crate::change::Change;
 use crate::cursor::{Cursor, Struck};
+use crate::labels::Labels;
+use crate::runs::changing::Altered;
+use crate::runs::reading::Located;
 use crate::runs::{Runs, Spot};
 use ew_model::NoMem;
 use ew_model::steps::Steps;
@@ -113,5 +123,103 @@ impl Runs {
         };
         self.tree.change(label, run, visits);
         Ok(Some(Struck { label, run }))
+    }
+}
+
+/// Whether the change deletes the first character of a run, which has others and is visible in what is prepared.
+fn strikes_first(found: Located, change: Change) -> bool
+    ensures change { IsTrue result → change ≡ changes.Strike }
+    ensures first { IsTrue result → found.offset ≡ 0 }
+    ensures long { IsTrue result → 1 < found.run.len }
+    ensures prepared { IsTrue result → found.run.prepared ≡ 1 }
+{
+    match change {
+        Change::Strike => found.offset == 0 && found.run.len > 1 && found.run.prepared == 1,
+        Change::Raise | Change::Lower => false,
+    }
+}
+
+/// The first character of a run, as it is once it was deleted.
+fn struck_first(run: &Record) -> Record
+    requires { 0 < run.now.len }
+    ensures { result ≡ struck_with run.now.from 0 }
+{
+    Record {
+        len: 1,
+        prepared: 2,
+        effect: false,
+        ..*run
+    }
+}
+
+/// Gives the first node of a run this label, and takes that of another run's away.
+fn hand_label(labels: &mut Labels, from: &Record, to: &Record, label: u64) -> Result<(), NoMem>
+    requires some { to.now.from ≡ nodes.Root → ⊥ }
+    requires bare { label_of labels.old to.now.from ≡ None }
+    ensures ok { OnOk result (GoesOver labels.old labels.new from.now.from to.now.from label) }
+    ensures err { OnErr result ((v : Nodes) → label_of labels.new v ≡ label_of labels.old v) }
+{
+    labels.hand_over(from.from, to.from, label)
+}
+
+impl Runs {
+    /// The struck run that a character goes over to, where the change deletes it: the character is the first of a run that has
+    /// others, and the struck run stands right ahead of that one, and goes on with it. Else None.
+    pub fn struck_ahead<L: Ledger>(
+        &self,
+        found: Located,
+        change: Change,
+        visits: &mut Steps<L>,
+    ) -> Option<Struck>
+        requires { Contains self.now.tree.pairs (found.label, found.run) }
+        ensures change { IfSome result (λ _. change ≡ changes.Strike) }
+        ensures first { IfSome result (λ _. found.offset ≡ 0) }
+        ensures ahead { IfSome result (λ s. StandsAhead self.now.tree.pairs s found.label found.run) }
+    {
+        let _runs = self.tree.runs();
+        if !strikes_first(found, change) {
+            return None;
+        }
+        let one = struck_first(&found.run);
+        let (label, run) = self.tree.ahead(found.label, visits)?;
+        if run.len > 0 && run.joinable(&one) {
+            Some(Struck { label, run: *run })
+        } else {
+            None
+        }
+    }
+
+    /// Has the first character of a run go over to the struck ones right ahead of it.
+    pub fn shift_first<L: Ledger>(
+        &mut self,
+        found: Located,
+        struck: Struck,
+        visits: &mut Steps<L>,
+    ) -> Result<Altered, NoMem>
+        requires laid { AreLabelled self.old.tree.pairs self.old.labels }
+        requires ahead { StandsAhead self.old.tree.pairs struck found.label found.run }
+        requires few { length (chars_in self.old.tree.pairs) < 2 ^ 32 }
+        ensures laid { AreLabelled self.new.tree.pairs self.new.labels }
+        ensures chars { OnOk result (chars_in self.new.tree.pairs ≡ map (changed_at found.run.from changes.Strike) (chars_in self.old.tree.pairs)) }
+        ensures one { IfOk result (λ a. Replaces (chars_in self.old.tree.pairs) (chars_in self.new.tree.pairs) a.before a.after) }
+        ensures recounted { IfOk result (Recounted (chars_in self.old.tree.pairs) (chars_in self.new.tree.pairs)) }
+        ensures was { IfOk result (λ a. knows (chars_in self.old.tree.pairs) found.run.from ≡ is_inserted a.before) }
+        ensures is { IfOk result (λ a. knows (chars_in self.new.tree.pairs) found.run.from ≡ is_inserted a.after) }
+        ensures loose { OnOk result ((among : Nodes → Bool) → loose_in among (runs self.new.tree.pairs) ≤ loose_in among (runs self.old.tree.pairs) + 2) }
+        ensures told { OnOk result ((among : Nodes → Bool) → among found.run.from ≡ true → loose_in among (runs self.new.tree.pairs) ≤ loose_in among (runs self.old.tree.pairs)) }
+        ensures err { OnErr result (self.new.tree ≡ self.old.tree) }
+    {
+        let _old = self.tree.runs();
+        let one = struck_first(&found.run);
+        let (first, rest) = found.run.split(1);
+        hand_label(&mut self.labels, &found.run, &rest, found.label)?;
+        self.tree.change(found.label, rest, visits);
+        self.tree
+            .change(struck.label, struck.run.join(&one), visits);
+        let _new = self.tree.runs();
+        Ok(Altered {
+            before: first,
+            after: one,
+        })
     }
 }

@@ -1,14 +1,10 @@
-use Rattle.std.proofs.Common.{◌≡◌, Contains, inl, refl}
-use Rattle.order_tree.specs.Pairs.{runs}
+use Rattle.std.proofs.Common.{◌≡◌, Contains}
 use Rattle.advance_retreat.specs.declared.runs.reading.Located.{Located}
 use Rattle.advance_retreat.specs.Laid.{IsOffset}
 use Rattle.advance_retreat.proofs.Changing.{first_node, only_long}
 use Rattle.advance_retreat.proofs.FoundCuts.{found_stands}
 use Rattle.advance_retreat.proofs.Standings.{if_some_both}
 use Rattle.advance_retreat.proofs.runs.Runs.lone.Goals as goal
-
-pub returns-in_default-clause-cut : goal.returns-in_default-clause-cut
-returns-in_default-clause-cut g c = (runs c.args.self.now.tree.pairs, inl refl, inl refl)
 
 pub returns-clause-node : goal.returns-clause-node
 returns-clause-node g c =

@@ -1,4 +1,3 @@
-use Rattle.std.proofs.Common.{sym, subst}
 use Rattle.advance_retreat.proofs.Renamed.{all_given}
 use Rattle.advance_retreat.proofs.runs.Runs.relabel.Goals as goal
 
