@@ -1,10 +1,11 @@
 -- The index of what is read so far: which agent may come next, and how the index grows with an event.
-use Rattle.std.proofs.Common.{◌≡◌, ℕ, zero, suc, ◌+◌, ◌-◌, ◌≤◌, Bool, true, false, cond, ◌||◌, ◌&&◌, inl, inr, List, [], ◌∷◌, ◌++◌, length, take, Option, Some, None, refl, sym, ap, ◌∙◌, arith}
-use Rattle.std.specs.Prelude.{slice_get}
+use Rattle.std.proofs.Common.{◌≡◌, ℕ, zero, suc, ◌+◌, ◌-◌, ◌<◌, ◌≤◌, Bool, true, false, cond, ◌||◌, ◌&&◌, inl, inr, List, [], ◌∷◌, ◌++◌, length, take, Option, Some, None, refl, sym, ap, ◌∙◌, arith}
+use Rattle.std.specs.Prelude.{get_or, slice_get}
 use Rattle.std.specs.List.{list_any}
 use Rattle.std.proofs.lemmas.Bool.{and_parts, cond-true, cond-false, or_cases}
 use Rattle.std.proofs.lemmas.List.{map-append, length-append}
 use Rattle.std.proofs.lemmas.List.Folds.{list_any-append}
+use Rattle.std.proofs.lemmas.Option.{slice_get-get_or}
 use Rattle.ew_model.specs.declared.id.Id.{Id}
 use Rattle.ew_model.specs.declared.event.Event.{Event}
 use Rattle.ew_model.specs.Ids.{name_eq, id_eq, id_lt, ids_ascend}
@@ -12,18 +13,34 @@ use Rattle.ew_model.specs.Ancestors.{ids_of, is_held}
 use Rattle.ew_model.specs.File.{agents_of}
 use Rattle.ew_model.specs.Distinct.{AreDistinct}
 use Rattle.ew_model.specs.FileFaults.{open_agents}
-use Rattle.ew_model.proofs.FileLists.{some_is, none_is_some, none_in_front, get-take_within, there_among}
+use Rattle.ew_model.proofs.FileLists.{some_is, none_is_some, none_in_front, get-take, get-take_within, there_among}
 use Rattle.ew_model.proofs.FileRecords.{names_equal, name_exact}
 use Rattle.ew_model.proofs.TextLaws.{ids_equal}
 use Rattle.event_file.specs.Progress.{IsIndexed}
 use Rattle.ew_model.proofs.ListParts.{take_next}
 use Rattle.ew_model.proofs.FileEvents.{agents_push}
+use Rattle.event_file.proofs.SeenCounts.{place_within}
 
 -- an agent at a place up to that of the next is open
 pub open_at : (agents : List (List ℕ)) (events : List Event) (used place : ℕ) (has : Id → Bool) → IsIndexed agents events used has → place ≤ used → slice_get (open_agents agents events) place ≡ slice_get agents place
 open_at agents events used place has i le =
     let count = i.count in
     get-take_within (suc (length (agents_of events))) agents place (omega (arith, count))
+
+-- an agent that has an event stands at its place among those that have
+pub used_at : (agents : List (List ℕ)) (events : List Event) (used place : ℕ) (has : Id → Bool) → IsIndexed agents events used has → place < used → place < length agents → slice_get (agents_of events) place ≡ Some (get_or agents place [])
+used_at agents events used place has i lt within =
+    ap (λ (names : List (List ℕ)). slice_get names place) i.begin ∙ get-take_within used agents place lt ∙ slice_get-get_or agents place [] within
+
+-- what stands at a place among them stands there among all
+pub used_is : (agents : List (List ℕ)) (events : List Event) (used place : ℕ) (has : Id → Bool) (name : List ℕ) → IsIndexed agents events used has → slice_get (agents_of events) place ≡ Some name → slice_get agents place ≡ Some name
+used_is agents events used place has name i at = get-take used agents place name (ap (λ (names : List (List ℕ)). slice_get names place) (sym i.begin) ∙ at)
+
+-- and may have the next record
+pub used_open : (agents : List (List ℕ)) (events : List Event) (place : ℕ) (name : List ℕ) → slice_get agents place ≡ Some name → slice_get (agents_of events) place ≡ Some name → slice_get (open_agents agents events) place ≡ Some name
+used_open agents events place name there at =
+    let lt = place_within (agents_of events) place name at in
+    get-take_within (suc (length (agents_of events))) agents place (omega (arith, lt)) ∙ there
 
 pub known_open : (agents : List (List ℕ)) (events : List Event) (place : ℕ) (agent : List ℕ) → slice_get (open_agents agents events) place ≡ Some agent → list_any (name_eq agent) (open_agents agents events) ≡ true
 known_open agents events place agent e = there_among name_eq names_equal name_exact (open_agents agents events) place agent e

@@ -1,10 +1,11 @@
 -- The events before a record, of which only the ids are known.
-use Rattle.std.proofs.Common.{◌≡◌, ℕ, zero, suc, ◌<◌, List, [], ◌∷◌, ◌++◌, take, Some, None, refl, sym, ap, ◌∙◌, ◌⊎◌, inl, inr, true, false, subst, arith, cond, ltb-true, ltb-false, length}
+use Rattle.std.proofs.Common.{◌≡◌, ℕ, zero, suc, ◌-◌, ◌<◌, List, [], ◌∷◌, ◌++◌, take, Some, None, refl, sym, ap, ◌∙◌, ◌⊎◌, inl, inr, true, false, subst, arith, cond, ltb-true, ltb-false, length}
 use Rattle.std.proofs.lemmas.Bool.{cases_Bool, cond-true, cond-false}
 use Rattle.std.specs.Prelude.{slice_get, nat_lt, get_or}
-use Rattle.std.proofs.lemmas.List.{map-append}
+use Rattle.std.proofs.lemmas.List.{map-append, length-append}
 use Rattle.std.proofs.lemmas.Option.{get_or_from_slice_get, slice_get-get_or, slice_get_past}
 use Rattle.ew_model.specs.declared.id.Id.{Id}
+use Rattle.ew_model.specs.declared.event.Event.{Event}
 use Rattle.ew_model.specs.Ids.{name_eq}
 use Rattle.ew_model.specs.Ancestors.{ids_of}
 use Rattle.ew_model.specs.Distinct.{AreDistinct}
@@ -12,12 +13,23 @@ use Rattle.ew_model.proofs.FileLists.{some_is, none_is_some, none_in_front, get-
 use Rattle.ew_model.proofs.FileRecords.{names_equal, name_exact}
 use Rattle.event_file.specs.declared.short_id.ShortId.{ShortId}
 use Rattle.event_file.specs.Known.{known_by, id_by, known, AreWithin}
+use Rattle.history_words.specs.Chains.{last_id}
 
 -- the id at a place
 pub known_at : (agents : List (List ℕ)) (ids : List ShortId) (i : ℕ) (x : ShortId) → slice_get ids i ≡ Some x → slice_get (ids_of (known agents ids)) i ≡ Some (id_by agents x)
 known_at agents [] i x at = none_is_some x at
 known_at agents (y ∷ ids) zero x at = ap (λ z. Some (id_by agents z)) (some_is y x at)
 known_at agents (y ∷ ids) (suc i) x at = known_at agents ids i x at
+
+-- the last id, with one event more
+pub last_more : (events : List Event) (e : Event) → last_id (events ++ e ∷ []) ≡ Some e.id
+last_more events e =
+    let count : length (events ++ e ∷ []) - 1 ≡ length events = omega (arith, length-append events (e ∷ [])) in
+    ap (slice_get (ids_of (events ++ e ∷ []))) count ∙ at_end events
+  where
+    at_end : (es : List Event) → slice_get (ids_of (es ++ e ∷ [])) (length es) ≡ Some e.id
+    at_end [] = refl
+    at_end (f ∷ es) = at_end es
 
 -- no id stands behind the last
 pub none_known : (agents : List (List ℕ)) (ids : List ShortId) (i : ℕ) → slice_get ids i ≡ None → slice_get (ids_of (known agents ids)) i ≡ None

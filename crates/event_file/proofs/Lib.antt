@@ -1,4 +1,5 @@
 pub mod Found
+pub mod GoingOn
 pub mod Indexes
 pub mod Known
 pub mod Loops

@@ -2,9 +2,11 @@
 use Rattle.std.proofs.Common.{◌≡◌, ℕ, zero, suc, ◌+◌, ◌<◌, ◌≤◌, Bool, true, false, cond, ◌||◌, ◌⊎◌, inl, inr, List, [], ◌∷◌, length, take, get_or, replicate, set, Some, refl, sym, ap, ◌∙◌, arith, ltb-true, ltb-false, lt-ltb, le-ltb}
 use Rattle.std.specs.Prelude.{nat_lt, slice_get}
 use Rattle.std.specs.List.{list_any}
+use Rattle.std.specs.BTreeMap.{is_at}
+use Rattle.std.specs.BTreeSet.{BTreeSet, btree_set_len, contains}
 use Rattle.std.proofs.lemmas.Bool.{cases_Bool, cond-true, cond-false, or_parts, or_left}
 use Rattle.ew_model.specs.declared.id.Id.{Id}
-use Rattle.ew_model.specs.Ids.{name_eq, id_eq}
+use Rattle.ew_model.specs.Ids.{name_eq, id_cmp, id_eq}
 use Rattle.ew_model.specs.Distinct.{AreDistinct}
 use Rattle.ew_model.proofs.FileLists.{some_is, none_is_some, none_in_front}
 use Rattle.ew_model.proofs.FileRecords.{names_equal, name_exact, id_eq_exact}
@@ -115,6 +117,19 @@ added_next agents counts further place x y distinct at lt n here next =
         let other : y.seq ≡ n → ⊥ = λ e. apart f (same_id agent (e ∙ sym next)) in
         ap (nat_lt y.seq) (grown y.agent ∙ cond-true (name_eq y.agent x.agent) (n + 1) (count_for agents counts y.agent) t) ∙ below_other y.seq n other ∙ ap (nat_lt y.seq) (sym count)
     kept f (inr u) = ap (nat_lt y.seq) (grown y.agent ∙ cond-false (name_eq y.agent x.agent) (n + 1) (count_for agents counts y.agent) u)
+
+-- where its agent's count tells the number of an id, and no id is a further one, the id isn't seen
+pub next_unseen : (agents : List (List ℕ)) (counts : List ℕ) (further : Id → Bool) (place : ℕ) (x : Id) → AreDistinct name_eq agents → slice_get agents place ≡ Some x.agent → place < length counts → x.seq ≡ get_or counts place x.seq → further x ≡ false
+    → is_seen agents counts further x ≡ false
+next_unseen agents counts further place x distinct at lt here none =
+    found_at agents counts further place x distinct at lt x.seq ∙ ap (λ n. nat_lt x.seq n || further x) (sym here) ∙ ap (λ b. b || further x) (le-ltb x.seq x.seq (omega arith)) ∙ none
+
+pub none_further : (further : BTreeSet Id) (x : Id) → btree_set_len further ≡ 0 → contains id_cmp further x ≡ false
+none_further further x none = among further.keys none
+  where
+    among : (ids : List Id) → length ids ≡ 0 → list_any (is_at (id_cmp x)) ids ≡ false
+    among [] e = refl
+    among (y ∷ ids) e = absurd cc
 
 -- another id is added to the further ones
 pub added_further : (agents : List (List ℕ)) (counts : List ℕ) (further more : Id → Bool) (x y : Id) → ((z : Id) → more z ≡ cond (id_eq x z) true (further z))

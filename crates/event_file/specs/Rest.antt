@@ -1,15 +1,20 @@
 -- What is still to come of a file.
 use Rattle.std.specs.Prelude.{◌≡◌, ℕ, suc, List, [], ◌∷◌, ◌++◌, length, drop, Option, Some, None, Result, Ok, Err}
+use Rattle.ew_model.specs.declared.id.Id.{Id}
+use Rattle.ew_model.specs.declared.event.Op.{Op}
 use Rattle.ew_model.specs.declared.event.Event.{Event}
 use Rattle.ew_model.specs.FileFaults.{FileFinding, go_on, finding_of, read_records, read_end}
 use Rattle.ew_model.specs.FileFaults.FileFinding.{IsFile, Short, BadMagic, BadVersion, BadDigest, BadRecord, TooMany}
+use Rattle.history_words.specs.Chains.{event_behind}
 use Rattle.event_file.specs.declared.fault.FileFault.{FileFault}
 use Rattle.event_file.specs.Faults.{IsFault}
 
--- what a reader has still to hand out: so many records, and what is found of them and of the end behind them
+-- what a reader has still to hand out: so many records, and what is found of them and of the end behind them; and the id of the
+-- event that was handed out last, if one was
 pub record Rest : Type 0 where
   pub records : ℕ
   pub found : FileFinding
+  pub last : Option Id
 
 -- the same finding, without the first of its events
 abbrev pub beyond : ℕ → FileFinding → FileFinding
@@ -37,6 +42,12 @@ rest_found agents before records len bytes = beyond (length before) (finding_of 
 
 -- the next event of the rest, its end, or its fault; only an event changes what is still to come
 abbrev pub IsNext : Result (Option Event) FileFault → Rest → Rest → Type 0
-IsNext (Ok (Some e)) old new = (old.found ≡ in_front (e ∷ []) new.found) × (old.records ≡ suc new.records)
+IsNext (Ok (Some e)) old new = (old.found ≡ in_front (e ∷ []) new.found) × (old.records ≡ suc new.records) × (new.last ≡ Some e.id)
 IsNext (Ok None) old new = (old.found ≡ IsFile []) × (old.records ≡ 0) × (new ≡ old)
 IsNext (Err fault) old new = IsFault fault old.found × (new ≡ old)
+
+-- the next event of the rest goes on from the last one, with this operation, and is handed out
+pub record GoesOnBy (op : Op) (old new : Rest) : Type 0 where
+  pub last : Id
+  pub is_last : old.last ≡ Some last
+  pub next : IsNext (Ok (Some (event_behind last op))) old new

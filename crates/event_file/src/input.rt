@@ -1,12 +1,14 @@
 //! The content of a file as it is read, and the fields that stand in it.
 
-ghost use Rattle.std.specs.Prelude.{◌≡◌};
+ghost use Rattle.std.specs.Prelude.{◌≡◌, true, Ok};
 ghost use Rattle.ew_model.specs.FileFaults.{byte, number, field, only, is_scalar, read_name, read_op};
 ghost use Rattle.ew_model.specs.FileFaults.RecordFault.{Scalar};
+ghost use Rattle.event_file.specs.Progress.{BeginsBy};
 ghost use Rattle.event_file.specs.Reading.{Gives};
 
 use crate::fault::{RecordFault, Stop, bad_field};
 use crate::format::{DELETION, INSERTION};
+use crate::short_id::ShortId;
 use ew_model::event::Op;
 use ew_model::name::{LONGEST_NAME, Name};
 
@@ -39,6 +41,37 @@ impl<'a> Input<'a> {
         let (digits, left) = self.left.split_at(4);
         self.left = left;
         Ok(u32::from_le_bytes([digits[0], digits[1], digits[2], digits[3]]))
+    }
+
+    /// Whether this byte comes next. Then it is taken off; else some bytes may be.
+    fn is_byte(&mut self, b: u8) -> bool
+        ensures { result ≡ true → byte self.old.left.now ≡ Ok (b, self.new.left.now) }
+    {
+        match self.byte() {
+            Ok(found) => found == b,
+            Err(_) => false,
+        }
+    }
+
+    /// Whether this number comes next. Then it is taken off; else some bytes may be.
+    fn is_number(&mut self, n: usize) -> bool
+        ensures { result ≡ true → number self.old.left.now ≡ Ok (n, self.new.left.now) }
+    {
+        match self.number() {
+            Ok(found) => found as usize == n,
+            Err(_) => false,
+        }
+    }
+
+    /// Whether a record comes next that has this id and one parent, at this position. Then all before its operation is taken off;
+    /// else some bytes may be.
+    pub(crate) fn begins(&mut self, id: ShortId, parent: usize) -> bool
+        ensures { result ≡ true → BeginsBy id.agent id.seq parent self.old.left.now self.new.left.now }
+    {
+        self.is_number(id.agent as usize)
+            && self.is_number(id.seq as usize)
+            && self.is_byte(1)
+            && self.is_number(parent)
     }
 
     /// A name behind its length.

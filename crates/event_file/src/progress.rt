@@ -1,21 +1,22 @@
 //! What is read of a content so far.
 
-ghost use Rattle.std.specs.Prelude.{◌≡◌, [], ◌∷◌, ◌++◌, true, not, nat_le, cond, get_or, slice_get, Some, None, OnOk, OnErr, IfOk};
+ghost use Rattle.std.specs.Prelude.{◌≡◌, [], ◌∷◌, ◌++◌, true, false, not, nat_le, cond, get_or, slice_get, Some, None, OnOk, OnErr, IfOk, IfSome, IfNone};
 ghost use Rattle.ew_model.specs.Ids.{name_eq, ids_ascend};
 ghost use Rattle.ew_model.specs.Ancestors.{ids_of, is_held};
 ghost use Rattle.ew_model.specs.Distinct.{AreDistinct};
+ghost use Rattle.ew_model.specs.File.{agents_of};
 ghost use Rattle.ew_model.specs.FileFaults.{field, only, number, byte, open_agents, read_parents, read_record, read_end};
 ghost use Rattle.ew_model.specs.FileFaults.RecordFault.{AgentNumber, IdTwice, ParentCount, ParentPosition, ParentOrder};
 ghost use Rattle.event_file.specs.Reading.{Gives};
-ghost use Rattle.event_file.specs.Known.{known_by};
-ghost use Rattle.event_file.specs.Progress.{Known, IsOpenAt};
+ghost use Rattle.event_file.specs.Known.{known_by, id_by};
+ghost use Rattle.event_file.specs.Progress.{Known, IsOpenAt, IsLast, ReadsOn};
 
 use crate::fault::{RecordFault, Stop, bad_field};
 use crate::input::Input;
 use crate::seen::SeenIds;
 use crate::short_id::ShortId;
 use ew_model::NoMem;
-use ew_model::event::Event;
+use ew_model::event::{Event, Op};
 use ew_model::id::Id;
 use ew_model::name::Name;
 use ew_model::parents::Parents;
@@ -91,6 +92,31 @@ impl Progress {
         Ok(event)
     }
 
+    /// The operation of a record whose event goes on from the last one. Then its id is kept. None where the record says something
+    /// else or can't be read, where the counts don't tell that the id is new, or where memory is wanting: then nothing changes.
+    pub(crate) fn go_on(&mut self, input: &mut Input) -> Option<Op>
+        ensures some { IfSome result (λ op. ReadsOn op self.old self.new input.old.left.now input.new.left.now) }
+        ensures none { IfNone result ((self.new ≡ self.old) × (input.new.left.now ≡ input.old.left.now)) }
+    {
+        let (position, last) = self.last()?;
+        let next = ShortId {
+            agent: last.agent,
+            seq: last.seq.checked_add(1)?,
+        };
+        let mut ahead = Input { left: input.left };
+        if !ahead.begins(next, position) {
+            return None;
+        }
+        let Ok(op) = ahead.operation() else {
+            return None;
+        };
+        if !self.keep_next(next) {
+            return None;
+        }
+        input.left = ahead.left;
+        Some(op)
+    }
+
     /// Whether nothing is left, and each agent has an event.
     #[tactic(auto, unfolding(ew_model::specs::FileFaults::read_end))]
     pub(crate) fn end(&self, input: &Input) -> Result<(), Stop>
@@ -122,6 +148,35 @@ impl Progress {
             self.used += 1;
         }
         Ok(())
+    }
+
+    /// Keeps an id of an agent that has an event, where the counts tell that it is new, and memory isn't wanting. Else nothing changes.
+    fn keep_next(&mut self, next: ShortId) -> bool
+        requires { slice_get (agents_of self.old.events) next.agent ≡ Some (get_or self.old.agents next.agent []) }
+        ensures new { result ≡ true → is_held self.old.events (id_by self.old.agents next) ≡ false }
+        ensures yes { result ≡ true → self.new ≡ record { agents = self.old.agents; events = self.old.events ++ known_by (id_by self.old.agents next) ∷ [] } }
+        ensures no { result ≡ false → self.new ≡ self.old }
+    {
+        if self.ids.reserve(1).is_err() {
+            return false;
+        }
+        if !self.seen.insert_next(next.agent as usize, next.seq) {
+            return false;
+        }
+        self.ids.push_reserved(next);
+        true
+    }
+
+    /// The last id and its position, if there is one. Its agent has an event, and stands among the agents that do.
+    fn last(&self) -> Option<(usize, ShortId)>
+        ensures { IfSome result (λ found. IsLast self.now found.0 found.1) }
+    {
+        let position = self.ids.len().checked_sub(1)?;
+        let last = self.ids[position];
+        if last.agent as usize >= self.used {
+            return None;
+        }
+        Some((position, last))
     }
 
     /// The place of a record's agent: one that has an event, or the next.

@@ -1,24 +1,24 @@
 //! Reading an event file one event at a time.
 
-ghost use Rattle.std.specs.Prelude.{◌≡◌, ◌≤◌, length, drop, IfOk, MatchResult};
+ghost use Rattle.std.specs.Prelude.{◌≡◌, ◌≤◌, length, drop, None, IfOk, IfSome, IfNone, MatchResult};
 ghost use Rattle.ew_model.specs.FileFaults.{read_events, finding_of, content_finding, file_finding};
 ghost use Rattle.event_file.specs.Faults.{IsFault};
 ghost use Rattle.event_file.specs.Reading.{Stops, IsStop};
-ghost use Rattle.event_file.specs.Rest.{IsNext};
+ghost use Rattle.event_file.specs.Rest.{IsNext, GoesOnBy};
 
 use crate::fault::{FileFault, Stop};
 use crate::format::{DIGEST_LEN, MARK, SHORTEST, VERSION};
 use crate::input::Input;
 use crate::names::read_names;
 use crate::progress::Progress;
-use ew_model::event::Event;
+use ew_model::event::{Event, Op};
 use ew_model::id::Id;
 use sha2::{Digest, Sha256};
 use std::alloc::Global;
 use std::marker::Model;
 
 /// The events of a file's bytes, one at a time. Of those that were handed out only the ids are kept, in eight bytes each.
-/// Contracts see how many records are still to come, and what is found of them.
+/// Contracts see how many records are still to come, what is found of them, and the id that was handed out last.
 #[derive(Drop)]
 pub struct EventReader<'a> {
     progress: Progress,
@@ -30,11 +30,12 @@ pub struct EventReader<'a> {
 }
 
 impl<'a> Model for EventReader<'a> {
+    ghost use Rattle.history_words.specs.Chains.{last_id};
     ghost use Rattle.event_file.specs.Rest.{Rest, rest_found};
 
     ghost Value = { Rest };
 
-    ghost view = { λ r. record { records = r.left; found = rest_found r.progress.agents r.progress.events r.left r.len r.input.left.now } };
+    ghost view = { λ r. record { records = r.left; found = rest_found r.progress.agents r.progress.events r.left r.len r.input.left.now; last = last_id r.progress.events } };
 }
 
 impl<'a> EventReader<'a> {
@@ -45,6 +46,7 @@ impl<'a> EventReader<'a> {
         // What is still to come is what is found of the file; a fault is the file's.
         ensures found { MatchResult result (λ r. r.found ≡ file_finding max_events b.now) (λ fault. IsFault fault (file_finding max_events b.now)) }
         ensures few { IfOk result (λ r. r.records ≤ max_events) }
+        ensures first { IfOk result (λ r. r.last ≡ None) }
     {
         if b.len() < SHORTEST {
             return Err(FileFault::Short {
@@ -88,6 +90,22 @@ impl<'a> EventReader<'a> {
             Err(stop) => Err(fault_of(stop, self.len)),
         }
     }
+
+    /// The operation of the next event, where that is the next one of the last event's agent and has the last event as its only
+    /// parent. None where the next record says something else, or can't be read, or memory is wanting, or there is none, or where
+    /// what is kept of the ids doesn't tell at once that its id is new: then nothing has changed, and `next` tells more. When
+    /// it is None isn't promised.
+    pub fn go_on(&mut self) -> Option<Op>
+        ensures some { IfSome result (λ op. GoesOnBy op self.old self.new) }
+        ensures none { IfNone result (self.new ≡ self.old) }
+    {
+        if self.left == 0 {
+            return None;
+        }
+        let op = self.progress.go_on(&mut self.input)?;
+        self.left -= 1;
+        Some(op)
+    }
 }
 
 /// A reader of what stands before the digest, the version included.
@@ -104,6 +122,7 @@ fn open_content<'a>(
         (λ r. r.found ≡ content_finding max_events content.now digest.now)
         (λ fault. IsFault fault (content_finding max_events content.now digest.now)) }
     ensures few { IfOk result (λ r. r.records ≤ max_events) }
+    ensures first { IfOk result (λ r. r.last ≡ None) }
 {
     let found = Sha256::digest(content);
     if digest != &found[..] {
@@ -125,6 +144,7 @@ fn open_records(alloc: Global, content: &[u8], max_events: u32) -> Result<EventR
         (λ r. r.found ≡ finding_of (length content.now) (read_events max_events (drop 8 content.now)))
         (λ stop. Stops stop (read_events max_events (drop 8 content.now))) }
     ensures few { IfOk result (λ r. r.records ≤ max_events) }
+    ensures first { IfOk result (λ r. r.last ≡ None) }
 {
     let mut input = Input {
         left: &content[8..],

@@ -61,4 +61,23 @@ impl SeenIds {
         }
         Ok(())
     }
+
+    /// Adds the id with this number of the agent at this place, where the agent's count tells that it is the next one, and no
+    /// id is kept beside the counts. Else nothing is added.
+    pub(crate) fn insert_next(&mut self, place: usize, seq: u32) -> bool
+        requires { place < length self.old.counts.items }
+        ensures added { result ≡ true → (agents : List (List ℕ)) (name : List ℕ) → AreDistinct name_eq agents → slice_get agents place ≡ Some name → (x : Id)
+            → is_seen agents self.new.counts.items (contains id_cmp self.new.further) x
+            ≡ cond (id_eq (record { agent = name; seq = seq }) x) true (is_seen agents self.old.counts.items (contains id_cmp self.old.further) x) }
+        ensures unseen { result ≡ true → (agents : List (List ℕ)) (name : List ℕ) → AreDistinct name_eq agents → slice_get agents place ≡ Some name
+            → is_seen agents self.old.counts.items (contains id_cmp self.old.further) (record { agent = name; seq = seq }) ≡ false }
+        ensures counts { length self.new.counts.items ≡ length self.old.counts.items }
+        ensures kept { result ≡ false → (self.new.counts.items ≡ self.old.counts.items) × ((x : Id) → contains id_cmp self.new.further x ≡ contains id_cmp self.old.further x) }
+    {
+        if self.counts[place] != seq || seq == u32::MAX || !self.further.is_empty() {
+            return false;
+        }
+        self.counts[place] = seq + 1;
+        true
+    }
 }

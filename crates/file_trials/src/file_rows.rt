@@ -2,7 +2,7 @@
 
 ghost use Rattle.std.specs.Prelude.{◌<◌};
 
-use event_file::{FileFault, decode, encode};
+use event_file::{EventReader, FileFault, decode, encode};
 use ew_model::NoMem;
 use ew_model::event::Event;
 use sha2::{Digest, Sha256};
@@ -64,6 +64,7 @@ fn answer(alloc: Global, base: &Base, asked: &str) -> Result<String, Fault> {
     match verb {
         "read" => read(alloc, base, rest),
         "cut" => cut(alloc, base),
+        "alone" => alone(alloc, base, rest),
         "written" => written(alloc, base, rest),
         "digest" => digest(alloc, base),
         _ => Err(Fault::Unreadable),
@@ -153,6 +154,45 @@ fn cut_at(alloc: Global, file: &[u8]) -> usize
         Err(FileFault::Short { len }) if len == file.len() as u64 => 0,
         Err(FileFault::BadDigest { stored, .. }) if file.ends_with(&stored) => 1,
         _ => 2,
+    }
+}
+
+/// Reads the changed content, closed by its digest, one event at a time. Answers how many operations are handed out alone, where
+/// the events are those that are read as a whole.
+fn alone(alloc: Global, base: &Base, words: &str) -> Result<String, Fault> {
+    let content = changed(alloc, &base.content, words)?;
+    let file = closed(alloc, &content)?;
+    let events = read_with(decode(alloc, &file, 9))?;
+    let mut reader = read_with(EventReader::new(alloc, &file, 9))?;
+    let mut count: u32 = 0;
+    for event in &events {
+        if is_alone(&mut reader, event)? {
+            count = count.saturating_add(1);
+        }
+    }
+    Ok(format!(in alloc; "{count}")?)
+}
+
+/// Whether the operation of the next event, which must be this one, is handed out alone.
+fn is_alone(reader: &mut EventReader, event: &Event) -> Result<bool, Fault> {
+    if let Some(op) = reader.go_on() {
+        return if op.same(&event.op) {
+            Ok(true)
+        } else {
+            Err(Fault::Unreadable)
+        };
+    }
+    match read_with(reader.next())? {
+        Some(next) if next.same(event) => Ok(false),
+        _ => Err(Fault::Unreadable),
+    }
+}
+
+fn read_with<T: Drop>(read: Result<T, FileFault>) -> Result<T, Fault> {
+    match read {
+        Ok(value) => Ok(value),
+        Err(FileFault::OutOfMemory) => Err(Fault::OutOfMemory),
+        Err(_) => Err(Fault::Unreadable),
     }
 }
 

@@ -1,3 +1,4 @@
+pub mod Chains
 pub mod Listings
 pub mod Replays
 pub mod Tallies

@@ -1,8 +1,10 @@
 use Rattle.std.proofs.Common.{◌≡◌, ℕ, suc, ◌<◌, ◌-◌, List, [], ◌∷◌, refl, sym, ap, ◌∙◌, subst, arith}
-use Rattle.ew_model.specs.FileFaults.{FileFinding}
 use Rattle.event_file.specs.Faults.{IsFault}
+use Rattle.event_file.specs.Known.{known_by}
+use Rattle.history_words.specs.Chains.{last_id}
 use Rattle.event_file.specs.Progress.{Known}
 use Rattle.event_file.specs.Rest.{Rest, in_front, rest_found}
+use Rattle.event_file.proofs.Known.{last_more}
 use Rattle.event_file.proofs.Rest.{goes_on, faults, ends, end_faults}
 use Rattle.event_file.proofs.reader.EventReader.next_in.Goals as goal
 
@@ -15,6 +17,7 @@ returns-in-Ok c =
     let count : i.left ≡ suc (i.left - 1) = omega (arith, more) in (
       ap (λ (r : Rest). r.found) (sym c.self.view_is) ∙ goes_on i.progress.agents i.progress.events i.left i.len i.input.left.now c.next.new.input.left.now e more c.in-Ok.ensures.exact ∙ kept,
       ap (λ (r : Rest). r.records) (sym c.self.view_is) ∙ count,
+      ap (λ (k : Known). last_id k.events) c.in-Ok.ensures.kept ∙ last_more i.progress.events (known_by e.id),
     )
 
 pub returns-in-Err-next : goal.returns-in-Err-next
@@ -22,10 +25,9 @@ returns-in-Err-next c =
     let i = c.self.inside in
     let fault = c.fault_of-in-Err-next.result in
     let more : 0 < i.left = omega (arith, c.if-self-eq0.false) in
-    let same = ap (λ (k : Known). rest_found k.agents k.events i.left i.len c.next.new.input.left.now) c.in-Err-next.ensures.err.0 ∙ ap (λ (b : List ℕ). rest_found i.progress.agents i.progress.events i.left i.len b) c.in-Err-next.ensures.err.1 in
-    let whole : FileFinding → Rest = λ f. record { records = i.left; found = f } in (
+    let rest : Known → List ℕ → Rest = λ k b. record { records = i.left; found = rest_found k.agents k.events i.left i.len b; last = last_id k.events } in (
       subst (IsFault fault) (ap (λ (r : Rest). r.found) c.self.view_is) (faults c.in-Err-next.stop fault i.progress.agents i.progress.events i.left i.len i.input.left.now more c.in-Err-next.ensures.exact c.fault_of-in-Err-next.ensures),
-      ap whole same ∙ c.self.view_is,
+      ap (λ k. rest k c.next.new.input.left.now) c.in-Err-next.ensures.err.0 ∙ ap (rest i.progress) c.in-Err-next.ensures.err.1 ∙ c.self.view_is,
     )
 
 pub returns-in-Err : goal.returns-in-Err
