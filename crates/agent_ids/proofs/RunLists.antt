@@ -179,15 +179,6 @@ last_ends (y ∷ []) start end (suc at) x r long e = absurd (omega (arith, long)
 last_ends (y ∷ z ∷ runs) start end zero x r long e = absurd (omega (arith, long))
 last_ends (y ∷ z ∷ runs) start end (suc at) x r long e = last_ends (z ∷ runs) (start + suc y.more) end at x r.3 (omega (arith, long)) e
 
--- the last id is that of the last run
-pub last_in : (runs : List IdRun) (end place : ℕ) (x : IdRun) → AreRuns 0 runs end → length runs ≡ suc place → slice_get runs place ≡ Some x → slice_get (ids_in runs) (length (ids_in runs) - 1) ≡ Some (last_of x)
-last_in runs end place x r long e =
-    let stop = last_ends runs 0 end place x r long e in
-    let all = length_in runs 0 end r in
-    let last = length (ids_in runs) - 1 in
-    let top : last - x.start ≡ x.more = omega (arith, stop, all) in
-    read_run runs 0 end last place last x r e (omega (arith, stop, all)) (omega (arith, stop, all)) (omega arith) ∙ ap (λ k. Some (id_with x.agent (x.seq + k))) top
-
 abbrev IsCutAt : List IdRun → List IdRun → ℕ → ℕ → IdRun → Type 0
 IsCutAt runs less start place x = (ids_in runs ≡ ids_in less ++ block x.agent (x.seq + (place - x.start)) (suc (x.start + x.more - place))) × AreRuns start less place
 

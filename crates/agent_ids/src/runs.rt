@@ -1,10 +1,10 @@
 //! Ids in runs.
 
-ghost use Rattle.std.specs.Prelude.{◌≡◌, ◌↔◌, ℕ, suc, ◌+◌, ◌-◌, ◌<◌, ◌≤◌, ◌^◌, Bool, true, List, [], ◌∷◌, ◌++◌, take, length, Some, slice_get, IsTrue, IsSomeAnd, OnOk, OnErr};
+ghost use Rattle.std.specs.Prelude.{◌≡◌, ◌↔◌, ℕ, suc, ◌+◌, ◌<◌, ◌≤◌, ◌^◌, Bool, true, List, [], ◌∷◌, ◌++◌, take, length, Some, slice_get, IsTrue, IsSomeAnd, OnOk, OnErr};
 ghost use Rattle.std.specs.List.{AllWithin};
 ghost use Rattle.ew_model.specs.declared.id.Id.{Id};
 ghost use Rattle.agent_ids.specs.declared.runs.IdRun.{IdRun};
-ghost use Rattle.agent_ids.specs.IdRuns.{id_runs, id_with, ids_in, last_of, AreRuns, goes_on, with_more, shortened, ids_from, IsHeldAt};
+ghost use Rattle.agent_ids.specs.IdRuns.{id_runs, id_with, ids_in, AreRuns, goes_on, with_more, shortened, ids_from, IsHeldAt};
 
 use ew_model::NoMem;
 use ew_model::id::Id;
@@ -82,14 +82,6 @@ impl IdRuns {
             agent: run.agent,
             seq: run.seq + (place - run.start),
         }
-    }
-
-    /// Whether the id is the last one.
-    pub fn is_last(&self, id: &Id) -> bool
-        ensures { IsTrue result ↔ (slice_get self.now (length self.now - 1) ≡ Some id.now) }
-    {
-        let _count = self.count;
-        ends_with(&self.runs, id)
     }
 
     /// Puts one more id behind the others.
@@ -215,25 +207,6 @@ fn is_behind(run: &IdRun, id: &Id) -> bool
 {
     let last = run.seq + run.more;
     last < id.seq && id.seq - last == 1 && id.agent.is(&run.agent)
-}
-
-/// Whether the id is the last one of the runs.
-fn ends_with(runs: &[IdRun], id: &Id) -> bool
-    requires { (end : ℕ) × AreRuns 0 runs.now end }
-    ensures { IsTrue result ↔ (slice_get (ids_in runs.now) (length (ids_in runs.now) - 1) ≡ Some id.now) }
-{
-    match runs.last() {
-        Some(run) => is_end(run, id),
-        None => false,
-    }
-}
-
-/// Whether the id is the last one of a run. Names are compared only where the numbers fit.
-fn is_end(run: &IdRun, id: &Id) -> bool
-    requires { run.now.seq + run.now.more < 2 ^ 32 }
-    ensures { IsTrue result ↔ (id.now ≡ last_of run.now) }
-{
-    id.seq == run.seq + run.more && id.agent.is(&run.agent)
 }
 
 /// Gives the last run one id more.

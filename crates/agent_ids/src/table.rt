@@ -1,6 +1,6 @@
 //! The table of ids.
 
-ghost use Rattle.std.specs.Prelude.{◌≡◌, ◌↔◌, ℕ, suc, ◌+◌, ◌-◌, ◌<◌, ◌≤◌, ◌^◌, List, [], ◌∷◌, ◌++◌, length, take, Some, OnOk, OnErr, IsOkAnd, IfSome, IfNone, MatchOption, IsTrue, false, nat_eq, slice_get, position};
+ghost use Rattle.std.specs.Prelude.{◌≡◌, ℕ, suc, ◌+◌, ◌<◌, ◌≤◌, ◌^◌, List, [], ◌∷◌, ◌++◌, length, take, Some, OnOk, OnErr, IsOkAnd, IfSome, IfNone, MatchOption, IsTrue, false, nat_eq, slice_get, position};
 ghost use Rattle.std.specs.List.{All};
 ghost use Rattle.std.specs.Cmp.Lexicographic.{pointwise};
 ghost use Rattle.std.specs.Vec.{vec_len};
@@ -120,13 +120,6 @@ impl AgentTable {
         ensures { slice_get self.now lv ≡ Some result }
     {
         self.ids.get_near(lv, near)
-    }
-
-    /// Whether the id is the last one.
-    pub fn is_last(&self, id: &Id) -> bool
-        ensures { IsTrue result ↔ (slice_get self.now (length self.now - 1) ≡ Some id.now) }
-    {
-        self.ids.is_last(id)
     }
 
     /// How many runs of neighbours of one agent there are. In a table the numbers in a run follow on each other, so an id goes on

@@ -1,19 +1,21 @@
 -- No row holds for an event that goes on right behind the last one.
-use Rattle.std.proofs.Common.{◌≡◌, ℕ, suc, ◌+◌, ◌-◌, ◌<◌, nat_lt, Bool, true, false, not, cond, ◌&&◌, ◌||◌, List, [], ◌∷◌, ◌++◌, find, length, position, Option, Some, None, option_map, refl, sym, ap, ◌∙◌, subst, arith, nat_cmp, IsSorted}
+use Rattle.std.proofs.Common.{◌≡◌, ℕ, suc, ◌+◌, ◌-◌, ◌<◌, ◌≤◌, nat_lt, Bool, true, false, not, cond, ◌&&◌, ◌||◌, List, [], ◌∷◌, ◌++◌, find, length, length-append, position, Option, Some, None, option_map, refl, sym, ap, ◌∙◌, subst, arith, nat_cmp, IsSorted}
 use Rattle.std.specs.Prelude.{slice_get}
 use Rattle.std.specs.Bool.{then_some}
 use Rattle.std.specs.List.Sorted.{IsPermutation}
-use Rattle.std.specs.Option.{option_to_list}
+use Rattle.std.specs.Option.{option_to_list, unwrap_or}
 use Rattle.std.proofs.lemmas.Bool.{false_from_ne_true}
 use Rattle.std.proofs.lemmas.List.{length-map}
+use Rattle.std.proofs.lemmas.List.Sums.{count_by-le-length}
 use Rattle.std.proofs.lemmas.List.Sorted.{IsPermutation-refl}
 use Rattle.ew_model.specs.declared.id.Id.{Id}
+use Rattle.ew_model.specs.declared.event.Op.{Op}
 use Rattle.ew_model.specs.declared.event.Event.{Event}
-use Rattle.ew_model.specs.Ids.{id_eq, is_among, ids_ascend}
+use Rattle.ew_model.specs.Ids.{name_eq, id_eq, is_among, ids_ascend}
 use Rattle.ew_model.specs.Ancestors.{ids_of, is_held, is_reduced, ancestors}
 use Rattle.ew_model.specs.Positions.{positions_in}
-use Rattle.ew_model.specs.Verdicts.{id_rows, parent_rows, has_number_below, follows_its_agent}
-use Rattle.ew_model.specs.Verdicts.Ruling.{SelfParent, TooManyParents, ParentsUnsorted, Unknown, NotReduced, Skipped}
+use Rattle.ew_model.specs.Verdicts.{Ruling, id_rows, parent_rows, has_number_below, follows_its_agent, graph_verdict}
+use Rattle.ew_model.specs.Verdicts.Ruling.{SelfParent, TooManyParents, ParentsUnsorted, Unknown, NotReduced, Skipped, Good}
 use Rattle.ew_model.proofs.CoverLaws.{ids_alike, event_of, held_by}
 use Rattle.ew_model.proofs.GoodLaws.{no_parent}
 use Rattle.ew_model.proofs.GraphVersions.{taken_named}
@@ -21,8 +23,10 @@ use Rattle.ew_model.proofs.IdLaws.{is_same_id}
 use Rattle.agent_ids.specs.Agents.{count_of, AreNumbered}
 use Rattle.agent_ids.proofs.Agents.{names_alike, count_push}
 use Rattle.agent_ids.proofs.Numbers.{numbered_next}
+use Rattle.history_words.specs.Chains.{event_behind, next_id, last_id}
 use Rattle.event_graph.specs.Finding.{found_in}
-use Rattle.event_graph.specs.GoingOn.{last_id, next_id, GoesOn}
+use Rattle.event_graph.specs.GoingOn.{GoesOn}
+use Rattle.event_graph.specs.Joining.{IsGoodBehind, event_on}
 use Rattle.event_graph.specs.Keeping.{IsAdmitted}
 use Rattle.event_graph.specs.Rows.{row_in}
 use Rattle.event_graph.proofs.Admitted.{laid}
@@ -31,7 +35,15 @@ use Rattle.event_graph.proofs.Found.{sorted_found}
 use Rattle.event_graph.proofs.IdRows.{row_of_unheld}
 use Rattle.event_graph.proofs.Numbers.{below_count, numbered_ids}
 use Rattle.event_graph.proofs.Places.{place_of}
-use Rattle.event_graph.proofs.RowLaws.{row_in-none}
+use Rattle.event_graph.proofs.RowLaws.{first_row-alone, row_in-none}
+
+-- the last event of a history is the one that came behind the others
+pub last_pushed : (history : List Event) (e : Event) → last_id (history ++ e ∷ []) ≡ Some e.id
+last_pushed [] e = refl
+last_pushed (f ∷ history) e =
+    let long = length-append history (e ∷ []) in
+    let place : length (f ∷ (history ++ e ∷ [])) - 1 ≡ suc (length (history ++ e ∷ []) - 1) = omega (arith, long) in
+    ap (slice_get (ids_of (f ∷ (history ++ e ∷ [])))) place ∙ last_pushed history e
 
 -- the last of some ids stands behind the others
 last_split : (ids : List Id) (x : Id) → slice_get ids (length ids - 1) ≡ Some x → (front : List Id) × (ids ≡ front ++ x ∷ [])
@@ -123,3 +135,26 @@ last_alone history x admitted last =
     let place : position (id_eq x) (ids_of history) ≡ Some q = ap (λ y. position (id_eq y) (ids_of history)) (sym f.2) ∙ place_of history there q f.0 f.1 in
     let found : found_in history (x ∷ []) ≡ q ∷ [] = ap (λ (o : Option ℕ). option_to_list o ++ []) place in
     sorted_found history (x ∷ []) (q ∷ []) there refl (subst (λ ps. IsPermutation ps (q ∷ [])) (sym found) (IsPermutation-refl (q ∷ []))) (one_sorted q)
+
+-- THE NEXT of the last event's agent, with that event as its only parent, is good.
+module _ (history : List Event) (admitted : IsAdmitted history) (x : Id) (last : last_id history ≡ Some x) where
+  pub next_behind : (place : ℕ) (id : Id) (op : Op) → place ≡ length history - 1 → id ≡ next_id x → IsGoodBehind history (place ∷ []) (event_on id op (x ∷ []))
+  next_behind place id op there next =
+      let e = event_on id op (x ∷ []) in
+      let rows = id_rows history [] e ++ parent_rows history e in
+      record {
+        good = first_row-alone rows ∙ ap (λ (o : Option Ruling). unwrap_or o Good) (none_holds history e admitted (x, last, next, refl));
+        placed = ap (λ n. n ∷ []) there ∙ last_alone history x admitted last;
+      }
+
+  pub good_behind : (op : Op) → graph_verdict history (event_behind x op) ≡ Good
+  good_behind op = (next_behind (length history - 1) (next_id x) op refl refl).good
+
+  -- its number is at most how many events there are
+  pub next_few : suc x.seq ≤ length history
+  next_few =
+      let parts = split history admitted x last in
+      let own : x.seq ≡ count_of parts.0 x.agent = numbered_next parts.0 x [] (subst AreNumbered parts.1 (numbered_ids history admitted)) in
+      let few = count_by-le-length (λ (y : Id). name_eq y.agent x.agent) parts.0 in
+      let all = ap (length {A = Id}) parts.1 in
+      omega (arith, own, few, all, length-append parts.0 (x ∷ []), length-map history (λ (e : Event). e.id))

@@ -1,5 +1,6 @@
 pub mod Finding
 pub mod GoingOn
+pub mod Joining
 pub mod Keeping
 pub mod Missing
 pub mod Rows

@@ -3,6 +3,7 @@
 ghost use Rattle.std.specs.Prelude.{◌≡◌, ◌≢◌, ℕ, ◌+◌, ◌<◌, ◌≤◌, ◌^◌, List, [], ◌∷◌, ◌++◌, map, length, true, Some, slice_get, position, find, not, option_map, IfOk, IfSome, IsOkAnd, OnOk, OnErr};
 ghost use Rattle.std.specs.List.{All};
 ghost use Rattle.std.specs.Option.{option_copied};
+ghost use Rattle.ew_model.specs.declared.id.Id.{Id};
 ghost use Rattle.ew_model.specs.declared.event.Event.{Event};
 ghost use Rattle.ew_model.specs.Ancestors as model;
 ghost use Rattle.ew_model.specs.Answers.{ruling_of};
@@ -17,6 +18,7 @@ ghost use Rattle.ancestors.specs.Floors.{HasAllBelow};
 ghost use Rattle.ancestors.specs.Spans as spans;
 ghost use Rattle.event_graph.specs.Keeping.{IsAdmitted};
 ghost use Rattle.event_graph.specs.Finding.{found_in};
+ghost use Rattle.event_graph.specs.Joining.{IsGoodBehind, event_on};
 ghost use Rattle.event_graph.specs.Rows.{row_in};
 ghost use Rattle.event_graph.specs.Summary.{summary_of};
 
@@ -153,6 +155,15 @@ impl Graph {
         ensures { slice_get (model.ids_of self.now) lv ≡ Some result }
     {
         self.ids.id_near(lv, &mut near.id)
+    }
+
+    /// The id of the event at a position, which is sought first among the last ids.
+    pub(crate) fn id_from_end(&self, lv: u32) -> Id
+        requires { lv < length self.now }
+        ensures { slice_get (model.ids_of self.now) lv ≡ Some result }
+    {
+        let mut near = self.ids.runs().saturating_sub(1) as usize;
+        self.ids.id_near(lv, &mut near)
     }
 
     /// The operation of the event at a position.
@@ -379,38 +390,36 @@ impl Graph {
     {
         let parents = e.parents.as_slice();
         match self.find_last(parents) {
-            Some(last) => self.put(e, &[last]),
+            Some(last) => self.put(e.id, e.op, &[last]),
             None => {
                 let positions = self.positions_of(parents)?;
-                self.put(e, positions.as_slice())
+                self.put(e.id, e.op, positions.as_slice())
             }
         }
     }
 
-    /// Puts an event behind the others whose parents stand at these positions.
-    fn put(&mut self, e: &Event, positions: &[u32]) -> Result<(), NoMem>
-        requires good { graph_verdict self.old e.now ≡ Good }
+    /// Puts the event behind the others that has this id and operation, and whose parents stand at these positions.
+    pub(crate) fn put(&mut self, id: Id, op: Op, positions: &[u32]) -> Result<(), NoMem>
+        requires next { (parents : List Id) × IsGoodBehind self.old positions.now (event_on id op parents) }
         requires room { length self.old + 1 < 2 ^ 32 }
-        requires parents { positions.now ≡ positions_in self.old e.now.parents }
-        ensures ok { OnOk result (self.new ≡ self.old ++ e.now ∷ []) }
+        ensures ok { OnOk result ((parents : List Id) → IsGoodBehind self.old positions.now (event_on id op parents) → self.new ≡ self.old ++ event_on id op parents ∷ []) }
         ensures err { OnErr result (self.new ≡ self.old) }
     {
-        fits(e);
+        fits(&id, &op);
         if self.heads.equals(positions) {
-            self.put_on_heads(e, positions)
+            self.put_on_heads(id, op, positions)
         } else {
-            self.put_apart(e, positions)
+            self.put_apart(id, op, positions)
         }
     }
 
-    /// Puts an event behind the others whose parents are all the heads. Then it is the only head.
-    fn put_on_heads(&mut self, e: &Event, positions: &[u32]) -> Result<(), NoMem>
-        requires good { graph_verdict self.old e.now ≡ Good }
+    /// The same where the parents are all the heads. Then it is the only head.
+    fn put_on_heads(&mut self, id: Id, op: Op, positions: &[u32]) -> Result<(), NoMem>
+        requires next { (parents : List Id) × IsGoodBehind self.old positions.now (event_on id op parents) }
         requires room { length self.old + 1 < 2 ^ 32 }
-        requires sound { IsSound e.now }
-        requires parents { positions.now ≡ positions_in self.old e.now.parents }
+        requires sound { (parents : List Id) → IsGoodBehind self.old positions.now (event_on id op parents) → IsSound (event_on id op parents) }
         requires heads { positions.now ≡ positions_in self.old (model.heads self.old) }
-        ensures ok { OnOk result (self.new ≡ self.old ++ e.now ∷ []) }
+        ensures ok { OnOk result ((parents : List Id) → IsGoodBehind self.old positions.now (event_on id op parents) → self.new ≡ self.old ++ event_on id op parents ∷ []) }
         ensures err { OnErr result (self.new ≡ self.old) }
     {
         let heads = only_head(self.alloc, self.events.count())?;
@@ -419,28 +428,29 @@ impl Graph {
             &mut self.events,
             &mut self.cuts,
             &self.heads,
-            e,
+            id,
+            op,
             positions,
         )?;
         self.heads = heads;
         Ok(())
     }
 
-    /// Puts an event behind the others whose parents aren't the heads. The heads, which may be many, aren't copied.
-    fn put_apart(&mut self, e: &Event, positions: &[u32]) -> Result<(), NoMem>
-        requires good { graph_verdict self.old e.now ≡ Good }
+    /// The same where the parents aren't the heads. The heads, which may be many, aren't copied.
+    fn put_apart(&mut self, id: Id, op: Op, positions: &[u32]) -> Result<(), NoMem>
+        requires next { (parents : List Id) × IsGoodBehind self.old positions.now (event_on id op parents) }
         requires room { length self.old + 1 < 2 ^ 32 }
-        requires sound { IsSound e.now }
-        requires parents { positions.now ≡ positions_in self.old e.now.parents }
+        requires sound { (parents : List Id) → IsGoodBehind self.old positions.now (event_on id op parents) → IsSound (event_on id op parents) }
         requires apart { positions.now ≢ positions_in self.old (model.heads self.old) }
-        ensures ok { OnOk result (self.new ≡ self.old ++ e.now ∷ []) }
+        ensures ok { OnOk result ((parents : List Id) → IsGoodBehind self.old positions.now (event_on id op parents) → self.new ≡ self.old ++ event_on id op parents ∷ []) }
         ensures err { OnErr result (self.new ≡ self.old) }
     {
         append_apart(
             &mut self.ids,
             &mut self.events,
             &mut self.heads,
-            e,
+            id,
+            op,
             positions,
         )?;
         self.cuts.push_apart(positions);
@@ -458,14 +468,14 @@ impl Graph {
     }
 }
 
-/// The id and the operation of an event are in the ranges of their types.
-fn fits(e: &Event)
-    ensures id { IsSoundId e.now.id }
-    ensures op { IsSoundOp e.now.op }
+/// An id and an operation are in the ranges of their types.
+fn fits(id: &Id, op: &Op)
+    ensures id { IsSoundId id.now }
+    ensures op { IsSoundOp op.now }
 {
-    let _agent = e.id.agent.as_slice();
-    let _number = e.id.seq;
-    match e.op {
+    let _agent = id.agent.as_slice();
+    let _number = id.seq;
+    match *op {
         Op::Ins { at, ch } => {
             let _index = at;
             let _character = ch;

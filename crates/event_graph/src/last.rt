@@ -1,21 +1,24 @@
 //! The last event, and the events that go on right behind it.
 
-ghost use Rattle.std.specs.Prelude.{◌≡◌, ◌↔◌, ◌<◌, [], ◌∷◌, IfSome, IsTrue};
+ghost use Rattle.std.specs.Prelude.{◌≡◌, ◌↔◌, ◌+◌, ◌<◌, ◌^◌, [], ◌∷◌, ◌++◌, length, Some, IfSome, IsTrue, OnOk, OnErr};
+ghost use Rattle.ew_model.specs.declared.id.Id.{Id};
 ghost use Rattle.ew_model.specs.Positions.{positions_in};
-ghost use Rattle.event_graph.specs.GoingOn.{last_id, next_id, GoesOn};
+ghost use Rattle.history_words.specs.Chains.{event_behind, next_id, last_id};
+ghost use Rattle.event_graph.specs.GoingOn.{GoesOn};
 
 use crate::graph::Graph;
-use ew_model::event::Event;
+use ew_model::NoMem;
+use ew_model::event::{Event, Op};
 use ew_model::id::Id;
 
 impl Graph {
     /// The id of the last event, if there is one.
-    fn last_id(&self) -> Option<Id>
+    pub fn last_id(&self) -> Option<Id>
         ensures { result ≡ last_id self.now }
     {
         let count = self.count();
         if count > 0 {
-            Some(self.id_at(count - 1))
+            Some(self.id_from_end(count - 1))
         } else {
             None
         }
@@ -42,10 +45,28 @@ impl Graph {
             None
         }
     }
+
+    /// Puts an event behind the others that goes on from the last one: the next of its agent, with the last event as its only
+    /// parent. `judge` finds such an event good, whatever its index.
+    pub fn go_on(&mut self, op: Op) -> Result<(), NoMem>
+        requires some { 0 < length self.old }
+        requires room { length self.old + 1 < 2 ^ 32 }
+        ensures ok { OnOk result ((x : Id) × (last_id self.old ≡ Some x) × (self.new ≡ self.old ++ event_behind x op ∷ [])) }
+        ensures err { OnErr result (self.new ≡ self.old) }
+    {
+        let lv = self.count() - 1;
+        let last = self.id_from_end(lv);
+        let next = Id {
+            agent: last.agent,
+            seq: last.seq + 1,
+        };
+        self.put(next, op, &[lv])?;
+        Ok(())
+    }
 }
 
 /// Whether the second is the next id of the first one's agent.
-fn is_next(x: &Id, y: &Id) -> bool
+pub fn is_next(x: &Id, y: &Id) -> bool
     ensures { IsTrue result ↔ (y.now ≡ next_id x.now) }
 {
     x.seq < y.seq && y.seq - x.seq == 1 && y.agent.is(&x.agent)

@@ -10,4 +10,5 @@ mod parts;
 mod subgraph;
 
 pub use graph::{Graph, Tail};
+pub use last::is_next;
 pub use near::Near;

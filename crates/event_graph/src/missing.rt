@@ -15,6 +15,7 @@ use ew_model::id::Id;
 use ew_model::name::Name;
 use indexmap::IndexMap;
 use std::alloc::Global;
+use std::marker::Model;
 
 impl Graph {
     /// The events that the counts leave out, in the graph's order: those whose number isn't below the count of their agent, which
@@ -34,11 +35,11 @@ impl Graph {
         ensures events { IfOk result (λ v. events_at self.now v.items ≡ missing self.now counts.now) }
         ensures count { IfOk result (λ v. length v.items ≡ length (missing self.now counts.now)) }
     {
-        let counted = by_agent(self.alloc(), counts)?;
+        let mut counted = Counted::new(by_agent(self.alloc(), counts)?);
         let mut missing = Vec::new(self.alloc());
         let mut near = Near::start();
         for lv in 0..self.count() {
-            if !is_counted(&counted, &self.id_near(lv, &mut near)) {
+            if !counted.holds(&self.id_near(lv, &mut near)) {
                 missing.push(lv)?;
             }
         }
@@ -71,12 +72,66 @@ fn by_agent(alloc: Global, counts: &[(Name, u32)]) -> Result<IndexMap<Name, u32>
     Ok(counted)
 }
 
-/// Whether the id's number is below its agent's count.
-fn is_counted(counted: &IndexMap<Name, u32>, id: &Id) -> bool
-    ensures { result ≡ nat_lt id.now.seq (count_in counted.now.entries id.now.agent) }
+/// The counts by agent. Contracts see the list of them.
+#[derive(Drop)]
+struct Counted {
+    counts: IndexMap<Name, u32>,
+    /// An agent that was asked about lately, with its count: most often the next id is that agent's too.
+    lately: Option<(Name, u32)>,
+}
+
+impl Model for Counted {
+    ghost use Rattle.std.specs.Prelude.{◌≡◌, ℕ, List, IfSome};
+    ghost use Rattle.event_graph.specs.Missing.{count_in};
+
+    ghost Value = { List (List ℕ × ℕ) };
+
+    ghost view = { λ c. c.counts.entries };
+
+    ghost invariant = { λ c. IfSome c.lately (λ own. own.1 ≡ count_in c.counts.entries own.0) };
+}
+
+impl Counted {
+    /// Nobody was asked about yet.
+    fn new(counts: IndexMap<Name, u32>) -> Counted
+        ensures { result ≡ counts.entries }
+    {
+        Counted {
+            counts,
+            lately: None,
+        }
+    }
+
+    /// Whether the id's number is below its agent's count.
+    fn holds(&mut self, id: &Id) -> bool
+        ensures value { result ≡ nat_lt id.now.seq (count_in self.old id.now.agent) }
+        ensures same { self.new ≡ self.old }
+    {
+        id.seq < self.count_of(&id.agent)
+    }
+
+    /// The agent's count.
+    fn count_of(&mut self, agent: &Name) -> u32
+        ensures value { result ≡ count_in self.old agent.now }
+        ensures same { self.new ≡ self.old }
+    {
+        if let Some((lately, count)) = self.lately {
+            if lately.is(agent) {
+                return count;
+            }
+        }
+        let count = count_by(&self.counts, agent);
+        self.lately = Some((*agent, count));
+        count
+    }
+}
+
+/// The count of an agent: 0 where it isn't among these.
+fn count_by(counts: &IndexMap<Name, u32>, agent: &Name) -> u32
+    ensures { result ≡ count_in counts.now.entries agent.now }
 {
-    match counted.get(&id.agent) {
-        Some(count) => id.seq < *count,
-        None => false,
+    match counts.get(agent) {
+        Some(count) => *count,
+        None => 0,
     }
 }

@@ -11,7 +11,8 @@ use agent_ids::AgentTable;
 use critical::Cuts;
 use event_runs::EventRuns;
 use ew_model::NoMem;
-use ew_model::event::Event;
+use ew_model::event::Op;
+use ew_model::id::Id;
 use frontier::Frontier;
 use smallvec::SmallVec;
 use std::alloc::Global;
@@ -30,24 +31,25 @@ pub fn append(
     runs: &mut EventRuns,
     cuts: &mut Cuts,
     heads: &Frontier,
-    e: &Event,
+    id: Id,
+    op: Op,
     parents: &[u32],
 ) -> Result<(), NoMem>
-    requires next { e.now.id.seq ≡ count_of ids.old e.now.id.agent }
+    requires next { id.seq ≡ count_of ids.old id.agent }
     requires alike { length ids.old ≡ length runs.old }
     requires cut_count { cuts.old.count ≡ length runs.old }
     requires parents { AreParents (length runs.old) parents.now }
     requires room { length runs.old + 1 < 2 ^ 32 }
-    ensures ids { OnOk result (ids.new ≡ ids.old ++ e.now.id ∷ []) }
-    ensures runs { OnOk result (runs.new ≡ runs.old ++ bare e.now.op parents.now ∷ []) }
+    ensures ids { OnOk result (ids.new ≡ ids.old ++ id ∷ []) }
+    ensures runs { OnOk result (runs.new ≡ runs.old ++ bare op parents.now ∷ []) }
     ensures cuts { OnOk result ((history : List (List ℕ)) → IsHistoryOfParents history → cuts.old ≡ kept_for history → heads.now ≡ frontier_of history → is_reduced_at history parents.now ≡ true → cuts.new ≡ kept_for (history ++ parents.now ∷ [])) }
     ensures same_ids { OnErr result (ids.new ≡ ids.old) }
     ensures same_runs { OnErr result (runs.new ≡ runs.old) }
     ensures same_cuts { OnErr result (cuts.new ≡ cuts.old) }
 {
     let count = runs.count();
-    ids.append(e.id)?;
-    if let Err(fault) = append_bare(runs, cuts, heads, e, parents) {
+    ids.append(id)?;
+    if let Err(fault) = append_bare(runs, cuts, heads, op, parents) {
         ids.truncate(count);
         return Err(fault);
     }
@@ -59,19 +61,19 @@ fn append_bare(
     runs: &mut EventRuns,
     cuts: &mut Cuts,
     heads: &Frontier,
-    e: &Event,
+    op: Op,
     parents: &[u32],
 ) -> Result<(), NoMem>
     requires cut_count { cuts.old.count ≡ length runs.old }
     requires parents { AreParents (length runs.old) parents.now }
     requires room { length runs.old + 1 < 2 ^ 32 }
-    ensures runs { OnOk result (runs.new ≡ runs.old ++ bare e.now.op parents.now ∷ []) }
+    ensures runs { OnOk result (runs.new ≡ runs.old ++ bare op parents.now ∷ []) }
     ensures cuts { OnOk result ((history : List (List ℕ)) → IsHistoryOfParents history → cuts.old ≡ kept_for history → heads.now ≡ frontier_of history → is_reduced_at history parents.now ≡ true → cuts.new ≡ kept_for (history ++ parents.now ∷ [])) }
     ensures same_runs { OnErr result (runs.new ≡ runs.old) }
     ensures same_cuts { OnErr result (cuts.new ≡ cuts.old) }
 {
     let count = runs.count();
-    runs.append(e.op, parents)?;
+    runs.append(op, parents)?;
     if let Err(fault) = cuts.push(parents, heads) {
         runs.truncate(count);
         return Err(fault);
@@ -84,24 +86,25 @@ pub fn append_apart(
     ids: &mut AgentTable,
     runs: &mut EventRuns,
     heads: &mut Frontier,
-    e: &Event,
+    id: Id,
+    op: Op,
     parents: &[u32],
 ) -> Result<(), NoMem>
-    requires next { e.now.id.seq ≡ count_of ids.old e.now.id.agent }
+    requires next { id.seq ≡ count_of ids.old id.agent }
     requires alike { length ids.old ≡ length runs.old }
     requires below { All (λ h. h < length runs.old) heads.old }
     requires parents { AreParents (length runs.old) parents.now }
     requires room { length runs.old + 1 < 2 ^ 32 }
-    ensures ids { OnOk result (ids.new ≡ ids.old ++ e.now.id ∷ []) }
-    ensures runs { OnOk result (runs.new ≡ runs.old ++ bare e.now.op parents.now ∷ []) }
+    ensures ids { OnOk result (ids.new ≡ ids.old ++ id ∷ []) }
+    ensures runs { OnOk result (runs.new ≡ runs.old ++ bare op parents.now ∷ []) }
     ensures heads { OnOk result ((history : List (List ℕ)) → IsHistoryOfParents history → length runs.old ≡ length history → heads.old ≡ frontier_of history → heads.new ≡ frontier_of (history ++ parents.now ∷ [])) }
     ensures same_ids { OnErr result (ids.new ≡ ids.old) }
     ensures same_runs { OnErr result (runs.new ≡ runs.old) }
     ensures same_heads { OnErr result (heads.new ≡ heads.old) }
 {
     let count = runs.count();
-    ids.append(e.id)?;
-    if let Err(fault) = append_heads(runs, heads, e, parents) {
+    ids.append(id)?;
+    if let Err(fault) = append_heads(runs, heads, op, parents) {
         ids.truncate(count);
         return Err(fault);
     }
@@ -112,19 +115,19 @@ pub fn append_apart(
 fn append_heads(
     runs: &mut EventRuns,
     heads: &mut Frontier,
-    e: &Event,
+    op: Op,
     parents: &[u32],
 ) -> Result<(), NoMem>
     requires below { All (λ h. h < length runs.old) heads.old }
     requires parents { AreParents (length runs.old) parents.now }
     requires room { length runs.old + 1 < 2 ^ 32 }
-    ensures runs { OnOk result (runs.new ≡ runs.old ++ bare e.now.op parents.now ∷ []) }
+    ensures runs { OnOk result (runs.new ≡ runs.old ++ bare op parents.now ∷ []) }
     ensures heads { OnOk result ((history : List (List ℕ)) → IsHistoryOfParents history → length runs.old ≡ length history → heads.old ≡ frontier_of history → heads.new ≡ frontier_of (history ++ parents.now ∷ [])) }
     ensures same_runs { OnErr result (runs.new ≡ runs.old) }
     ensures same_heads { OnErr result (heads.new ≡ heads.old) }
 {
     let count = runs.count();
-    runs.append(e.op, parents)?;
+    runs.append(op, parents)?;
     if let Err(fault) = heads.insert_event(count, parents) {
         runs.truncate(count);
         return Err(fault);

@@ -1,11 +1,14 @@
 use Rattle.std.proofs.Common.{◌≡◌, ◌∙◌, ◌+◌, ℕ, List, suc, nat_lt, sym, ap, subst, arith}
 use Rattle.event_graph.specs.Missing.{count_in}
 use Rattle.event_graph.proofs.MissingPlaces.{AreMissing, counted_next, missing_next, nothing_missing}
-use Rattle.event_graph.proofs.graph.Graph.missing_positions.Goals.{then-not-is_counted+in_ok-push, else-not-is_counted}
+use Rattle.event_graph.proofs.graph.Graph.missing_positions.Goals.{then-not-holds+in_ok-push, else-not-holds}
 use Rattle.event_graph.proofs.graph.Graph.missing_positions.Goals as goal
 
 pub loop-lv-init : goal.loop-lv-init
-loop-lv-init c = subst (AreMissing c.args.self.now c.args.counts.now 0) (sym c.new-missing.ensures.items) (nothing_missing c.args.self.now c.args.counts.now)
+loop-lv-init c = record {
+  missing = subst (AreMissing c.args.self.now c.args.counts.now 0) (sym c.new-missing.ensures.items) (nothing_missing c.args.self.now c.args.counts.now);
+  counted = c.new-counted.ensures ∙ c.in_ok-by_agent.ensures;
+}
 
 pub loop-lv-preserved : goal.loop-lv-preserved
 loop-lv-preserved c =
@@ -14,14 +17,17 @@ loop-lv-preserved c =
     let lv = c.loop-lv.lv in
     let x = c.id_near.result in
     let next : suc lv ≡ lv + 1 = omega arith in
-    let told : c.is_counted.result ≡ nat_lt x.seq (count_in counts x.agent) = c.is_counted.ensures ∙ ap (λ (es : List (List ℕ × ℕ)). nat_lt x.seq (count_in es x.agent)) c.in_ok-counted.ensures in
-    elim c.if-not-is_counted.branch [
-      | then-not-is_counted+in_ok-push w ↦
-          subst (λ n. AreMissing history counts n c.if-not-is_counted.missing.items) next
-          (subst (AreMissing history counts (suc lv)) (sym (ap (λ v. v.items) w.missing-is ∙ w.in_ok-push.ensures.items))
-          (missing_next history counts lv c.loop-lv.missing.items x c.id_near.ensures (sym told ∙ w.if-not-is_counted.true) c.loop-lv.invariant))
-      | else-not-is_counted w ↦
-          subst (λ n. AreMissing history counts n c.if-not-is_counted.missing.items) next
-          (subst (AreMissing history counts (suc lv)) (sym (ap (λ v. v.items) w.missing-is))
-          (counted_next history counts lv c.loop-lv.missing.items x c.id_near.ensures (sym told ∙ w.if-not-is_counted.false) c.loop-lv.invariant))
-    ]
+    let told : c.holds.result ≡ nat_lt x.seq (count_in counts x.agent) = c.holds.ensures.value ∙ ap (λ (es : List (List ℕ × ℕ)). nat_lt x.seq (count_in es x.agent)) c.loop-lv.invariant.counted in
+    record {
+      counted = c.holds.ensures.same ∙ c.loop-lv.invariant.counted;
+      missing = elim c.if-not-holds.branch [
+        | then-not-holds+in_ok-push w ↦
+            subst (λ n. AreMissing history counts n c.if-not-holds.missing.items) next
+            (subst (AreMissing history counts (suc lv)) (sym (ap (λ v. v.items) w.missing-is ∙ w.in_ok-push.ensures.items))
+            (missing_next history counts lv c.loop-lv.missing.items x c.id_near.ensures (sym told ∙ w.if-not-holds.true) c.loop-lv.invariant.missing))
+        | else-not-holds w ↦
+            subst (λ n. AreMissing history counts n c.if-not-holds.missing.items) next
+            (subst (AreMissing history counts (suc lv)) (sym (ap (λ v. v.items) w.missing-is))
+            (counted_next history counts lv c.loop-lv.missing.items x c.id_near.ensures (sym told ∙ w.if-not-holds.false) c.loop-lv.invariant.missing))
+      ];
+    }

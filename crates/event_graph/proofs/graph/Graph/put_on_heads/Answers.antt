@@ -5,6 +5,7 @@ use Rattle.ew_model.specs.Positions.{AreParents, frontier_of, is_reduced_at, pos
 use Rattle.agent_ids.specs.Agents.{count_of}
 use Rattle.critical.specs.KeptCuts.{kept_for}
 use Rattle.event_runs.specs.BareEvents.{bare}
+use Rattle.event_graph.specs.Joining.{IsGoodBehind, event_on}
 use Rattle.event_graph.specs.Keeping.{IsKeptOf}
 use Rattle.event_graph.proofs.Admitted.{let_in}
 use Rattle.event_graph.proofs.Grown.{grown, told}
@@ -16,48 +17,53 @@ use Rattle.event_graph.proofs.graph.Graph.put_on_heads.Goals as goal
 pub append-requires-clause-next : goal.append-requires-clause-next
 append-requires-clause-next c =
     let now = c.args.self.now in
-    let e = c.args.e.now in
+    let parents = c.requires.next.0 in
+    let next = c.requires.next.1 in
+    let e = event_on c.args.id c.args.op parents in
     let inside = c.self.inside in
     let kept : IsKeptOf now inside.ids inside.events inside.heads inside.cuts = subst (λ (h : List Event). IsKeptOf h inside.ids inside.events inside.heads inside.cuts) c.self.view_is c.self.invariant in
-    number_next now e (numbered_ids now kept.admitted) (let_in now e c.requires.good) ∙ ap (λ (ids : List Id). count_of ids e.id.agent) (sym kept.ids_are)
+    number_next now e (numbered_ids now kept.admitted) (let_in now e next.good) ∙ ap (λ (ids : List Id). count_of ids e.id.agent) (sym kept.ids_are)
 
 pub append-requires-clause-parents : goal.append-requires-clause-parents
 append-requires-clause-parents c =
     let now = c.args.self.now in
-    let e = c.args.e.now in
+    let parents = c.requires.next.0 in
+    let next = c.requires.next.1 in
+    let e = event_on c.args.id c.args.op parents in
     let inside = c.self.inside in
     let kept : IsKeptOf now inside.ids inside.events inside.heads inside.cuts = subst (λ (h : List Event). IsKeptOf h inside.ids inside.events inside.heads inside.cuts) c.self.view_is c.self.invariant in
-    let parents : positions_in now e.parents ≡ c.args.positions.now = sym c.requires.parents in
-    subst (AreParents (length inside.events)) parents
-    (subst (λ n. AreParents n (positions_in now e.parents)) (sym (length_events now inside.ids inside.events inside.heads inside.cuts kept)) (next_parents now e kept.admitted c.requires.good))
+    let placed : positions_in now e.parents ≡ c.args.positions.now = sym next.placed in
+    subst (AreParents (length inside.events)) placed
+    (subst (λ n. AreParents n (positions_in now e.parents)) (sym (length_events now inside.ids inside.events inside.heads inside.cuts kept)) (next_parents now e kept.admitted next.good))
 
-whole : (c : goal.Joined-self-heads) → IsKeptOf (c.args.self.now ++ c.args.e.now ∷ []) c.append.new.ids c.append.new.runs c.in_ok-heads.heads c.append.new.cuts
-whole c =
+whole : (c : goal.Joined-self-heads) (parents : List Id) → IsGoodBehind c.args.self.now c.args.positions.now (event_on c.args.id c.args.op parents) → IsKeptOf (c.args.self.now ++ event_on c.args.id c.args.op parents ∷ []) c.append.new.ids c.append.new.runs c.in_ok-heads.heads c.append.new.cuts
+whole c parents next =
     let now = c.args.self.now in
-    let e = c.args.e.now in
+    let e = event_on c.args.id c.args.op parents in
     let inside = c.self.inside in
     let kept : IsKeptOf now inside.ids inside.events inside.heads inside.cuts = subst (λ (h : List Event). IsKeptOf h inside.ids inside.events inside.heads inside.cuts) c.self.view_is c.self.invariant in
     let agree = agreement now inside.ids inside.events inside.heads inside.cuts kept in
     let places = parent_positions now in
-    let placed : c.args.positions.now ≡ positions_in now e.parents = c.requires.parents in
+    let placed : c.args.positions.now ≡ positions_in now e.parents = next.placed in
     let count : c.count.result ≡ length places =
     c.count.ensures.count ∙ length_events now inside.ids inside.events inside.heads inside.cuts kept ∙ sym (length_parents now inside.ids inside.events inside.heads inside.cuts kept) in
-    let next : AreParents c.count.result c.args.positions.now =
+    let lower : AreParents c.count.result c.args.positions.now =
     subst (AreParents c.count.result) (sym placed)
-    (subst (λ n. AreParents n (positions_in now e.parents)) (sym (count ∙ length_parents now inside.ids inside.events inside.heads inside.cuts kept)) (next_parents now e kept.admitted c.requires.good)) in
-    let reduced : is_reduced_at places c.args.positions.now ≡ true = ap (is_reduced_at places) placed ∙ agree.reduced e.parents ∙ (let_in now e c.requires.good).reduced in
+    (subst (λ n. AreParents n (positions_in now e.parents)) (sym (count ∙ length_parents now inside.ids inside.events inside.heads inside.cuts kept)) (next_parents now e kept.admitted next.good)) in
+    let reduced : is_reduced_at places c.args.positions.now ≡ true = ap (is_reduced_at places) placed ∙ agree.reduced e.parents ∙ (let_in now e next.good).reduced in
     let all : frontier_of places ≡ positions_in now e.parents = agree.heads ∙ sym c.requires.heads ∙ placed in
-    grown now e c.append.new.ids c.append.new.runs c.in_ok-heads.heads c.append.new.cuts kept.admitted kept.sound c.requires.good c.requires.sound
+    grown now e c.append.new.ids c.append.new.runs c.in_ok-heads.heads c.append.new.cuts kept.admitted kept.sound next.good (c.requires.sound parents next)
     (c.in_ok-append.ensures.ids ∙ ap (λ (ids : List Id). ids ++ e.id ∷ []) kept.ids_are)
     (c.in_ok-append.ensures.runs ∙ (λ i. kept.events_are i ++ bare e.op (placed i) ∷ []))
-    (c.in_ok-heads.ensures ∙ ap (λ n. n ∷ []) count ∙ sym (one_head places (positions_in now e.parents) agree.parents (subst (λ n. AreParents n (positions_in now e.parents)) count (subst (AreParents c.count.result) placed next)) all))
+    (c.in_ok-heads.ensures ∙ ap (λ n. n ∷ []) count ∙ sym (one_head places (positions_in now e.parents) agree.parents (subst (λ n. AreParents n (positions_in now e.parents)) count (subst (AreParents c.count.result) placed lower)) all))
     (c.in_ok-append.ensures.cuts places agree.parents kept.cuts_are kept.heads_are reduced ∙ ap (λ (ps : List ℕ). kept_for (places ++ ps ∷ [])) placed)
 
 pub invariant_of-self-2 : goal.invariant_of-self-2
 invariant_of-self-2 c =
-    let all = whole c in
-    let same = told (c.args.self.now ++ c.args.e.now ∷ []) c.append.new.ids c.append.new.runs c.in_ok-heads.heads c.append.new.cuts all in
+    let parents = c.requires.next.0 in
+    let all = whole c parents c.requires.next.1 in
+    let same = told (c.args.self.now ++ event_on c.args.id c.args.op parents ∷ []) c.append.new.ids c.append.new.runs c.in_ok-heads.heads c.append.new.cuts all in
     subst (λ (h : List Event). IsKeptOf h c.append.new.ids c.append.new.runs c.in_ok-heads.heads c.append.new.cuts) (sym same) all
 
 pub returns-clause-ok : goal.returns-clause-ok
-returns-clause-ok c = told (c.args.self.now ++ c.args.e.now ∷ []) c.append.new.ids c.append.new.runs c.in_ok-heads.heads c.append.new.cuts (whole c)
+returns-clause-ok c parents next = told (c.args.self.now ++ event_on c.args.id c.args.op parents ∷ []) c.append.new.ids c.append.new.runs c.in_ok-heads.heads c.append.new.cuts (whole c parents next)
