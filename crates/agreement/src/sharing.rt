@@ -12,8 +12,25 @@ ghost use Rattle.ew_model.specs.Sets.{Among, SameElements};
 ghost use Rattle.event_graph.specs.Keeping.{IsAdmitted, id_of};
 ghost use Rattle.agreement.specs.Sharing.{Fits, HaveSameParents, IsShared, ids_at};
 
-use event_graph::Graph;
+use event_graph::{Graph, Near};
 use frontier::Parentage;
+
+/// Where the events of the one graph and of the other were found last: the next ones are sought there first.
+#[derive(Clone, Copy)]
+struct Nears {
+    ours: Near,
+    theirs: Near,
+}
+
+impl Nears {
+    /// At the beginning of both graphs.
+    fn start() -> Nears {
+        Nears {
+            ours: Near::start(),
+            theirs: Near::start(),
+        }
+    }
+}
 
 /// Whether the two graphs hold equal sets of events, in whatever order these came.
 pub fn agrees(a: &Graph, b: &Graph) -> bool
@@ -27,8 +44,9 @@ fn holds_all(b: &Graph, a: &Graph) -> bool
     requires { IsAdmitted b.now }
     ensures { IsTrue result ↔ ((e : Event) → Among e a.now → Among e b.now) }
 {
+    let mut nears = Nears::start();
     for lv in 0..a.count() {
-        if !is_shared(a, lv, b) {
+        if !is_shared(a, lv, b, &mut nears) {
             return false;
         }
     }
@@ -40,8 +58,9 @@ pub fn are_consistent(a: &Graph, b: &Graph) -> bool
     ensures { IsTrue result ↔ OneEach (a.now ++ b.now) }
 {
     let _count = b.count();
+    let mut nears = Nears::start();
     for position in 0..a.count() {
-        if !fits(a, position, b) {
+        if !fits(a, position, b, &mut nears) {
             return false;
         }
     }
@@ -49,33 +68,33 @@ pub fn are_consistent(a: &Graph, b: &Graph) -> bool
 }
 
 /// Whether the event of `a` at a position is among those of `b`.
-fn is_shared(a: &Graph, lv: u32, b: &Graph) -> bool
+fn is_shared(a: &Graph, lv: u32, b: &Graph, nears: &mut Nears) -> bool
     requires within { lv < length a.now }
     requires admitted_a { IsAdmitted a.now }
     requires admitted_b { IsAdmitted b.now }
     ensures { IsTrue result ↔ IsShared a.now lv b.now }
 {
-    let Some(other) = b.find(&a.id_at(lv)) else {
+    let Some(other) = b.find(&a.id_near(lv, &mut nears.ours)) else {
         return false;
     };
-    is_same(a, lv, b, other)
+    is_same(a, lv, b, other, nears)
 }
 
 /// Whether the event of `a` at a position is among those of `b`, where `b` holds its id.
-fn fits(a: &Graph, lv: u32, b: &Graph) -> bool
+fn fits(a: &Graph, lv: u32, b: &Graph, nears: &mut Nears) -> bool
     requires within { lv < length a.now }
     requires admitted_a { IsAdmitted a.now }
     requires admitted_b { IsAdmitted b.now }
     ensures { IsTrue result ↔ Fits a.now lv b.now }
 {
-    match b.find(&a.id_at(lv)) {
-        Some(other) => is_same(a, lv, b, other),
+    match b.find(&a.id_near(lv, &mut nears.ours)) {
+        Some(other) => is_same(a, lv, b, other, nears),
         None => true,
     }
 }
 
 /// Whether the event of `a` at the one position is that of `b` with its id, which stands at the other.
-fn is_same(a: &Graph, lv: u32, b: &Graph, other: u32) -> bool
+fn is_same(a: &Graph, lv: u32, b: &Graph, other: u32, nears: &mut Nears) -> bool
     requires within_a { lv < length a.now }
     requires within_b { other < length b.now }
     requires admitted_a { IsAdmitted a.now }
@@ -83,11 +102,32 @@ fn is_same(a: &Graph, lv: u32, b: &Graph, other: u32) -> bool
     requires found { (x : Id) → slice_get (ids_of a.now) lv ≡ Some x → position (id_eq x) (ids_of b.now) ≡ Some other }
     ensures { IsTrue result ↔ IsShared a.now lv b.now }
 {
-    a.op_at(lv).same(&b.op_at(other)) && have_same_parents(a, lv, b, other)
+    let ours = a.op_near(lv, &mut nears.ours);
+    let theirs = b.op_near(other, &mut nears.theirs);
+    ours.same(&theirs) && have_same_parents(a, lv, b, other, nears)
 }
 
-/// Whether the event of `a` at the one position has the parents of the event of `b` at the other.
-fn have_same_parents(a: &Graph, one: u32, b: &Graph, other: u32) -> bool
+/// Whether the event of `a` at the one position has the parents of the event of `b` at the other. Where both have the event before
+/// them as their only parent, the ids of these tell it.
+fn have_same_parents(a: &Graph, one: u32, b: &Graph, other: u32, nears: &mut Nears) -> bool
+    requires within_a { one < length a.now }
+    requires within_b { other < length b.now }
+    requires admitted_a { IsAdmitted a.now }
+    requires admitted_b { IsAdmitted b.now }
+    ensures { IsTrue result ↔ HaveSameParents a.now one b.now other }
+{
+    if a.chain_start_near(one, &mut nears.ours) < one
+        && b.chain_start_near(other, &mut nears.theirs) < other
+    {
+        let ours = a.id_near(one - 1, &mut nears.ours);
+        ours.is(&b.id_near(other - 1, &mut nears.theirs))
+    } else {
+        have_same_ids(a, one, b, other)
+    }
+}
+
+/// The same, by the ids of all parents.
+fn have_same_ids(a: &Graph, one: u32, b: &Graph, other: u32) -> bool
     requires within_a { one < length a.now }
     requires within_b { other < length b.now }
     requires admitted_a { IsAdmitted a.now }

@@ -1,29 +1,17 @@
-use Rattle.std.proofs.Common.{◌≡◌, length, sym, ap, ◌∙◌}
-use Rattle.std.proofs.lemmas.Bool.{eqb-true}
-use Rattle.agreement.proofs.ParentIds.{same_parents, as_many, all_among}
-use Rattle.agreement.proofs.sharing.have_same_parents.Goals.{then-len, else-len}
+use Rattle.std.proofs.Common.{[], ◌∷◌, sym, ap, ◌∙◌}
+use Rattle.ew_model.specs.declared.id.Id.{Id}
+use Rattle.agreement.proofs.OnlyParents.{before_it, ids_of_only, same_only}
 use Rattle.agreement.proofs.sharing.have_same_parents.Goals as goal
 
-pub returns : goal.returns
-returns c =
+pub returns-then-chain_start_near-other : goal.returns-then-chain_start_near-other
+returns-then-chain_start_near-other c =
     let a = c.args.a.now in
     let b = c.args.b.now in
-    let p = c.args.one in
-    let q = c.args.other in
-    let many = c.len.ensures.value in
-    let others = c.len-2.ensures.value in
-    elim c.if-len.branch [
-      | then-len w ↦
-          let these = w.as_slice-then-len.ensures ∙ c.parents_of-ours.ensures.value in
-          let those = w.as_slice.ensures ∙ c.parents_of-theirs.ensures.value in
-          let ours = w.as_slice-then-len.result.now in
-          let theirs = w.as_slice.result.now in
-          let alike : length ours ≡ length theirs = ap length w.as_slice-then-len.ensures ∙ (sym many ∙ (w.if-len.true ∙ (others ∙ sym (ap length w.as_slice.ensures)))) in (
-            (λ t. same_parents a b p q ours theirs c.requires.admitted_a c.requires.admitted_b these those alike (sym w.stand_at.ensures ∙ (sym w.result-is ∙ t))),
-            (λ same. w.result-is ∙ (w.stand_at.ensures ∙ all_among a b p q ours theirs c.requires.admitted_a c.requires.admitted_b these those c.requires.within_a c.requires.within_b same)),
-          )
-      | else-len w ↦ (
-        (λ t. absurd (w.if-len.false (eqb-true c.len.result c.len-2.result (sym w.result-is ∙ t)))),
-        (λ same. absurd (w.if-len.false (many ∙ (as_many a b p q c.parents_of-ours.result.items c.parents_of-theirs.result.items c.requires.admitted_a c.requires.admitted_b c.parents_of-ours.ensures.value c.parents_of-theirs.ensures.value c.requires.within_a c.requires.within_b same ∙ sym others)))),
-      )
-    ]
+    let ours = before_it a c.args.one c.chain_start_near.result c.chain_start_near.ensures c.if-chain_start_near-one.true in
+    let theirs = before_it b c.args.other c.chain_start_near-then-chain_start_near-one.result c.chain_start_near-then-chain_start_near-one.ensures c.if-chain_start_near-other.true in (
+      (λ t e f here there.
+          ids_of_only a c.args.one e c.id_near-ours.result c.requires.admitted_a here ours c.id_near-ours.ensures
+          ∙ (ap (λ (x : Id). x ∷ []) (c.is.ensures.same.0 t)
+          ∙ sym (ids_of_only b c.args.other f c.id_near.result c.requires.admitted_b there theirs c.id_near.ensures))),
+      (λ same. c.is.ensures.same.1 (same_only a b c.args.one c.args.other c.id_near-ours.result c.id_near.result c.requires.within_a c.requires.within_b c.requires.admitted_a c.requires.admitted_b ours theirs c.id_near-ours.ensures c.id_near.ensures same)),
+    )
