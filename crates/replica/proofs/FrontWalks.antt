@@ -15,7 +15,7 @@ use Rattle.ew_model.proofs.GoodLaws.{operations_make_text}
 use Rattle.ew_model.proofs.TextLengths.{length_operations}
 use Rattle.ew_model.proofs.TouchSteps.{touches_add}
 use Rattle.rope.specs.Lengths.{AllStayShort}
-use Rattle.transform.specs.Walking.{bad_at, walked_of}
+use Rattle.transform.specs.Walking.{bad_at}
 use Rattle.replica.specs.declared.fault.LoadFault.TheVariants.{BadEvent}
 use Rattle.replica.specs.Answers.{TellsBad}
 use Rattle.replica.specs.Fronts.{IsAdmittedFront}
@@ -48,10 +48,6 @@ refused_told front events refused verdict stopped position admitted is told none
 pub record AreWalked (events : List Event) (ops : List TextOp) : Type 0 where
   pub none : first_bad events ≡ None
   pub ops_are : ops ≡ operations events
-
--- so it is where the walk didn't stop
-pub are_walked : (events : List Event) (stopped : Option (ℕ × ℕ)) (ops : List TextOp) → option_map bad_at stopped ≡ first_bad events → stopped ≡ None → ops ≡ operations (walked_of events stopped) → AreWalked events ops
-are_walked events stopped ops told none are = record { none = sym told ∙ ap (option_map bad_at) none; ops_are = are ∙ ap (λ (o : Option (ℕ × ℕ)). operations (walked_of events o)) none }
 
 -- Then the operations may be done to the empty text,
 pub may_write : (events : List Event) (ops : List TextOp) → AreWalked events ops → length events ≤ 16777216 → AllFit [] ops × AllStayShort [] ops

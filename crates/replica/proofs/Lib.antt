@@ -9,6 +9,7 @@ pub mod EditOps
 pub mod FrontWalks
 pub mod Fronts
 pub mod Giving
+pub mod GoingOn
 pub mod HeadLaws
 pub mod Judged
 pub mod Knowing

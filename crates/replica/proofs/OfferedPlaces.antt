@@ -56,12 +56,15 @@ pub none_there : {R : Type 0} (now : R → Event) (history : List Event) (positi
 none_there now history positions place within past =
     nothing_behind now (events_at history positions) place (past ∙ ap (nat_lt place) (sym (as_many_events history positions within)))
 
--- and the event at a place is that at the position there
+-- the event at a place is that at the position there
+pub placed_there : (history : List Event) (positions : List ℕ) (place p : ℕ) (e : Event) → All (λ q. q < length history) positions → place < length positions → p ≡ get_or positions place p → slice_get history p ≡ Some e
+    → slice_get (events_at history positions) place ≡ Some e
+placed_there history positions place p e within less read here = same_place history positions place p e (recursion_from_All (λ q. q < length history) positions within) (slice_get_read positions (length positions) place p refl less read) here
+
+-- and so it is told
 pub event_there : {R : Type 0} (now : R → Event) (history : List Event) (positions : List ℕ) (place p : ℕ) (r : R) → All (λ q. q < length history) positions → true ≡ nat_lt place (length positions) → place < length positions → p ≡ get_or positions place p
     → slice_get history p ≡ Some (now r) → ItemBy now (events_at history positions) place place (Some r)
 event_there now history positions place p r within inside less read here =
     let many = as_many_events history positions within in
     one_inside now (events_at history positions) place r (inside ∙ ap (nat_lt place) (sym many)) (omega (arith, less, many))
-    (sym
-    (get_or_from_slice_get (events_at history positions) place (now r) (now r)
-    (same_place history positions place p (now r) (recursion_from_All (λ q. q < length history) positions within) (slice_get_read positions (length positions) place p refl less read) here)))
+    (sym (get_or_from_slice_get (events_at history positions) place (now r) (now r) (placed_there history positions place p (now r) within less read here)))

@@ -22,6 +22,11 @@ abbrev pub Loads : List Event → LimitNumbers → Result ReplicaState LoadFault
 Loads events limits (Ok r) = (first_bad events ≡ None) × (r ≡ record { limits = limits; held = events; waiting = [] })
 Loads events limits (Err fault) = TellsBad events fault
 
+-- the events as a graph, where each is good; else the first that isn't
+abbrev pub LoadsGraph : List Event → Result (List Event) LoadFault → Type 0
+LoadsGraph events (Ok graph) = (first_bad events ≡ None) × (graph ≡ events)
+LoadsGraph events (Err fault) = TellsBad events fault
+
 -- why an edit is refused; none for want of memory
 abbrev pub refusal_of : EditFault → Option EditRefusal
 refusal_of (edit.OutOfRange len) = Some (OutOfRange len)

@@ -1,6 +1,7 @@
 -- Judging in the program: each received event, and each waiting one that is ready, without a look at its index.
-use Rattle.std.specs.Prelude.{◌≡◌, ℕ, ◌+◌, ◌≤◌, ◌==◌, Bool, true, false, ◌&&◌, if◌then◌else◌, List, [], ◌∷◌, ◌++◌, drop, length, Option, Some, None, option_map}
+use Rattle.std.specs.Prelude.{◌≡◌, ℕ, ◌+◌, ◌≤◌, ◌<◌, ◌==◌, Bool, true, false, ◌&&◌, if◌then◌else◌, List, [], ◌∷◌, ◌++◌, drop, length, Option, Some, None, option_map, slice_get}
 use Rattle.ew_model.specs.declared.id.Id.{Id}
+use Rattle.ew_model.specs.declared.event.Op.{Op}
 use Rattle.ew_model.specs.declared.event.Event.{Event}
 use Rattle.ew_model.specs.declared.verdict.Refusal.{Refusal}
 use Rattle.ew_model.specs.declared.verdict.Refusal.TheVariants as why
@@ -15,6 +16,7 @@ use Rattle.replica.specs.declared.answer.Answer.{Answer}
 use Rattle.replica.specs.declared.answer.Answer.TheVariants as answer
 use Rattle.replica.specs.declared.desk.Desk.{Desk}
 use Rattle.replica.specs.Counting.{Counted}
+use Rattle.history_words.specs.Chains.{last_id, event_behind}
 use Rattle.history_words.specs.Tallies.{repeats_in, refused_in}
 use Rattle.waiting_pool.specs.Waiting.{Waiting, events_of}
 use Rattle.waiting_pool.specs.Knowing.{IsBehind}
@@ -122,6 +124,16 @@ pub record IsDesk (limits : LimitNumbers) (held events : List Event) (pool : Wai
   pub behind : IsBehind held pool
   pub few : length held ≤ limits.events
   pub begun : IsBegun events c
+
+-- The next received event has this operation and goes on from the last one held, nothing waits, more may be held, and no event is
+-- known to be out of range.
+pub record IsNextHeld (limits : LimitNumbers) (out : Option (ℕ × ℕ)) (held events : List Event) (d : Desk) (op : Op) : Type 0 where
+  pub last : Id
+  pub held_last : last_id held ≡ Some last
+  pub there : slice_get events d.progress.judged ≡ Some (event_behind last op)
+  pub none_waits : events_of d.pool ≡ []
+  pub room : length held < limits.events
+  pub none_out : out ≡ None
 
 -- Such judgements lead from a desk to another, and none of them answers OutOfRange.
 pub data Leads (limits : LimitNumbers) (out : Option (ℕ × ℕ)) (from : model.Desk) : List model.Answer → model.Desk → Type 0 where

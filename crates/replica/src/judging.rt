@@ -1,13 +1,13 @@
 //! One judgement after another, of received events and of waiting ones that are ready.
 
-ghost use Rattle.std.specs.Prelude.{◌≡◌, ℕ, List, ◌+◌, ◌≤◌, ◌<◌, ◌^◌, nat_le, true, false, length, find, Some, None, IfOk, OnOk, OnErr};
+ghost use Rattle.std.specs.Prelude.{◌≡◌, ℕ, List, ◌+◌, ◌≤◌, ◌<◌, ◌^◌, nat_le, true, false, length, find, Some, None, IfOk, OnOk, OnErr, IfSome};
 ghost use Rattle.ew_model.specs.declared.event.Event.{Event};
 ghost use Rattle.ew_model.specs.Ancestors.{is_held};
 ghost use Rattle.ew_model.specs.Arrival.{is_ready};
 ghost use Rattle.ew_model.specs.Kept.{AreFresh};
 ghost use Rattle.ew_model.specs.Verdicts as model;
 ghost use Rattle.replica.specs.Counting.{with_more};
-ghost use Rattle.replica.specs.Desks.{IsDesk, Judges, LeadsTo, answer_by, desk_as, held_by, is_stop, known_at, pooled, refused_at, repeats_at, waiting_by};
+ghost use Rattle.replica.specs.Desks.{IsDesk, IsNextHeld, Judges, LeadsTo, answer_by, desk_as, held_by, is_stop, known_at, pooled, refused_at, repeats_at, waiting_by};
 ghost use Rattle.replica.specs.Fronts.{IsFront};
 ghost use Rattle.replica.specs.declared.answer.Answer.TheVariants as answers;
 ghost use Rattle.waiting_pool.specs.Knowing.{IsBehind};
@@ -18,7 +18,7 @@ use crate::desk::Desk;
 use crate::offered::Offered;
 use event_graph::{Graph, Near};
 use ew_model::NoMem;
-use ew_model::event::Event;
+use ew_model::event::{Event, Op};
 use ew_model::limits::Limits;
 use ew_model::verdict::Refusal;
 use std::alloc::AllocError;
@@ -154,11 +154,37 @@ fn judge_received(
     ensures desk { OnOk result (IsDesk limits.now graph.new events.now desk.new.pool desk.new.progress) }
     ensures front { OnErr result (IsFront graph.old graph.new) }
 {
+    let _most = limits.events();
+    let _held = graph.count();
+    if let Some(op) = next_op(limits, out, graph, desk, events, near) {
+        graph.go_on(op)?;
+        desk.progress.go_on();
+        return Ok(Some(Answer::Held));
+    }
     let Some(e) = events.get(desk.progress.judged(), near)? else {
         return Ok(None);
     };
     desk.progress.go_on();
     Ok(Some(judge(limits, out, graph, desk, &e)?))
+}
+
+/// The operation of the next received event, where that event is held whatever its operation: it goes on from the last one held,
+/// nothing waits, there is room for it, and no event is known to be out of range.
+fn next_op(
+    limits: &Limits,
+    out: Option<(u32, u32)>,
+    graph: &Graph,
+    desk: &Desk,
+    events: &Offered,
+    near: &mut Near,
+) -> Option<Op>
+    ensures { IfSome result (IsNextHeld limits.now out graph.now events.now desk.now) }
+{
+    if out.is_some() || desk.pool.len() > 0 || graph.count() >= limits.events() {
+        return None;
+    }
+    let last = graph.last_id()?;
+    events.next_op(desk.progress.judged(), &last, near)
 }
 
 /// Makes judgements until none is left to make, or the event that is known to be out of range was answered. Answers whether it

@@ -1,6 +1,6 @@
 //! From the events of a graph to what a replica keeps of them.
 
-ghost use Rattle.std.specs.Prelude.{◌≡◌, ◌+◌, ◌≤◌, List, length, None, option_map, IfOk, OnOk, IfErr};
+ghost use Rattle.std.specs.Prelude.{◌≡◌, ◌+◌, ◌≤◌, List, drop, length, None, option_map, IfOk, OnOk, IfErr};
 ghost use Rattle.ew_model.specs.declared.event.Event.{Event};
 ghost use Rattle.ew_model.specs.Answers.{ruling_of};
 ghost use Rattle.ew_model.specs.Operations.{operations};
@@ -17,15 +17,15 @@ use crate::lengths::written;
 use event_graph::Graph;
 use ew_model::NoMem;
 use ew_model::steps::Steps;
+use ew_model::text_op::TextOp;
 use ew_model::verdict::Verdict;
 use rope::Rope;
 use std::alloc::Global;
 use std::sync::ledger::Ledger;
 use transform::{State, Walk, walk};
 
-/// The text of the events of a graph, and how long it is after each. Where others were given behind them, of which the first
-/// was refused, or where one isn't good: tells the first of all that isn't. That is where the walk over the graph's events
-/// stops, or else the one that was refused.
+/// The text of the events of a graph, and how long it is after each, or, as `walk_good` tells it, the first of all given events
+/// that isn't good.
 pub fn load<L: Ledger>(
     alloc: Global,
     graph: &Graph,
@@ -40,7 +40,28 @@ pub fn load<L: Ledger>(
     ensures bad { IfErr result (λ fault. (events : List Event) → IsAdmittedFront graph.now (option_map ruling_of refused) events → TellsBad events fault) }
     ensures touches { steps.new ≤ steps.old + touches graph.now 0 }
 {
-    let walked = walk_all(alloc, graph, steps)?;
+    let ops = walk_good(alloc, graph, refused, 0, steps)?;
+    let made = written(alloc, &ops)?;
+    Ok(made)
+}
+
+/// The operations of the events of a graph from a position on. Where others were given behind them, of which the first was refused,
+/// or where one isn't good: tells the first of all that isn't. That is where the walk over the graph's events stops, or else the
+/// one that was refused.
+pub fn walk_good<L: Ledger>(
+    alloc: Global,
+    graph: &Graph,
+    refused: Option<Verdict>,
+    emit_from: u32,
+    steps: &mut Steps<L>,
+) -> Result<Vec<TextOp>, LoadFault>
+    ensures all { OnOk result (refused ≡ None) }
+    ensures good { OnOk result (first_bad graph.now ≡ None) }
+    ensures ops { IfOk result (λ ops. ops.items ≡ drop emit_from (operations graph.now)) }
+    ensures bad { IfErr result (λ fault. (events : List Event) → IsAdmittedFront graph.now (option_map ruling_of refused) events → TellsBad events fault) }
+    ensures touches { steps.new ≤ steps.old + touches graph.now 0 }
+{
+    let walked = walk_all(alloc, graph, emit_from, steps)?;
     if let Some((position, len)) = walked.stopped {
         let verdict = Verdict::OutOfRange { len };
         return Err(LoadFault::BadEvent { position, verdict });
@@ -49,16 +70,20 @@ pub fn load<L: Ledger>(
         let position = graph.count();
         return Err(LoadFault::BadEvent { position, verdict });
     }
-    let made = written(alloc, &walked.ops)?;
-    Ok(made)
+    Ok(walked.ops)
 }
 
-/// Walks over all events of a graph.
-fn walk_all<L: Ledger>(alloc: Global, graph: &Graph, steps: &mut Steps<L>) -> Result<Walk, NoMem>
+/// Walks over all events of a graph. The operations of those from a position on are listed.
+fn walk_all<L: Ledger>(
+    alloc: Global,
+    graph: &Graph,
+    emit_from: u32,
+    steps: &mut Steps<L>,
+) -> Result<Walk, NoMem>
     ensures stopped { IfOk result (λ w. option_map bad_at w.stopped ≡ first_bad graph.now) }
-    ensures ops { IfOk result (λ w. w.ops.items ≡ operations (walked_of graph.now w.stopped)) }
+    ensures ops { IfOk result (λ w. w.ops.items ≡ drop emit_from (operations (walked_of graph.now w.stopped))) }
     ensures touches { steps.new ≤ steps.old + touches graph.now 0 }
 {
     let mut state = State::base(alloc, 0)?;
-    walk(alloc, graph, &mut state, 0, 0, steps)
+    walk(alloc, graph, &mut state, 0, emit_from, steps)
 }

@@ -5,15 +5,16 @@ ghost use Rattle.ew_model.specs.declared.event.Event.{Event};
 ghost use Rattle.ew_model.specs.Answers.{ruling_of};
 ghost use Rattle.ew_model.specs.Touches.{touches};
 ghost use Rattle.ew_model.specs.Verdicts as model;
-ghost use Rattle.replica.specs.Answers.{Loads};
+ghost use Rattle.history_words.specs.Chains.{event_behind};
+ghost use Rattle.replica.specs.Answers.{Loads, LoadsGraph};
 ghost use Rattle.replica.specs.Giving.{WereGiven};
 
 use crate::fault::LoadFault;
-use crate::load::load;
+use crate::load::{load, walk_good};
 use crate::state::Replica;
 use event_graph::Graph;
 use ew_model::NoMem;
-use ew_model::event::Event;
+use ew_model::event::{Event, Op};
 use ew_model::limits::Limits;
 use ew_model::steps::Steps;
 use ew_model::verdict::Verdict;
@@ -91,6 +92,24 @@ impl Loading {
         Ok(())
     }
 
+    /// Takes in one more event, which goes on from the one given last: it is the next of its agent, and has that event as its only
+    /// parent. Where none was given yet nothing happens. Its index isn't looked at before the end. For want of memory it isn't taken
+    /// in, and may be given again.
+    pub fn go_on(&mut self, op: Op) -> Result<(), NoMem>
+        requires room { length self.old.admitted < self.old.limits.events }
+        ensures limits { self.new.limits ≡ self.old.limits }
+        ensures given { OnOk result ((events : List Event) (e : Event) → WereGiven (events ++ e ∷ []) self.old → WereGiven ((events ++ e ∷ []) ++ event_behind e.id op ∷ []) self.new) }
+        ensures none { WereGiven [] self.old → self.new ≡ self.old }
+        ensures same { OnErr result (self.new ≡ self.old) }
+    {
+        if self.refused.is_some() || self.graph.count() == 0 {
+            return Ok(());
+        }
+        let _most = self.limits.events();
+        self.graph.go_on(op)?;
+        Ok(())
+    }
+
     /// The replica of all events given, or the first that isn't good behind those before it. The steps taken are at most the
     /// touches of the events.
     pub fn finish<L: Ledger>(self, steps: &mut Steps<L>) -> Result<Replica, LoadFault>
@@ -107,6 +126,24 @@ impl Loading {
         let (text, lengths) = load(alloc, &graph, refused, steps)?;
         let replica = Replica::of_good(alloc, limits, graph, text, lengths)?;
         Ok(replica)
+    }
+
+    /// The graph of all events given, or the first that isn't good behind those before it. The text isn't made. The steps taken are
+    /// at most the touches of the events.
+    pub fn finish_graph<L: Ledger>(self, steps: &mut Steps<L>) -> Result<Graph, LoadFault>
+        ensures loads { (events : List Event) → WereGiven events self → LoadsGraph events result }
+        ensures touches { (events : List Event) → WereGiven events self → steps.new ≤ steps.old + touches events 0 }
+    {
+        let Loading {
+            alloc,
+            limits: _,
+            graph,
+            refused,
+        } = self;
+        // No operation is listed.
+        let count = graph.count();
+        walk_good(alloc, &graph, refused, count, steps)?;
+        Ok(graph)
     }
 }
 

@@ -359,21 +359,6 @@ impl Replica {
         &self.graph
     }
 
-    /// The events held, as a graph. The rest isn't needed any more.
-    pub fn into_graph(self) -> Graph
-        ensures { result ≡ self.held }
-    {
-        let Replica {
-            alloc: _,
-            limits: _,
-            graph,
-            text: _,
-            lengths: _,
-            pool: _,
-        } = self;
-        graph
-    }
-
     /// How many events are held.
     pub fn count(&self) -> u32
         ensures { result ≡ length self.now.held }

@@ -1,7 +1,8 @@
-use Rattle.std.proofs.Common.{◌∙◌, ◌+◌, List, drop, Result, Ok, Err, OnErr, sym, subst}
+use Rattle.std.proofs.Common.{◌∙◌, ◌+◌, List, drop, sym, subst}
 use Rattle.ew_model.specs.declared.event.Event.{Event}
 use Rattle.event_graph.specs.Keeping.{AreAdmittedAfter}
 use Rattle.replica.proofs.Fronts.{next_admitted, one_more, stays_cut}
+use Rattle.replica.proofs.RoundParts.{on_err}
 use Rattle.replica.proofs.admit.admit_all.Goals as goal
 
 pub admit-requires-clause-good : goal.admit-requires-clause-good
@@ -17,10 +18,6 @@ loop-e-preserved c =
           subst (λ (g : List Event). AreAdmittedAfter g (drop (i + 1) made)) (sym c.in_ok-admit.ensures.ok)
           (next_admitted c.loop-e.graph made i c.e-item.result c.loop-e-test.true c.e-item.is c.loop-e.invariant.left).1;
     }
-
-on_err : {T E P : Type 0} (r : Result T E) → P → OnErr r P
-on_err (Ok x) p = tt
-on_err (Err e) p = p
 
 pub returns-in_err-admit-clause-still_cut : goal.returns-in_err-admit-clause-still_cut
 returns-in_err-admit-clause-still_cut c =
