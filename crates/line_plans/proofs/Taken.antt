@@ -76,16 +76,16 @@ module _ (old : ReplicaState) (others few : List Event) (held : ℕ) (none : old
   touched_no_more before now most =
       subst (λ n. now ≤ before + n) (same.touches ∙ ap (λ (w : List Event). most_touches old.limits old.held w others) none) most
 
--- What a replica lacks of the events of another, by its summary: those whose ids it doesn't hold.
-module _ (old other : ReplicaState) (held known events : List Event) (counts : List (List ℕ × ℕ)) (theirs : held ≡ other.held) (ours : known ≡ old.held) (summed : counts ≡ summary_of known) (kept : IsKept old.limits old.held old.waiting) (are : events ≡ missing held counts) where
-  pub offered : events ≡ without_held old.held other.held
-  offered = are ∙ lacking old other held known counts theirs ours summed kept
+-- What a replica lacks of other events, by its summary: those whose ids it doesn't hold.
+module _ (old : ReplicaState) (others known events : List Event) (counts : List (List ℕ × ℕ)) (ours : known ≡ old.held) (summed : counts ≡ summary_of known) (kept : IsKept old.limits old.held old.waiting) (are : events ≡ missing others counts) where
+  pub offered : events ≡ without_held old.held others
+  offered = are ∙ lacking old (record { limits = old.limits; held = others; waiting = [] }) others known counts refl ours summed kept
 
   -- they are no more than all
-  pub offered_few : length events ≤ length other.held
+  pub offered_few : length events ≤ length others
   offered_few =
       let long = ap (λ (w : List Event). length w) offered in
-      let fewer = no_more old.held other.held in
+      let fewer = no_more old.held others in
       omega (arith, long, fewer)
 
 -- no counts leave all out

@@ -17,12 +17,13 @@ ghost use Rattle.ew_outside.specs.Counts.{next};
 
 use crate::taking::take;
 use command_texts::texts::{clash_text, received_text, too_many_events_text};
+use event_graph::Graph;
 use ew_model::id::Id;
 use ew_model::limits::Limits;
 use ew_model::steps::Steps;
 use ew_model::verdict::Refusal;
 use ew_outside::Shelf;
-use opened_files::open::{Found, open};
+use opened_files::open::{Found, open, open_graph};
 use opened_files::reply::{Plan, Stop};
 use opened_files::store::store_plan;
 use replica::{Replica, Took};
@@ -101,21 +102,21 @@ fn took_plan<'a>(
     received_plan(alloc, name, replica, took)
 }
 
-/// Receives the events of another replica, and tells what became of them.
+/// Receives the events of another file, and tells what became of them.
 fn receive<'a, L: Ledger>(
     alloc: Global,
     name: &'a str,
     limits: &Limits,
     replica: &mut Replica,
-    other: Replica,
+    other: Graph,
     steps: &mut Steps<L>,
 ) -> Result<Plan<'a>, AllocError>
     requires limits { replica.old.limits ≡ limits.now }
     requires none_waits { replica.old.waiting ≡ [] }
-    ensures told { IfOk result (λ p. plan_view p ≡ merge_reply name.now limits.now replica.old.held other.held) }
+    ensures told { IfOk result (λ p. plan_view p ≡ merge_reply name.now limits.now replica.old.held other) }
     ensures plan { IfOk result IsCommandPlan }
     ensures found { IfOk result (λ p. status_of p ≢ 3) }
-    ensures most { steps.new ≤ steps.old + most_touches limits.now replica.old.held [] other.held }
+    ensures most { steps.new ≤ steps.old + most_touches limits.now replica.old.held [] other }
 {
     let took = take(replica, other, steps)?;
     took_plan(alloc, name, limits, replica, &took)
@@ -143,7 +144,7 @@ fn take_other<'a, H: Shelf, L: Ledger>(
     ensures lost { LostBy (H.lost shelf.old) (H.lost shelf.new) result }
     ensures most { TouchesAtMost (λ m. merge_touches other.now limits.now m replica.old.held) (H.files shelf.old) steps.old steps.new }
 {
-    match open(alloc, other, limits, shelf, steps)? {
+    match open_graph(alloc, other, limits, shelf, steps)? {
         Found::Refused { status, text } => Ok(Plan::Refuses { status, text }),
         Found::Open(other) => {
             let plan = receive(alloc, name, limits, replica, other, steps)?;

@@ -1,4 +1,4 @@
-//! Receiving the events of another replica.
+//! Receiving the events of a graph.
 ghost use Rattle.std.specs.Prelude.{◌≡◌, ◌<◌, ◌≤◌, ◌+◌, ◌^◌, [], ◌++◌, length, IfOk};
 ghost use Rattle.std.specs.List.{All};
 ghost use Rattle.arrival_laws.specs.Repeats.{without_held};
@@ -14,18 +14,18 @@ use ew_model::steps::Steps;
 use replica::{Replica, Took};
 use std::sync::ledger::Ledger;
 
-/// Receives the events of another replica. Where both have one event for each id, those that are held are left out and counted as
+/// Receives the events of a graph. Where both have one event for each id, those that are held are left out and counted as
 /// repeats, which leaves and tells what receiving all would.
 pub fn take<L: Ledger>(
     replica: &mut Replica,
-    other: Replica,
+    other: Graph,
     steps: &mut Steps<L>,
 ) -> Result<Took, NoMem>
     requires none_waits { replica.old.waiting ≡ [] }
-    ensures received { IfOk result (Receives replica.old other.held replica.new) }
-    ensures most { steps.new ≤ steps.old + most_touches replica.old.limits replica.old.held [] other.held }
+    ensures received { IfOk result (Receives replica.old other replica.new) }
+    ensures most { steps.new ≤ steps.old + most_touches replica.old.limits replica.old.held [] other }
 {
-    if are_consistent(other.graph(), replica.graph()) {
+    if are_consistent(&other, replica.graph()) {
         take_lacking(replica, other, steps)
     } else {
         let offer = offer_of_all(other)?;
@@ -33,16 +33,16 @@ pub fn take<L: Ledger>(
     }
 }
 
-/// Receives those events of another replica that aren't held. The others are repeats.
+/// Receives those events of another graph that aren't held. The others are repeats.
 fn take_lacking<L: Ledger>(
     replica: &mut Replica,
-    other: Replica,
+    other: Graph,
     steps: &mut Steps<L>,
 ) -> Result<Took, NoMem>
     requires none_waits { replica.old.waiting ≡ [] }
-    requires consistent { OneEach (other.held ++ replica.old.held) }
-    ensures received { IfOk result (Receives replica.old other.held replica.new) }
-    ensures most { steps.new ≤ steps.old + most_touches replica.old.limits replica.old.held [] other.held }
+    requires consistent { OneEach (other ++ replica.old.held) }
+    ensures received { IfOk result (Receives replica.old other replica.new) }
+    ensures most { steps.new ≤ steps.old + most_touches replica.old.limits replica.old.held [] other }
 {
     let offer = offer_of(replica, other)?;
     let mut took = receive_offer(replica, &offer, steps)?;
@@ -50,7 +50,7 @@ fn take_lacking<L: Ledger>(
     Ok(took)
 }
 
-/// What another replica has: the positions of the events that are to be received in its graph, and how many others there are.
+/// What another graph has: the positions of its events that are to be received, and how many others there are.
 #[derive(Drop)]
 struct Offer {
     graph: Graph,
@@ -58,17 +58,16 @@ struct Offer {
     held: u32,
 }
 
-/// What another replica has that is lacking here. The rest of the other replica isn't needed any more.
-fn offer_of(replica: &Replica, other: Replica) -> Result<Offer, NoMem>
+/// What another graph has that is lacking here.
+fn offer_of(replica: &Replica, graph: Graph) -> Result<Offer, NoMem>
     ensures within { IfOk result (λ o. All (λ p. p < length o.graph) o.positions.items) }
-    ensures lacking { IfOk result (λ o. events_at o.graph o.positions.items ≡ without_held replica.now.held other.held) }
-    ensures held { IfOk result (λ o. o.held + length (events_at o.graph o.positions.items) ≡ length other.held) }
+    ensures lacking { IfOk result (λ o. events_at o.graph o.positions.items ≡ without_held replica.now.held graph) }
+    ensures held { IfOk result (λ o. o.held + length (events_at o.graph o.positions.items) ≡ length graph) }
     ensures short { IfOk result (λ o. length o.positions.items < 2 ^ 32) }
-    ensures few { IfOk result (λ o. length other.held < 2 ^ 32) }
+    ensures few { IfOk result (λ o. length graph < 2 ^ 32) }
 {
-    let count = other.count();
+    let count = graph.count();
     let known = replica.graph().summary()?;
-    let graph = other.into_graph();
     let positions = graph.missing_positions(&known)?;
     let held = count - positions.len() as u32;
     Ok(Offer {
@@ -78,14 +77,13 @@ fn offer_of(replica: &Replica, other: Replica) -> Result<Offer, NoMem>
     })
 }
 
-/// All that another replica holds. The rest of it isn't needed any more.
-fn offer_of_all(other: Replica) -> Result<Offer, NoMem>
+/// All that another graph holds.
+fn offer_of_all(graph: Graph) -> Result<Offer, NoMem>
     ensures within { IfOk result (λ o. All (λ p. p < length o.graph) o.positions.items) }
-    ensures all { IfOk result (λ o. events_at o.graph o.positions.items ≡ other.held) }
+    ensures all { IfOk result (λ o. events_at o.graph o.positions.items ≡ graph) }
     ensures short { IfOk result (λ o. length o.positions.items < 2 ^ 32) }
 {
-    let _count = other.count();
-    let graph = other.into_graph();
+    let _count = graph.count();
     let positions = graph.missing_positions(&[])?;
     Ok(Offer {
         graph,

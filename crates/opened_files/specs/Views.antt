@@ -1,6 +1,8 @@
 -- What the code's values stand for.
-use Rattle.std.specs.Prelude.{◌≡◌, ◌≤◌, ⊤, ℕ, [], Result, Ok, Err, ◌⊎◌}
+use Rattle.std.specs.Prelude.{◌≡◌, ◌≤◌, ⊤, ℕ, List, [], Result, Ok, Err, ◌⊎◌}
 use Rattle.ew_outside.specs.Counts.{Rose}
+use Rattle.ew_model.specs.declared.event.Event.{Event}
+use Rattle.ew_model.specs.Kept.{ReplicaState}
 use Rattle.ew_model.specs.Limits.{LimitNumbers}
 use Rattle.command_table.specs.Table.{Reply, prints, stores, refuses, Opened, opened, refused}
 use Rattle.ew_outside.specs.declared.fault.ShelfFault.{ShelfFault}
@@ -12,10 +14,18 @@ use Rattle.opened_files.specs.declared.open.Found.TheVariants as found
 use Rattle.opened_files.specs.declared.reply.Stop.{Stop}
 use Rattle.opened_files.specs.declared.reply.Stop.TheVariants.{ShelfFailed, SourceFailed, OutOfMemory}
 
--- a file as it was opened
-abbrev pub opened_view : Found → Opened
-opened_view (found.Open replica) = opened replica.held
-opened_view (found.Refused status text) = refused status text.items
+-- a file as it was opened, where these are the events of what was made of it
+abbrev pub found_view : {T : Type 0} → (T → List Event) → Found T → Opened
+found_view events (found.Open made) = opened (events made)
+found_view events (found.Refused status text) = refused status text.items
+
+-- a file that was opened as a replica
+abbrev pub opened_view : Found ReplicaState → Opened
+opened_view f = found_view (λ r. r.held) f
+
+-- a file that was opened for its events alone
+abbrev pub graph_view : Found (List Event) → Opened
+graph_view f = found_view (λ events. events) f
 
 abbrev pub plan_view : Plan → Reply
 plan_view (plan.Prints out) = prints out.items
@@ -60,27 +70,22 @@ abbrev pub IsFileStatus : ℕ → Type 0
 IsFileStatus n = (n ≡ 4) ⊎ (n ≡ 7)
 
 -- a file whose events were judged is open, or was refused for an event
-abbrev pub IsJudged : Found → Type 0
+abbrev pub IsJudged : {T : Type 0} → Found T → Type 0
 IsJudged (found.Open _) = ⊤
 IsJudged (found.Refused status _) = status ≡ 4
 
--- a file whose bytes were read is open, or was refused for them
-abbrev pub IsRead : Found → Type 0
-IsRead (found.Open _) = ⊤
-IsRead (found.Refused status _) = IsFileStatus status
-
--- a file that was opened, or was refused with such a status
-abbrev pub IsOpenable : Found → Type 0
+-- a file that is open, or was refused with a status of a line that is refused
+abbrev pub IsOpenable : {T : Type 0} → Found T → Type 0
 IsOpenable (found.Open _) = ⊤
 IsOpenable (found.Refused status _) = IsRefusal status
 
 -- a file that is open is a replica of these limits, in which nothing waits
-abbrev pub IsFresh : LimitNumbers → Found → Type 0
+abbrev pub IsFresh : LimitNumbers → Found ReplicaState → Type 0
 IsFresh limits (found.Open replica) = (replica.limits ≡ limits) × (replica.waiting ≡ [])
 IsFresh limits (found.Refused _ _) = ⊤
 
 -- the count of misses rises where the file is missing
-abbrev pub OpenMisses : ℕ → ℕ → Result Found Stop → Type 0
+abbrev pub OpenMisses : {T : Type 0} → ℕ → ℕ → Result (Found T) Stop → Type 0
 OpenMisses before now (Ok (found.Open _)) = now ≡ before
 OpenMisses before now (Ok (found.Refused status _)) = (before ≤ now) × (status ≡ 3 → Rose before now) × ((status ≡ 3 → ⊥) → now ≡ before)
 OpenMisses before now (Err _) = before ≤ now

@@ -44,7 +44,7 @@ refused_plans name limits out flushed p status text told file = (
 )
 
 -- the replica of a file that is open
-pub fresh_found : (limits : LimitNumbers) (result : Result Found Stop) (f : Found) (r : ReplicaState) → result ≡ Ok f → f ≡ found.Open r
+pub fresh_found : (limits : LimitNumbers) (result : Result (Found ReplicaState) Stop) (f : Found ReplicaState) (r : ReplicaState) → result ≡ Ok f → f ≡ found.Open r
     → IfOk result (λ x. IsFresh limits x) → r ≡ opened_state limits r.held
 fresh_found limits result f r is held fresh =
     let h = subst (λ x. IfOk x (λ y. IsFresh limits y)) is fresh in

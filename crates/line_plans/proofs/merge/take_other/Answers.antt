@@ -5,7 +5,7 @@ use Rattle.line_plans.proofs.merge.take_other.Goals as goal
 
 pub returns-in_ok-plan-in-Open-clause-told : goal.returns-in_ok-plan-in-Open-clause-told
 returns-in_ok-plan-in-Open-clause-told g c =
-    shown_opened (merge_reply c.args.name.now c.args.limits.now c.args.replica.now.held) c.args.other.now c.args.limits.now c.in-Open.other.held (g.H.Shelf.files c.args.shelf.now) c.in_ok-plan-in-Open.plan (rw c.in-Open.is at c.in_ok-status.ensures.told) c.in_ok-plan-in-Open.ensures.told
+    shown_opened (merge_reply c.args.name.now c.args.limits.now c.args.replica.now.held) c.args.other.now c.args.limits.now c.in-Open.other (g.H.Shelf.files c.args.shelf.now) c.in_ok-plan-in-Open.plan (rw c.in-Open.is at c.in_ok-status.ensures.told) c.in_ok-plan-in-Open.ensures.told
 
 pub returns-in-Refused-clause-some : goal.returns-in-Refused-clause-some
 returns-in-Refused-clause-some g c =
@@ -13,4 +13,4 @@ returns-in-Refused-clause-some g c =
 
 pub returns-in_ok-plan-in-Open-clause-some : goal.returns-in_ok-plan-in-Open-clause-some
 returns-in_ok-plan-in-Open-clause-some g c =
-    opened_shows c.args.other.now c.args.limits.now (merge_reply c.args.name.now c.args.limits.now c.args.replica.now.held) c.in-Open.other.held (plan_view c.in_ok-plan-in-Open.plan) (rw c.in-Open.is at c.in_ok-status.ensures.some) c.in_ok-plan-in-Open.ensures.told
+    opened_shows c.args.other.now c.args.limits.now (merge_reply c.args.name.now c.args.limits.now c.args.replica.now.held) c.in-Open.other (plan_view c.in_ok-plan-in-Open.plan) (rw c.in-Open.is at c.in_ok-status.ensures.some) c.in_ok-plan-in-Open.ensures.told

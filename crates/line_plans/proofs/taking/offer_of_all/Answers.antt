@@ -8,10 +8,10 @@ pub missing_positions-requires : goal.missing_positions-requires
 missing_positions-requires c = none_twice
 
 pub returns-clause-all : goal.returns-clause-all
-returns-clause-all c = c.in_ok-positions.ensures.events ∙ all_missing c.into_graph-graph.result ∙ c.into_graph-graph.ensures
+returns-clause-all c = c.in_ok-positions.ensures.events ∙ all_missing c.args.graph
 
 pub returns-clause-short : goal.returns-clause-short
 returns-clause-short c =
     let many = c.in_ok-positions.ensures.count in
-    let all = ap (length {A = Event}) (all_missing c.into_graph-graph.result ∙ c.into_graph-graph.ensures) in
+    let all = ap (length {A = Event}) (all_missing c.args.graph) in
     omega (arith, many, all, c.count-count.ensures, c.count-count.type_inv)

@@ -5,8 +5,10 @@ use Rattle.ew_model.specs.FileFaults.{FileFinding, file_finding}
 use Rattle.event_file.specs.declared.fault.FileFault.{FileFault}
 use Rattle.event_file.specs.Faults.{IsFault}
 use Rattle.event_file.specs.Rest.{IsNext, in_front}
-use Rattle.replica.specs.Giving.{Given, WereGiven}
-use Rattle.opened_files.proofs.Giving.{fault_behind, one_more}
+use Rattle.ew_model.specs.Limits.{LimitNumbers}
+use Rattle.replica.specs.Giving.{Given}
+use Rattle.opened_files.specs.Giving.{HasGivenLast}
+use Rattle.opened_files.proofs.Giving.{fault_behind, last_given}
 use Rattle.opened_files.proofs.give.give_events.Goals as goal
 
 pub returns-in_err-event-clause-fault : goal.returns-in_err-event-clause-fault
@@ -25,16 +27,40 @@ returns-in_err-push-clause-fault c =
     let found = file_finding c.args.limits.now.events c.args.bytes.now in
     subst (λ (r : Result Given FileFault). IfErr r (λ fault. IsFault fault found)) (sym (p.1 ∙ ap Err p.2)) tt
 
+pub returns-in_err-give_behind-clause-fault : goal.returns-in_err-give_behind-clause-fault
+returns-in_err-give_behind-clause-fault c =
+    let p = err_from_is_err_and c.from_residual-in_err-give_behind.result c.from_residual-in_err-give_behind.ensures.1 in
+    let found = file_finding c.args.limits.now.events c.args.bytes.now in
+    subst (λ (r : Result Given FileFault). IfErr r (λ fault. IsFault fault found)) (sym (p.1 ∙ ap Err p.2)) tt
+
+pub give_behind-requires : goal.give_behind-requires
+give_behind-requires c =
+    let front = c.loop-given.invariant.front in
+    let next : IsNext (Ok (Some c.in-Some.event)) c.loop-given.reader c.next_in.new.self =
+    subst (λ (o : Option Event). IsNext (Ok o) c.loop-given.reader c.next_in.new.self) c.in-Some.is c.in_ok-event.ensures in
+    let limits = c.in_ok-push.ensures.limits ∙ c.loop-given.invariant.limits in
+    record {
+      given = (
+        c.in_ok-reader.reader.found,
+        subst (λ (l : LimitNumbers). HasGivenLast c.in_ok-reader.reader.found c.push.new.self c.next_in.new.self l.events) (sym limits)
+            (last_given front.0 c.in-Some.event c.in_ok-reader.reader.found c.loop-given.given c.push.new.self c.loop-given.reader c.next_in.new.self c.args.limits.now.events front.1 next
+            (c.in_ok-push.ensures.given front.0 front.1.0)),
+      );
+    }
+
 pub loop-given-preserved : goal.loop-given-preserved
 loop-given-preserved c =
     let front = c.loop-given.invariant.front in
     let next : IsNext (Ok (Some c.in-Some.event)) c.loop-given.reader c.next_in.new.self =
     subst (λ (o : Option Event). IsNext (Ok o) c.loop-given.reader c.next_in.new.self) c.in-Some.is c.in_ok-event.ensures in
-    let were : WereGiven (front.0 ++ c.in-Some.event ∷ []) c.push.new.self = c.in_ok-push.ensures.given front.0 front.1.0 in
+    let limits = c.in_ok-push.ensures.limits ∙ c.loop-given.invariant.limits in
+    let found = c.in_ok-reader.reader.found in
+    let has = last_given front.0 c.in-Some.event found c.loop-given.given c.push.new.self c.loop-given.reader c.next_in.new.self c.args.limits.now.events front.1 next
+    (c.in_ok-push.ensures.given front.0 front.1.0) in
+    let more : HasGivenLast found c.give_behind.new.given c.give_behind.new.reader c.args.limits.now.events =
+    subst (λ (l : LimitNumbers). HasGivenLast found c.give_behind.new.given c.give_behind.new.reader l.events) limits
+    (c.in_ok-give_behind.ensures.given found (subst (λ (l : LimitNumbers). HasGivenLast found c.push.new.self c.next_in.new.self l.events) (sym limits) has)) in
     record {
-      limits = c.in_ok-push.ensures.limits ∙ c.loop-given.invariant.limits;
-      front = (
-        front.0 ++ c.in-Some.event ∷ [],
-        one_more front.0 c.in-Some.event c.in_ok-reader.reader.found c.loop-given.given c.push.new.self c.loop-given.reader c.next_in.new.self c.args.limits.now.events front.1 next.0 next.1 were,
-      );
+      limits = c.in_ok-give_behind.ensures.limits ∙ limits;
+      front = (more.0 ++ more.1 ∷ [], more.3);
     }

@@ -1,6 +1,6 @@
 use Rattle.std.proofs.Common.{◌≡◌, List}
 use Rattle.ew_model.specs.declared.event.Event.{Event}
-use Rattle.opened_files.proofs.Giving.{IsGivenFront}
+use Rattle.opened_files.specs.Giving.{IsGivenFront}
 use Rattle.opened_files.proofs.give.give_events.Given as goal
 
 abbrev pub invariant-loop-given : goal.invariant-loop-given

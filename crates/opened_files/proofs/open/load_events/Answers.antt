@@ -1,0 +1,14 @@
+use Rattle.std.proofs.Common.{subst}
+use Rattle.ew_model.specs.FileFaults.{file_finding}
+use Rattle.command_table.specs.Loads.{whole}
+use Rattle.opened_files.specs.Reads.{IsReadAs}
+use Rattle.opened_files.proofs.Opening.{loaded_whole}
+use Rattle.opened_files.proofs.open.load_events.Goals as goal
+
+pub returns-in_ok-read-in-Whole-clause-some : goal.returns-in_ok-read-in-Whole-clause-some
+returns-in_ok-read-in-Whole-clause-some g c =
+    let limits = c.args.limits.now in (
+      whole c.in-Whole.bytes.items,
+      loaded_whole c.args.name.now limits c.in-Whole.bytes.items c.in_ok-read-in-Whole.field-0
+          (subst (λ bytes. IsReadAs c.args.name.now limits (file_finding limits.events bytes) c.in_ok-read-in-Whole.field-0) c.deref.ensures.value c.in_ok-read-in-Whole.ensures),
+    )
