@@ -10,3 +10,6 @@ pub mod SessionRuns
 pub mod SessionTables
 pub mod Starved
 pub mod Touches
+pub mod Lines
+pub mod Listings
+pub mod MadeReplies

@@ -11,7 +11,7 @@ use Rattle.command_table.specs.Table.{Command, MeansTo, reply_of, reads_input, n
 use Rattle.opened_files.specs.Views.{status_of, LostBy, IsRefusal}
 use Rattle.line_plans.specs.Sources.{Causes, KeepsInput, PlansBy}
 use Rattle.line_plans.specs.Merging.{LoadsAll}
-use Rattle.command_plans.specs.Lines.{MayPlan, MissesFor, PlansAlone, PlansLine, ReadsFor}
+use Rattle.command_runs.specs.Lines.{MayPlan, MissesFor, PlansAlone, PlansLine, ReadsFor}
 use Rattle.command_runs.specs.Endings.{EndFiles, EndOut, EndShelfCount, EndSinkCount, EndsPlan, SaysNone, end_status, end_text, FilesAfter, out_of}
 use Rattle.command_table.specs.Reads.{files_of, loads_of, LoadsFront, TakesAtMost, LeavesInput, IfEditRefused}
 use Rattle.command_table.specs.Headline.{Seen, Object, shelf, source, sink, faults_of, failed_text, TellsErr, IsOutOfMemory, FaultLeaves, NamesFault, IsStatus}

@@ -7,7 +7,7 @@ use Rattle.command_table.specs.Table.{Text, Command, reply_of, answer_of}
 use Rattle.opened_files.specs.Views.{plan_view, status_of, MissesBy}
 use Rattle.line_plans.specs.Sources.{ReadsAll}
 use Rattle.line_plans.specs.Merging.{LoadsAll}
-use Rattle.command_plans.specs.Lines.{MayPlan, MissesFor, PlansLine, ReadsFor}
+use Rattle.command_runs.specs.Lines.{MayPlan, MissesFor, PlansLine, ReadsFor}
 use Rattle.command_runs.specs.Endings.{EndOut, EndsPlan, SaysNone, end_of_stop, end_status, end_text}
 use Rattle.command_table.specs.Reads.{loads_of, LeavesInput, IfEditRefused}
 use Rattle.command_table.specs.Headline.{Seen, TellsErr, IsLineRun, IsRun}

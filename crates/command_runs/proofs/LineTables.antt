@@ -10,7 +10,7 @@ use Rattle.command_table.specs.Outputs.{GrowsByFront}
 use Rattle.command_table.specs.Table.{Command, Reply, Answer, ReadingOf, MeansTo, reply_of, answer_of}
 use Rattle.opened_files.specs.Views.{plan_view, status_of}
 use Rattle.line_plans.specs.Sources.{PlansBy}
-use Rattle.command_plans.specs.Lines.{PlansAlone}
+use Rattle.command_runs.specs.Lines.{PlansAlone}
 use Rattle.command_runs.specs.Endings.{EndFiles, EndOut, EndsPlan, end_status, end_text, FilesAfter}
 use Rattle.command_table.specs.Headline.{Seen, Object, shelf, source, sink, faults_of, TellsErr, IsAnswered, IsFailed, IsSaid, IsTableRun, NamesFault}
 use Rattle.opened_files.specs.declared.reply.Plan.{Plan}

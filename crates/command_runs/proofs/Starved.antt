@@ -5,7 +5,7 @@ use Rattle.command_table.specs.Sessions.{served}
 use Rattle.command_table.specs.Text.{out_of_memory}
 use Rattle.command_table.specs.Table.{Text, Command, Line, does, serves}
 use Rattle.command_table.specs.Headline.{Seen, TellsErr, IsLineRun, IsRunOf, IsSessionRun}
-use Rattle.line_plans.proofs.Reading.{holds_edit_refused, holds_refused, takes_none}
+use Rattle.opened_files.proofs.Reading.{holds_edit_refused, holds_refused, takes_none}
 use Rattle.opened_files.specs.declared.reply.Plan.{Plan}
 use Rattle.opened_files.specs.declared.reply.Stop.TheVariants as stop
 use Rattle.serve_plans.specs.declared.halt.Halt.{Halt}

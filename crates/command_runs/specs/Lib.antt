@@ -2,3 +2,6 @@
 pub mod Endings
 pub mod LineTouches
 pub mod SessionEndings
+pub mod Lines
+pub mod Listings
+pub mod Making

@@ -9,7 +9,7 @@ ghost use Rattle.opened_files.specs.Touches.{CommandTakes};
 ghost use Rattle.serve_plans.specs.SessionTouches.{SessionTakes};
 
 use crate::ending::{Ending, carry_out, finish, tell};
-use command_plans::plan::make_plan;
+use crate::plan::make_plan;
 use command_words::words::{Line, Taken, read_words};
 use ew_model::limits::Limits;
 use ew_model::steps::Steps;

@@ -2,7 +2,7 @@
 use Rattle.std.specs.Prelude.{◌≡◌, ◌≤◌, ◌⊎◌, ℕ, List, length, Option, None, Some}
 use Rattle.ew_model.specs.FileLaws.{AreBytes}
 use Rattle.ew_model.specs.Limits.{LimitNumbers}
-use Rattle.generator.specs.Making.{made}
+use Rattle.peer_words.specs.Making.{made}
 use Rattle.command_table.specs.Loads.{File}
 use Rattle.command_table.specs.Scripts.{Reading, Means, NetReading, MeansNet}
 use Rattle.command_table.specs.Text.{usage, input_too_long}

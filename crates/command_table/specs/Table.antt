@@ -30,13 +30,13 @@ use Rattle.peer_exchange.specs.Answering.{is_clash}
 use Rattle.history_words.specs.Listings.{check_text, heads_text, log_text}
 use Rattle.history_words.specs.Replays.{replay_text}
 use Rattle.history_words.specs.Tallies.{accepted_in, repeats_in, refused_in}
-use Rattle.net_core.specs.Answers.{RunOutcome, net_run}
-use Rattle.net_core.specs.Answers.RunOutcome.{Ran, Broke}
-use Rattle.net_core.specs.Machine as machine
-use Rattle.net_core.specs.Machine.{empty_network}
-use Rattle.net_core.specs.Machine.Refusal.{NoPeer, PeerTwice, NoPacket, NoEdit}
-use Rattle.generator.specs.Making.{Made, made, printed}
-use Rattle.generator.specs.Making.Made.{Going, Stopped}
+use Rattle.peer_words.specs.Runs.{RunOutcome, net_run}
+use Rattle.peer_words.specs.Runs.RunOutcome.{Ran, Broke}
+use Rattle.peer_words.specs.Machine as machine
+use Rattle.peer_words.specs.Machine.{empty_network}
+use Rattle.peer_words.specs.Machine.Refusal.{NoPeer, PeerTwice, NoPacket, NoEdit}
+use Rattle.peer_words.specs.Making.{Made, made, printed}
+use Rattle.peer_words.specs.Making.Made.{Going, Stopped}
 use Rattle.command_table.specs.Cli.{egw_app, most_made, most_seed}
 use Rattle.command_table.specs.Loads.{File, missing, too_long, whole, whole_of}
 use Rattle.command_table.specs.VersionWords.{version_in}

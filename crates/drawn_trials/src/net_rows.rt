@@ -8,7 +8,7 @@ use ew_model::limits::Limits;
 use ew_model::name::Name;
 use ew_model::steps::Steps;
 use net_core::{Net, NetFault};
-use net_words::step::NetStep;
+use event_words::net::step::NetStep;
 use std::alloc::Global;
 use std::sync::ledger::Ledger;
 use trial_rows::fault::Fault;

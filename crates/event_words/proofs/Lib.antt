@@ -6,3 +6,5 @@ pub mod LineParts
 pub mod Lines
 pub mod Numbers
 pub mod Texts
+pub mod LineWords
+pub mod Verbs

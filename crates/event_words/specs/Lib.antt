@@ -1,2 +1,4 @@
 pub mod IdLists
 pub mod Meaning
+pub mod NetScripts
+pub mod Verbs

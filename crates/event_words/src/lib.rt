@@ -1,9 +1,10 @@
-//! The words of the editor as bytes: edit scripts and versions are read, and ids, versions and characters are printed. What
+//! The words of the editor as bytes: edit scripts, net scripts and versions are read, and ids, versions and characters are printed. What
 //! the bytes mean is said in `specs/Scripts.antt` of `ew_model`, and in `specs/Versions.antt` of `history_words`.
 #![tactic(auto)]
 
 pub mod edit;
 mod line;
+pub mod net;
 pub mod print;
 pub mod script;
 pub mod text;

@@ -13,7 +13,7 @@ use Rattle.replica.specs.Receiving.{state_at}
 use Rattle.arrival_laws.specs.Repeats.{without_held}
 use Rattle.arrival_laws.proofs.Repeats.{held_events_change_nothing}
 use Rattle.arrival_laws.proofs.Settling.{none_ready_behind}
-use Rattle.generator.specs.Making.{gives, newcomer, peer_at}
+use Rattle.peer_words.specs.Making.{gives, newcomer, peer_at}
 use Rattle.generator.specs.Owning.{ArePeers, HasOwned, IsOwned, NamesOwned}
 use Rattle.generator.proofs.Growing.{HoldsMore, judgements_grow}
 

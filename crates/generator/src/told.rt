@@ -2,7 +2,7 @@
 
 ghost use Rattle.std.specs.Prelude.{◌≡◌, IfOk};
 ghost use Rattle.ew_model.specs.Texts.{text_of};
-ghost use Rattle.generator.specs.Making.{digest_line, history_lines, printed};
+ghost use Rattle.peer_words.specs.Making.{digest_line, history_lines, printed};
 ghost use Rattle.generator.specs.Owning.{ArePeers};
 
 use crate::peers::Peers;

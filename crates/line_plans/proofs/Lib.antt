@@ -1,4 +1,3 @@
-pub mod Reading
 pub mod Readings
 pub mod Replies
 pub mod Stops

@@ -2,12 +2,13 @@
 use Rattle.std.proofs.Common.{◌≡◌, ◌≤◌, ◌∙◌, inr, ℕ, List, length, IsSomeAnd, Some, Result, Ok, Err, IfOk, sym, ap, subst}
 use Rattle.std.specs.declared.alloc.AllocError.{AllocError}
 use Rattle.ew_model.specs.Limits.{LimitNumbers}
-use Rattle.net_words.specs.declared.step.NetStep.{NetStep}
+use Rattle.event_words.specs.declared.net.step.NetStep.{NetStep}
 use Rattle.net_core.specs.declared.fault.NetFault.{NetFault}
 use Rattle.net_core.specs.declared.fault.NetFault.TheVariants as fault
-use Rattle.net_core.specs.Answers.{RunsTo, net_run, refusal_told}
-use Rattle.net_core.specs.Answers.RunOutcome.{Broke}
-use Rattle.net_core.specs.Machine.{Refusal, empty_network}
+use Rattle.net_core.specs.Answers.{RunsTo, refusal_told}
+use Rattle.peer_words.specs.Runs.{net_run}
+use Rattle.peer_words.specs.Runs.RunOutcome.{Broke}
+use Rattle.peer_words.specs.Machine.{Refusal, empty_network}
 use Rattle.command_table.specs.Possible.{MayNet}
 use Rattle.command_table.specs.Table.{net_refusal, net_run_reply, net_script_reply}
 use Rattle.opened_files.specs.declared.reply.Plan.{Plan}

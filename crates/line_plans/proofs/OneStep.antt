@@ -11,9 +11,9 @@ use Rattle.ew_model.proofs.EscapedText.{escaped_once}
 use Rattle.ew_model.proofs.LineLaws.{Lacks}
 use Rattle.ew_model.proofs.ScriptReading.{decimal_lacks_space}
 use Rattle.event_words.proofs.IdTexts.{name_lacks}
-use Rattle.net_words.specs.declared.step.NetStep.{NetStep}
-use Rattle.net_words.specs.declared.step.NetStep.TheVariants.{Peer, Ins, Del, Push, Send, Ask, Deliver, Restart, Show, Agree}
-use Rattle.net_words.specs.NetScripts.{IsSoundStep, MeansStep, net_line}
+use Rattle.event_words.specs.declared.net.step.NetStep.{NetStep}
+use Rattle.event_words.specs.declared.net.step.NetStep.TheVariants.{Peer, Ins, Del, Push, Send, Ask, Deliver, Restart, Show, Agree}
+use Rattle.event_words.specs.NetScripts.{IsSoundStep, MeansStep, net_line}
 
 -- what stands before the first space, and what behind it
 abbrev first : List ℕ → List ℕ

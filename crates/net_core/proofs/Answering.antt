@@ -14,15 +14,15 @@ use Rattle.ew_model.proofs.SetLaws.{among_filter, among_joined, filter_among}
 use Rattle.ew_model.proofs.SortingLaws.{all_at, all_from}
 use Rattle.event_graph.specs.Missing.{missing}
 use Rattle.event_graph.specs.Summary.{summary_of}
-use Rattle.net_words.specs.declared.step.NetStep.{NetStep}
-use Rattle.net_words.specs.declared.step.NetStep.TheVariants as step
+use Rattle.event_words.specs.declared.net.step.NetStep.{NetStep}
+use Rattle.event_words.specs.declared.net.step.NetStep.TheVariants as step
 use Rattle.peer_exchange.specs.Answering.{event_frames, question}
 use Rattle.peer_exchange.specs.Laws.{unheld}
 use Rattle.peer_exchange.proofs.MissingLaw.{missing_are_unheld}
 use Rattle.peer_frames.specs.declared.frame.Frame.TheVariants as frame
 use Rattle.net_core.specs.Keeping.{IsHome}
 use Rattle.net_core.specs.Laws.{AnswersArrive, Delivered, after_steps, network_left}
-use Rattle.net_core.specs.Machine.{Network, Packet, Peer, net_step, peer_of, with_packet, with_peer}
+use Rattle.peer_words.specs.Machine.{Network, Packet, Peer, net_step, peer_of, with_packet, with_peer}
 use Rattle.net_core.proofs.Editing.{replica_of}
 use Rattle.net_core.proofs.Following.{Follows, IsGrown, peer_did, step_follows, steps_follow, then_follows}
 use Rattle.net_core.proofs.Homes.{one_home}

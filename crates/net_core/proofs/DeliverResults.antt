@@ -8,7 +8,7 @@ use Rattle.std.proofs.lemmas.Bool.{cases_Bool, cond-true, cond-false}
 use Rattle.ew_model.specs.Kept.{ReplicaState}
 use Rattle.ew_model.specs.Limits.{LimitNumbers}
 use Rattle.ew_model.proofs.SortingLaws.{all_at}
-use Rattle.net_words.specs.declared.step.NetStep.TheVariants as step
+use Rattle.event_words.specs.declared.net.step.NetStep.TheVariants as step
 use Rattle.peer_frames.specs.Laws.{IsTaken}
 use Rattle.peer_frames.specs.declared.frame.Frame.{Frame}
 use Rattle.net_core.specs.declared.fault.NetFault.{NetFault}
@@ -17,9 +17,9 @@ use Rattle.net_core.specs.Answers.{IsLeftAt, IsLeftIn, StepsTo, refusal_told, to
 use Rattle.net_core.specs.Handing.{IsNotHanded}
 use Rattle.net_core.specs.Keeping.{IsPacket, IsReached}
 use Rattle.net_core.specs.Laws.{NoneClashes}
-use Rattle.net_core.specs.Machine.{Network, Packet, Peer, StepOutcome, deliver_step, delivery_of, net_step, peer_of, print_before, put_replica, with_packet, with_replies}
-use Rattle.net_core.specs.Machine.Refusal.{NoPacket, NoPeer}
-use Rattle.net_core.specs.Machine.StepOutcome.{Refused, Stepped}
+use Rattle.peer_words.specs.Machine.{Network, Packet, Peer, StepOutcome, deliver_step, delivery_of, net_step, peer_of, print_before, put_replica, with_packet, with_replies}
+use Rattle.peer_words.specs.Machine.Refusal.{NoPacket, NoPeer}
+use Rattle.peer_words.specs.Machine.StepOutcome.{Refused, Stepped}
 use Rattle.net_core.proofs.Editing.{replica_of}
 use Rattle.ew_model.proofs.OperationLaws.{got}
 use Rattle.net_core.proofs.Packets.{deliver_is, delivered_homely, frames_apart, frames_taken, left_all, left_homely, left_none, left_some, no_packet, replies_are, with_some}

@@ -29,7 +29,7 @@ use Rattle.replica.specs.Receiving.{StopsBetween}
 use Rattle.net_core.specs.Answers.{IsLeftIn}
 use Rattle.net_core.specs.Keeping.{IsHome, IsReplica, events_in}
 use Rattle.net_core.specs.Laws.{IsRoomRefusal, NoneClashes, answers_in, answers_to, is_clash}
-use Rattle.net_core.specs.Machine.{Peer, delivery_of}
+use Rattle.peer_words.specs.Machine.{Peer, delivery_of}
 use Rattle.net_core.proofs.Arrivals.{AreTurns, arrival, turns}
 use Rattle.net_core.proofs.Arriving.{IsFrom}
 use Rattle.net_core.proofs.Homes.{one_home, was_home}

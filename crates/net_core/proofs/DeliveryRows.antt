@@ -15,7 +15,7 @@ use Rattle.peer_frames.specs.declared.frame.Frame.TheVariants.{Have, Events, Don
 use Rattle.peer_frames.specs.declared.frame.Frame.TheVariants as frame
 use Rattle.net_core.specs.Bytes.{reply_lines}
 use Rattle.net_core.specs.Laws.{NoneClashes, is_clash}
-use Rattle.net_core.specs.Machine.{Peer, frame_line}
+use Rattle.peer_words.specs.Machine.{Peer, frame_line}
 use Rattle.net_core.proofs.Deliveries.{all_before}
 use Rattle.net_core.proofs.Told.{no_first_clash}
 

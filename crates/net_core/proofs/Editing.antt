@@ -13,11 +13,11 @@ use Rattle.ew_model.proofs.EditLaws.{edits_keep}
 use Rattle.ew_model.proofs.IdLaws.{name_exact, names_equal}
 use Rattle.ew_model.proofs.SetLaws.{joined_left, joined_right}
 use Rattle.ew_model.proofs.SortingLaws.{all_at, all_from}
-use Rattle.net_words.specs.declared.step.NetStep.{NetStep}
+use Rattle.event_words.specs.declared.net.step.NetStep.{NetStep}
 use Rattle.net_core.specs.Keeping.{IsHome, IsReplica}
-use Rattle.net_core.specs.Machine.{Network, Peer, StepOutcome, edit_outcome, edit_step, net_step, peer_among, peer_of, printed_line, put_replica, restart_outcome, with_peer}
-use Rattle.net_core.specs.Machine.Refusal.{NoEdit}
-use Rattle.net_core.specs.Machine.StepOutcome.{Stepped, Refused}
+use Rattle.peer_words.specs.Machine.{Network, Peer, StepOutcome, edit_outcome, edit_step, net_step, peer_among, peer_of, printed_line, put_replica, restart_outcome, with_peer}
+use Rattle.peer_words.specs.Machine.Refusal.{NoEdit}
+use Rattle.peer_words.specs.Machine.StepOutcome.{Stepped, Refused}
 use Rattle.net_core.proofs.Awaiting.{none_awaited, replica_at}
 use Rattle.ew_model.proofs.EntryLaws.{all_joined}
 use Rattle.net_core.proofs.Deliveries.{Went}

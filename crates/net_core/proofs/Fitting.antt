@@ -23,9 +23,9 @@ use Rattle.ew_model.proofs.SortingLaws.{all_at}
 use Rattle.event_graph.proofs.Tails.{all_first}
 use Rattle.event_graph.specs.Missing.{missing}
 use Rattle.history_words.specs.Tallies.{accepted_in, is_repeat, refused_in, repeats_in}
-use Rattle.net_words.specs.NetScripts.{IsSoundStep}
-use Rattle.net_words.specs.declared.step.NetStep.{NetStep}
-use Rattle.net_words.specs.declared.step.NetStep.TheVariants as step
+use Rattle.event_words.specs.NetScripts.{IsSoundStep}
+use Rattle.event_words.specs.declared.net.step.NetStep.{NetStep}
+use Rattle.event_words.specs.declared.net.step.NetStep.TheVariants as step
 use Rattle.peer_exchange.proofs.Ascending.{summary_sound}
 use Rattle.peer_exchange.proofs.Lengths.{all_drop, bye_taken, missing_few, missing_sound, question_taken, sent_taken, took_taken}
 use Rattle.peer_exchange.proofs.Refused.{refused_each}
@@ -38,9 +38,9 @@ use Rattle.peer_frames.specs.declared.frame.Frame.TheVariants.{Have, Events, Don
 use Rattle.std.specs.List.{flat_map}
 use Rattle.net_core.specs.Keeping.{IsHome, IsReached, IsReplica}
 use Rattle.net_core.specs.Laws.{NetsAreReached, after_steps, network_left}
-use Rattle.net_core.specs.Machine.{Network, Packet, Peer, StepOutcome, deliver_step, delivery_of, edit_outcome, empty_network, net_step, peer_of, peer_step, piece_of, print_before, put_replica, restart_outcome, with_packet, with_peer, with_replies}
-use Rattle.net_core.specs.Machine.Refusal.{NoPacket}
-use Rattle.net_core.specs.Machine.StepOutcome.{Refused}
+use Rattle.peer_words.specs.Machine.{Network, Packet, Peer, StepOutcome, deliver_step, delivery_of, edit_outcome, empty_network, net_step, peer_of, peer_step, piece_of, print_before, put_replica, restart_outcome, with_packet, with_peer, with_replies}
+use Rattle.peer_words.specs.Machine.Refusal.{NoPacket}
+use Rattle.peer_words.specs.Machine.StepOutcome.{Refused}
 use Rattle.net_core.proofs.Counting.{adds_one}
 use Rattle.net_core.proofs.Deliveries.{all_before, few_parents, no_clashes, room_in, went, went_all}
 use Rattle.net_core.proofs.Editing.{named_so, replica_of}

@@ -14,16 +14,16 @@ use Rattle.ew_model.proofs.IdLaws.{name_exact}
 use Rattle.ew_model.proofs.SetLaws.{joined_left}
 use Rattle.ew_model.proofs.SortingLaws.{all_at}
 use Rattle.event_graph.proofs.Tails.{all_first}
-use Rattle.net_words.specs.declared.step.NetStep.{NetStep}
-use Rattle.net_words.specs.declared.step.NetStep.TheVariants as step
+use Rattle.event_words.specs.declared.net.step.NetStep.{NetStep}
+use Rattle.event_words.specs.declared.net.step.NetStep.TheVariants as step
 use Rattle.peer_exchange.proofs.Lengths.{all_drop}
 use Rattle.peer_exchange.specs.Answering.{event_frames, question}
 use Rattle.peer_frames.specs.declared.frame.Frame.{Frame}
 use Rattle.net_core.specs.Keeping.{IsHome, IsReplica}
 use Rattle.net_core.specs.Laws.{after_steps, network_left}
-use Rattle.net_core.specs.Machine.{Network, Packet, Peer, Refusal, StepOutcome, deliver_step, delivery_of, edit_outcome, net_step, peer_among, peer_of, peer_step, piece_of, print_before, put_replica, restart_outcome, with_packet, with_peer, with_replies}
-use Rattle.net_core.specs.Machine.Refusal.{NoPeer, NoPacket}
-use Rattle.net_core.specs.Machine.StepOutcome.{Stepped, Refused}
+use Rattle.peer_words.specs.Machine.{Network, Packet, Peer, Refusal, StepOutcome, deliver_step, delivery_of, edit_outcome, net_step, peer_among, peer_of, peer_step, piece_of, print_before, put_replica, restart_outcome, with_packet, with_peer, with_replies}
+use Rattle.peer_words.specs.Machine.Refusal.{NoPeer, NoPacket}
+use Rattle.peer_words.specs.Machine.StepOutcome.{Stepped, Refused}
 use Rattle.net_core.proofs.Deliveries.{Went, homes_in_frames, went_all}
 use Rattle.net_core.proofs.Editing.{edited_homely, edited_state, grows, named_so, replica_of, restarted, restarted_homely, went_homely}
 use Rattle.ew_model.proofs.OperationLaws.{got}

@@ -16,15 +16,15 @@ use Rattle.ew_model.proofs.SameEvents.{event_among}
 use Rattle.ew_model.proofs.SetLaws.{among_filter, among_joined, filter_among}
 use Rattle.ew_model.proofs.SortingLaws.{all_at, all_from}
 use Rattle.event_graph.specs.Missing.{missing}
-use Rattle.net_words.specs.declared.step.NetStep.{NetStep}
-use Rattle.net_words.specs.declared.step.NetStep.TheVariants as step
+use Rattle.event_words.specs.declared.net.step.NetStep.{NetStep}
+use Rattle.event_words.specs.declared.net.step.NetStep.TheVariants as step
 use Rattle.peer_exchange.specs.Answering.{event_frames, question}
 use Rattle.peer_frames.specs.declared.frame.Frame.{Frame}
 use Rattle.peer_frames.specs.declared.frame.Frame.TheVariants as frame
 use Rattle.net_core.specs.Keeping.{IsHome, IsReached, IsReplica}
 use Rattle.net_core.specs.Laws.{Agree, AgreementIsTold, Delivered, HeldAll, HoldsAllOf, OnlyFullRefuses, PushesArrive, after_steps, answers_in, network_left}
-use Rattle.net_core.specs.Machine.{Network, Packet, Peer, StepOutcome, agree_line, all_agree, delivery_of, net_step, packet_step, peer_among, peer_of, print_before, printed_line, put_replica, with_packet, with_peer, with_replies}
-use Rattle.net_core.specs.Machine.StepOutcome.{Stepped, Refused}
+use Rattle.peer_words.specs.Machine.{Network, Packet, Peer, StepOutcome, agree_line, all_agree, delivery_of, net_step, packet_step, peer_among, peer_of, print_before, printed_line, put_replica, with_packet, with_peer, with_replies}
+use Rattle.peer_words.specs.Machine.StepOutcome.{Stepped, Refused}
 use Rattle.net_core.proofs.Agreeing.{agree_by_one, all_as_one}
 use Rattle.net_core.proofs.Deliveries.{room_in_all}
 use Rattle.net_core.proofs.Editing.{replica_of}

@@ -9,8 +9,8 @@ use Rattle.peer_exchange.specs.Answering.{event_frames}
 use Rattle.peer_frames.specs.Laws.{IsTaken}
 use Rattle.peer_frames.specs.declared.frame.Frame.{Frame}
 use Rattle.net_core.specs.Keeping.{IsHome, IsPacket, IsReached, IsReplica}
-use Rattle.net_core.specs.Machine.{Network, Peer, StepOutcome, packet_step, peer_of, piece_of, print_before, with_packet}
-use Rattle.net_core.specs.Machine.StepOutcome.{Stepped}
+use Rattle.peer_words.specs.Machine.{Network, Peer, StepOutcome, packet_step, peer_of, piece_of, print_before, with_packet}
+use Rattle.peer_words.specs.Machine.StepOutcome.{Stepped}
 use Rattle.net_core.proofs.Deliveries.{homes_in_frames}
 use Rattle.net_core.proofs.Editing.{replica_of}
 use Rattle.net_core.proofs.Packets.{sent_between}

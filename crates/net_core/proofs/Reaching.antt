@@ -15,7 +15,7 @@ use Rattle.ew_model.proofs.IdLaws.{names_equal}
 use Rattle.peer_frames.specs.declared.frame.Frame.{Frame}
 use Rattle.peer_frames.specs.Laws.{IsTaken}
 use Rattle.net_core.specs.Keeping.{AreNamedApart, IsFrame, IsHome, IsPacket, IsReached, IsReplica, events_in}
-use Rattle.net_core.specs.Machine.{Network, Packet, Peer, peer_among}
+use Rattle.peer_words.specs.Machine.{Network, Packet, Peer, peer_among}
 use Rattle.net_core.proofs.Puts.{found_put, put_apart, put_elsewhere, put_here, put_in, still_home}
 
 -- what each element passes on

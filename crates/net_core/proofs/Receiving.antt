@@ -9,7 +9,7 @@ use Rattle.peer_frames.specs.declared.frame.Frame.TheVariants.{Have, Events, Don
 use Rattle.net_core.specs.Answers.{IsLeftIn}
 use Rattle.net_core.specs.Bytes.{reply_line, reply_lines}
 use Rattle.net_core.specs.Laws.{NoneClashes, answers_in, answers_to, is_clash}
-use Rattle.net_core.specs.Machine.{Peer, delivery_of, frame_line}
+use Rattle.peer_words.specs.Machine.{Peer, delivery_of, frame_line}
 use Rattle.net_core.proofs.Deliveries.{all_before}
 
 -- no element is left

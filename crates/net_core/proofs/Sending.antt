@@ -29,7 +29,7 @@ use Rattle.peer_frames.specs.declared.frame.Frame.{Frame}
 use Rattle.peer_frames.specs.declared.frame.Frame.TheVariants as frame
 use Rattle.net_core.specs.Keeping.{IsHome, IsReplica}
 use Rattle.net_core.specs.Laws.{HeldAll, answers_in, answers_to, is_graph_full}
-use Rattle.net_core.specs.Machine.{Peer, delivery_of}
+use Rattle.peer_words.specs.Machine.{Peer, delivery_of}
 use Rattle.net_core.proofs.CatchingUp.{AreOrdered, all_caught}
 use Rattle.net_core.proofs.Deliveries.{Went, all_before, from_desk, went, went_all}
 use Rattle.net_core.proofs.Homes.{one_home, was_home}

@@ -4,17 +4,17 @@ use Rattle.std.specs.Global.{Vec}
 use Rattle.ew_model.specs.Edits.EditRefusal.{OutOfRange, TooManyHeads, Full}
 use Rattle.ew_model.specs.Kept.{ReplicaState}
 use Rattle.ew_model.specs.Limits.{LimitNumbers}
-use Rattle.net_words.specs.declared.step.NetStep.{NetStep}
-use Rattle.net_words.specs.declared.step.NetStep.TheVariants as step
+use Rattle.event_words.specs.declared.net.step.NetStep.{NetStep}
+use Rattle.event_words.specs.declared.net.step.NetStep.TheVariants as step
 use Rattle.peer_exchange.specs.Answering.{answer_to, IsLeftBy}
 use Rattle.peer_frames.specs.declared.frame.Frame.{Frame}
 use Rattle.replica.specs.declared.fault.EditFault.{EditFault}
 use Rattle.replica.specs.declared.fault.EditFault.TheVariants as edit
 use Rattle.net_core.specs.declared.fault.NetFault.{NetFault}
 use Rattle.net_core.specs.declared.fault.NetFault.TheVariants as fault
-use Rattle.net_core.specs.Machine.{Network, Packet, Peer, Refusal, StepOutcome, empty_network, net_step, peer_of, put_replica}
-use Rattle.net_core.specs.Machine.Refusal.{NoPeer, PeerTwice, NoPacket, NoEdit}
-use Rattle.net_core.specs.Machine.StepOutcome.{Stepped, Refused}
+use Rattle.peer_words.specs.Machine.{Network, Packet, Peer, Refusal, StepOutcome, empty_network, net_step, peer_of, put_replica}
+use Rattle.peer_words.specs.Machine.Refusal.{NoPeer, PeerTwice, NoPacket, NoEdit}
+use Rattle.peer_words.specs.Machine.StepOutcome.{Stepped, Refused}
 
 -- the refusal that a fault tells; none for want of memory
 abbrev pub refusal_told : NetFault → Option Refusal
@@ -60,25 +60,6 @@ abbrev pub StepsTo : Network → NetStep → Network → Result (List ℕ) NetFa
 StepsTo old s new (Ok printed) = net_step old s ≡ Stepped new printed
 StepsTo old s new (Err fault.OutOfMemory) = IsLeftAt old (handed_over old s) new
 StepsTo old s new (Err f) = ((why : Refusal) × (refusal_told f ≡ Some why) × (net_step old s ≡ Refused why)) × (new ≡ old)
-
--- what all numbered steps print, or the first refusal with the number of its line
-pub data RunOutcome : Type 0 where
-  Ran : (printed : List ℕ) → RunOutcome
-  Broke : (line : ℕ) (why : Refusal) → RunOutcome
-
-abbrev pub more_printed : List ℕ → RunOutcome → RunOutcome
-more_printed printed (Ran more) = Ran (printed ++ more)
-more_printed printed (Broke line why) = Broke line why
-
--- a run goes on from a step that isn't refused
-abbrev pub go_on : ℕ → StepOutcome → (Network → RunOutcome) → RunOutcome
-go_on line (Stepped network printed) run = more_printed printed (run network)
-go_on line (Refused why) run = Broke line why
-
--- the steps one after another
-abbrev pub net_run : Network → List (ℕ × NetStep) → RunOutcome
-net_run network [] = Ran []
-net_run network (x ∷ steps) = go_on x.0 (net_step network x.1) (λ next. net_run next steps)
 
 -- The run of a script from no peers on: what all lines print, or the first refusal with its line. Where memory is wanting at a
 -- line, no earlier one is refused.

@@ -2,7 +2,7 @@
 use Rattle.std.specs.Prelude.{ℕ, List, [], ◌∷◌, if◌then◌else◌, ◌==◌, codes, decimal, flat_map}
 use Rattle.peer_frames.specs.declared.frame.Frame.{Frame}
 use Rattle.peer_frames.specs.declared.frame.Frame.TheVariants.{Took}
-use Rattle.net_core.specs.Machine.{printed_line}
+use Rattle.peer_words.specs.Machine.{printed_line}
 
 -- a newline and a backslash are escaped, and any other byte stands for itself
 abbrev pub escaped_byte : ℕ → List ℕ

@@ -9,7 +9,7 @@ use Rattle.ew_model.specs.Sets.{Among}
 use Rattle.peer_frames.specs.declared.frame.Frame.{Frame}
 use Rattle.peer_frames.specs.declared.frame.Frame.TheVariants.{Events}
 use Rattle.peer_frames.specs.Laws.{IsTaken}
-use Rattle.net_core.specs.Machine.{Network, Packet, Peer, peer_among}
+use Rattle.peer_words.specs.Machine.{Network, Packet, Peer, peer_among}
 
 -- no two peers have one name
 abbrev pub AreNamedApart : List Peer → Type 0

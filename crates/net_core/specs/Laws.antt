@@ -13,15 +13,15 @@ use Rattle.ew_model.specs.Texts.{text_of}
 use Rattle.ew_model.specs.Verdicts.{Ruling}
 use Rattle.ew_model.specs.Verdicts.Ruling.{Clash, GraphFull}
 use Rattle.history_words.specs.Tallies.{refused_by}
-use Rattle.net_words.specs.declared.step.NetStep.{NetStep}
-use Rattle.net_words.specs.declared.step.NetStep.TheVariants as step
-use Rattle.net_words.specs.NetScripts.{IsSoundStep}
+use Rattle.event_words.specs.declared.net.step.NetStep.{NetStep}
+use Rattle.event_words.specs.declared.net.step.NetStep.TheVariants as step
+use Rattle.event_words.specs.NetScripts.{IsSoundStep}
 use Rattle.peer_exchange.specs.Answering.{answer_to}
 use Rattle.peer_frames.specs.declared.frame.Frame.{Frame}
 use Rattle.peer_frames.specs.declared.frame.Frame.TheVariants.{Events}
 use Rattle.net_core.specs.Keeping.{IsReached}
-use Rattle.net_core.specs.Machine.{Network, Packet, Peer, StepOutcome, agree_line, empty_network, net_step, peer_of, printed_line}
-use Rattle.net_core.specs.Machine.StepOutcome.{Stepped, Refused}
+use Rattle.peer_words.specs.Machine.{Network, Packet, Peer, StepOutcome, agree_line, empty_network, net_step, peer_of, printed_line}
+use Rattle.peer_words.specs.Machine.StepOutcome.{Stepped, Refused}
 
 -- the network that a step leaves, if it isn't refused
 abbrev pub network_left : StepOutcome → Option Network

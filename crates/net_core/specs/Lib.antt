@@ -1,4 +1,3 @@
-pub mod Machine
 pub mod Answers
 pub mod Bytes
 pub mod Keeping

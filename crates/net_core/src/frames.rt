@@ -6,7 +6,7 @@ ghost use Rattle.ew_model.specs.declared.event.Event.{Event};
 ghost use Rattle.ew_model.specs.Sound.{AreSound};
 ghost use Rattle.peer_exchange.specs.Answering.{event_frames};
 ghost use Rattle.peer_frames.specs.Laws.{IsTaken};
-ghost use Rattle.net_core.specs.Machine.{piece_of};
+ghost use Rattle.peer_words.specs.Machine.{piece_of};
 
 use event_graph::Graph;
 use ew_model::NoMem;

@@ -20,7 +20,7 @@ pub struct Packet {
 }
 
 impl Model for Packet {
-    ghost use Rattle.net_core.specs.Machine.{Packet};
+    ghost use Rattle.peer_words.specs.Machine.{Packet};
 
     ghost Value = { Packet };
 

@@ -9,7 +9,7 @@ ghost use Rattle.peer_exchange.specs.Answering.{IsLeftBy, IsReply, answer_to, ev
 ghost use Rattle.peer_frames.specs.Laws.{IsTaken};
 ghost use Rattle.peer_frames.specs.Spelling.{HasSpelling};
 ghost use Rattle.replica.specs.Answers.{EditsBy};
-ghost use Rattle.net_core.specs.Machine.{built_again, piece_of};
+ghost use Rattle.peer_words.specs.Machine.{built_again, piece_of};
 
 use crate::frames::{in_frames, piece};
 use event_words::text::Text;
@@ -32,7 +32,7 @@ pub struct Peer {
 }
 
 impl Model for Peer {
-    ghost use Rattle.net_core.specs.Machine.{Peer};
+    ghost use Rattle.peer_words.specs.Machine.{Peer};
 
     ghost Value = { Peer };
 

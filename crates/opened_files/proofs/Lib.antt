@@ -2,5 +2,6 @@ pub mod FileBytes
 pub mod Giving
 pub mod GraphRecords
 pub mod Opening
+pub mod Reading
 pub mod Shown
 pub mod Touches

@@ -21,7 +21,7 @@ use Rattle.command_table.specs.Framings.{BeginWith, Framing, IsFramingOf}
 use Rattle.command_table.specs.Reads.{TakesAtMost}
 use Rattle.command_table.specs.Sessions.{Exchange, exchanged, then_exchanged, is_bye}
 use Rattle.command_table.specs.Table.{Text, prints, stores, refuses}
-use Rattle.line_plans.proofs.Reading.{takes_few, takes_none}
+use Rattle.opened_files.proofs.Reading.{takes_few, takes_none}
 use Rattle.opened_files.specs.declared.reply.Plan.{Plan}
 use Rattle.opened_files.specs.declared.reply.Plan.TheVariants as plan
 use Rattle.opened_files.specs.Views.{plan_view, status_of}

@@ -19,7 +19,7 @@ use Rattle.opened_files.specs.declared.reply.Stop.TheVariants as stop
 use Rattle.opened_files.specs.Views.{plan_view}
 use Rattle.command_table.specs.Possible.{MayOpen, MayServe}
 use Rattle.command_table.specs.Reads.{TakesAtMost}
-use Rattle.line_plans.proofs.Reading.{takes_few}
+use Rattle.opened_files.proofs.Reading.{takes_few}
 use Rattle.serve_plans.specs.declared.halt.Halt.{Halt}
 use Rattle.serve_plans.specs.declared.halt.Halt.TheVariants.{Stopped, SinkFailed}
 use Rattle.serve_plans.specs.declared.closing.Closing.{Closing}

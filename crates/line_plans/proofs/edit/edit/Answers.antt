@@ -1,5 +1,5 @@
 use Rattle.std.proofs.Common.{refl}
-use Rattle.line_plans.proofs.Reading.{holds_refused, open_not_refused, takes_none}
+use Rattle.opened_files.proofs.Reading.{holds_refused, open_not_refused, takes_none}
 use Rattle.line_plans.proofs.Readings.{plans_opened}
 use Rattle.line_plans.proofs.Replies.{causes_of_source, keeps_same, lost_of_source, opened_edits, refused_edits, source_keeps}
 use Rattle.line_plans.proofs.edit.edit.Goals as goal

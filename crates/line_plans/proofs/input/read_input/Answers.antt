@@ -1,5 +1,5 @@
 use Rattle.std.proofs.Common.{rules, ◌+◌, ◌≤◌, length, take}
-use Rattle.line_plans.proofs.Reading.{takes_kept, takes_more}
+use Rattle.opened_files.proofs.Reading.{takes_kept, takes_more}
 use Rattle.line_plans.proofs.input.read_input.Goals as goal
 
 pub returns-in-Err-clause-few : goal.returns-in-Err-clause-few

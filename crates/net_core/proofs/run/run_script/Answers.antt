@@ -1,10 +1,11 @@
 use Rattle.std.proofs.Common.{◌≡◌, ◌+◌, ◌≤◌, [], ◌∷◌, ◌++◌, length, take, sym, ap, ◌∙◌, subst, arith}
 use Rattle.std.proofs.lemmas.Bool.{cond-true}
 use Rattle.std.proofs.lemmas.List.{take_all}
-use Rattle.net_core.specs.Answers.{StepsTo, net_run, told_bytes}
-use Rattle.net_core.specs.Answers.RunOutcome.{Ran}
-use Rattle.net_core.specs.Machine.{Network, empty_network, net_step}
-use Rattle.net_core.specs.Machine.StepOutcome.{Stepped}
+use Rattle.net_core.specs.Answers.{StepsTo, told_bytes}
+use Rattle.peer_words.specs.Runs.{net_run}
+use Rattle.peer_words.specs.Runs.RunOutcome.{Ran}
+use Rattle.peer_words.specs.Machine.{Network, empty_network, net_step}
+use Rattle.peer_words.specs.Machine.StepOutcome.{Stepped}
 use Rattle.net_core.proofs.RunResults.{few_more, no_memory, ran_on, told_run}
 use Rattle.net_core.proofs.Running.{HasRun, begins, has_run}
 use Rattle.net_core.proofs.run.run_script.Goals as goal

@@ -1,9 +1,9 @@
 use Rattle.std.proofs.Common.{◌≡◌, List, refl, sym, ap, ◌∙◌, subst}
 use Rattle.std.specs.List.{slice_get}
-use Rattle.net_words.specs.declared.step.NetStep.TheVariants as step
+use Rattle.event_words.specs.declared.net.step.NetStep.TheVariants as step
 use Rattle.net_core.specs.declared.fault.NetFault.TheVariants as fault
-use Rattle.net_core.specs.Machine.{Network, Peer, peer_among}
-use Rattle.net_core.specs.Machine.Refusal.{PeerTwice}
+use Rattle.peer_words.specs.Machine.{Network, Peer, peer_among}
+use Rattle.peer_words.specs.Machine.Refusal.{PeerTwice}
 use Rattle.ew_model.proofs.ListParts.{element_there}
 use Rattle.net_core.proofs.Steps.{refused, twice}
 use Rattle.net_core.proofs.net.Net.add.Goals as goal

@@ -1,4 +1,0 @@
--- What a command line plans.
-pub mod Lines
-pub mod Listings
-pub mod Making

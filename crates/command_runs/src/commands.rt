@@ -1,0 +1,158 @@
+//! The commands that reach the shelf alone.
+ghost use Rattle.std.specs.Prelude.{◌≡◌, ◌≢◌, ◌≤◌, ◌+◌, IfOk, IfSome};
+ghost use Rattle.std.specs.FinMap.{get};
+ghost use Rattle.command_table.specs.Loads.{File, whole_of};
+ghost use Rattle.command_table.specs.Possible.{MayReplyTo};
+ghost use Rattle.command_table.specs.Table as table;
+ghost use Rattle.command_table.specs.Table.{create_reply, listing_text, open_file, over_events, past, question, show_reply};
+ghost use Rattle.ew_model.specs.Ancestors.{version_events};
+ghost use Rattle.ew_model.specs.Touches.{touches};
+ghost use Rattle.opened_files.specs.Touches.{TouchesAtMost, file_touches, listing_touches, touches_over};
+ghost use Rattle.opened_files.specs.Views.{IsCommandPlan, LostBy, MissesBy, ShelfCauses, plan_view, status_of};
+ghost use Rattle.ew_outside.specs.Counts.{next};
+ghost use Rattle.command_words.specs.Words.{listing_view};
+ghost use Rattle.command_runs.specs.Listings.{Shows};
+
+use command_texts::texts::{file_there_text, unknown_text};
+use command_words::words::Listing;
+use event_file::encode;
+use ew_model::NoMem;
+use ew_model::id::Id;
+use ew_model::limits::Limits;
+use ew_model::steps::Steps;
+use ew_outside::Shelf;
+use history_view::{check_text, heads_text, log_text, replay_text};
+use opened_files::load::{Loaded, load_whole};
+use opened_files::open::{Found, open};
+use opened_files::reply::{Plan, Stop};
+use peer_exchange::ask;
+use peer_frames::encode as encode_frame;
+use replica::{Replica, VersionFault};
+use std::alloc::Global;
+use std::sync::ledger::Ledger;
+
+/// The text of a version, or its first id that isn't held.
+fn past_text<L: Ledger>(
+    version: &[Id],
+    replica: &Replica,
+    steps: &mut Steps<L>,
+) -> Result<Vec<u8>, VersionFault>
+    ensures shown { Shows (show_reply (past version.now) replica.now.held) result }
+    ensures most { steps.new ≤ steps.old + touches (version_events replica.now.held version.now) 0 }
+{
+    replica.text_at(version, steps)
+}
+
+/// The frame that asks a peer for the events which the replica lacks.
+fn question_bytes(alloc: Global, replica: &Replica) -> Result<Vec<u8>, NoMem>
+    ensures { IfOk result (λ bytes. bytes.items ≡ listing_text question replica.now.held) }
+{
+    let question = ask(replica)?;
+    encode_frame(alloc, &question)
+}
+
+/// What is shown of a replica, or the first id of a version that isn't held.
+fn list<L: Ledger>(
+    alloc: Global,
+    listing: &Listing,
+    replica: &Replica,
+    steps: &mut Steps<L>,
+) -> Result<Vec<u8>, VersionFault>
+    ensures shown { Shows (show_reply (listing_view listing.now) replica.now.held) result }
+    ensures most { steps.new ≤ steps.old + listing_touches (listing_view listing.now) replica.now.held }
+{
+    match listing {
+        Listing::Content => Ok(replica.text()?),
+        Listing::Past(version) => past_text(version, replica, steps),
+        Listing::Heads => Ok(heads_text(alloc, replica)?),
+        Listing::Log => Ok(log_text(alloc, replica)?),
+        Listing::Replay => Ok(replay_text(alloc, replica, steps)?),
+        Listing::Numbers => Ok(check_text(alloc, replica)?),
+        Listing::Question => Ok(question_bytes(alloc, replica)?),
+    }
+}
+
+/// The plan that prints what was listed, or tells the id that isn't held.
+fn plan_of<'a>(alloc: Global, listed: Result<Vec<u8>, VersionFault>) -> Result<Plan<'a>, NoMem>
+    ensures told { (reply : table.Reply) → Shows reply listed → IfOk result (λ p. plan_view p ≡ reply) }
+    ensures found { IfOk result (λ p. status_of p ≢ 3) }
+    ensures plan { IfOk result IsCommandPlan }
+{
+    match listed {
+        Ok(text) => Ok(Plan::Prints(text)),
+        Err(VersionFault::Unknown(id)) => Ok(Plan::Refuses {
+            status: 5,
+            text: unknown_text(alloc, &id)?,
+        }),
+        Err(VersionFault::OutOfMemory) => Err(NoMem),
+    }
+}
+
+/// The plan that prints what is shown of a replica.
+fn shown<'a, L: Ledger>(
+    alloc: Global,
+    listing: Listing,
+    replica: Replica,
+    steps: &mut Steps<L>,
+) -> Result<Plan<'a>, NoMem>
+    ensures told { IfOk result (λ p. plan_view p ≡ show_reply (listing_view listing) replica.held) }
+    ensures found { IfOk result (λ p. status_of p ≢ 3) }
+    ensures plan { IfOk result IsCommandPlan }
+    ensures most { steps.new ≤ steps.old + listing_touches (listing_view listing) replica.held }
+{
+    let listed = list(alloc, &listing, &replica, steps);
+    plan_of(alloc, listed)
+}
+
+/// Shows a file: its text now or at a version, its heads, its events, its replay, its numbers, or what it asks a
+/// peer for.
+pub fn show<'a, H: Shelf, L: Ledger>(
+    alloc: Global,
+    listing: Listing,
+    name: &'a str,
+    limits: &Limits,
+    shelf: &mut H,
+    steps: &mut Steps<L>,
+) -> Result<Plan<'a>, Stop>
+    ensures told { IfSome (H.files shelf.old) (λ m. IfOk result (λ p. plan_view p ≡ over_events (show_reply (listing_view listing)) (open_file name.now limits.now m))) }
+    ensures some { IfOk result (λ p. MayReplyTo (table.show (listing_view listing) name.now) limits.now (plan_view p)) }
+    ensures plan { IfOk result IsCommandPlan }
+    ensures same { H.files shelf.new ≡ H.files shelf.old }
+    ensures cause { ShelfCauses (H.faults shelf.old) (H.faults shelf.new) result }
+    ensures misses { MissesBy (H.misses shelf.old) (H.misses shelf.new) result }
+    ensures loads { H.loads shelf.new ≡ next (H.loads shelf.old) }
+    ensures lost { LostBy (H.lost shelf.old) (H.lost shelf.new) result }
+    ensures most { TouchesAtMost (λ m. file_touches name.now limits.now m + touches_over (listing_touches (listing_view listing)) (open_file name.now limits.now m)) (H.files shelf.old) steps.old steps.new }
+{
+    match open(alloc, name, limits, shelf, steps)? {
+        Found::Refused { status, text } => Ok(Plan::Refuses { status, text }),
+        Found::Open(replica) => {
+            let plan = shown(alloc, listing, replica, steps)?;
+            Ok(plan)
+        }
+    }
+}
+
+/// Makes a file that isn't there: the file of no events.
+pub fn create<'a, H: Shelf>(alloc: Global, name: &'a str, shelf: &mut H) -> Result<Plan<'a>, Stop>
+    ensures told { IfSome (H.files shelf.old) (λ m. IfOk result (λ p. plan_view p ≡ create_reply name.now (whole_of 0 (get m name.now)))) }
+    ensures some { IfOk result (λ p. (file : File) × (plan_view p ≡ create_reply name.now file)) }
+    ensures plan { IfOk result IsCommandPlan }
+    ensures same { H.files shelf.new ≡ H.files shelf.old }
+    ensures cause { ShelfCauses (H.faults shelf.old) (H.faults shelf.new) result }
+    ensures misses { H.misses shelf.old ≤ H.misses shelf.new }
+    ensures loads { H.loads shelf.new ≡ next (H.loads shelf.old) }
+    ensures lost { LostBy (H.lost shelf.old) (H.lost shelf.new) result }
+{
+    match load_whole(shelf, name, 0)? {
+        Loaded::Missing => Ok(Plan::Stores {
+            out: Vec::new(alloc),
+            name,
+            bytes: encode(alloc, &[])?,
+        }),
+        _ => Ok(Plan::Refuses {
+            status: 3,
+            text: file_there_text(alloc, name)?,
+        }),
+    }
+}

@@ -1,2 +1,0 @@
-pub mod NetScripts
-pub mod Verbs

@@ -1,0 +1,5 @@
+pub mod Machine
+pub mod Runs
+pub mod Draws
+pub mod Making
+pub mod Touches
