@@ -1,11 +1,12 @@
 -- Where there is one event for each id, events whose ids are held are repeats.
-use Rattle.std.proofs.Common.{◌≡◌, ◌+◌, inl, inr, Bool, true, false, cond, ◌||◌, List, [], ◌∷◌, ◌++◌, count_by, length, refl, sym, ap, ◌∙◌, subst, arith}
+use Rattle.std.proofs.Common.{◌≡◌, ◌+◌, inl, inr, ⊎_elim, Bool, true, false, cond, ◌||◌, List, [], ◌∷◌, ◌++◌, count_by, length, refl, sym, ap, ◌∙◌, subst, arith}
 use Rattle.std.specs.List.{list_any, AllByRecursion}
 use Rattle.std.proofs.lemmas.Bool.{false≢true}
 use Rattle.std.proofs.lemmas.List.Folds.{list_any-append}
 use Rattle.std.proofs.lemmas.List.Sums.{sum_by-cons}
 use Rattle.ew_model.specs.declared.event.Event.{Event}
 use Rattle.ew_model.specs.Ancestors.{is_held}
+use Rattle.ew_model.specs.ArrivalLaw.{OneEach}
 use Rattle.ew_model.specs.Arrival.{Answer, Desk, Outcome, arrive, desk_of, judged, most_judgements, with_answer}
 use Rattle.ew_model.specs.Events.{event_eq}
 use Rattle.ew_model.specs.Limits.{LimitNumbers}
@@ -17,12 +18,19 @@ use Rattle.ew_model.proofs.CoverLaws.{event_of}
 use Rattle.ew_model.proofs.ListTests.{any_from}
 use Rattle.ew_model.proofs.MergeSteps.{same_event}
 use Rattle.ew_model.proofs.RoundSteps.{grown_next}
-use Rattle.ew_model.proofs.SetLaws.{joined_left, joined_right}
+use Rattle.ew_model.proofs.SetLaws.{among_joined, joined_left, joined_right}
 use Rattle.history_words.specs.Tallies.{accepted_in, is_repeat, refused_by, refused_in, repeats_in}
 use Rattle.arrival_laws.specs.Repeats.{HeldEventsAreRepeats, without_held}
 use Rattle.arrival_laws.proofs.Pairs.{in_pairs}
 use Rattle.arrival_laws.proofs.Repeats.{none_left_out}
 use Rattle.arrival_laws.proofs.Thinning.{Ends, Goes, IsCalm, Skips, TakesNew, thinned, without_one}
+
+-- one event for each id is in two lists, in whichever order
+swapped : (xs ys : List Event) (z : Event) → Among z (ys ++ xs) → Among z (xs ++ ys)
+swapped xs ys z m = ⊎_elim (joined_right xs ys z) (joined_left xs ys z) (among_joined ys xs z m)
+
+pub each_swapped : (xs ys : List Event) → OneEach (xs ++ ys) → OneEach (ys ++ xs)
+each_swapped xs ys each f g m n same = each f g (swapped xs ys f m) (swapped xs ys g n) same
 
 -- As many are appended by both lists of answers, and the same are refused; and the one has a repeat more for each event of these that
 -- is left out.

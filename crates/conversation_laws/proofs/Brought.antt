@@ -41,6 +41,7 @@ use Rattle.command_table.specs.Table.{Text, Answer, Reply, Opened, opened, open_
 use Rattle.command_table.specs.Text.{input_too_long}
 use Rattle.command_table.proofs.FileSizes.{file_length}
 use Rattle.command_table.proofs.MergedFiles.{IsStorable, Opens, opened_is, opens, read_again, status_in, storable, not_longer}
+use Rattle.arrival_laws.proofs.Answered.{each_swapped}
 use Rattle.replica.proofs.Beginnings.{good_from_none_bad}
 use Rattle.conversation_laws.specs.Conversations.{CanBeOne, ConversationsBring, IsBrought, IsConversation}
 use Rattle.conversation_laws.proofs.GoodBehind.{good_behind, good_joined}
@@ -131,12 +132,6 @@ left_opens limits files name events more sent out false h numbers good one e = e
 
 -- ---- the law
 
-swapped : (xs ys : List Event) → OneEach (xs ++ ys) → OneEach (ys ++ xs)
-swapped xs ys one f g m n e = one f g (turn f m) (turn g n) e
-  where
-    turn : (z : Event) → Among z (ys ++ xs) → Among z (xs ++ ys)
-    turn z m = ⊎_elim (λ k. joined_right xs ys z k) (λ k. joined_left xs ys z k) (among_joined ys xs z m)
-
 -- the events of both can be held by a file
 pub joined_storable : (limits : LimitNumbers) (events others : List Event) → IsStorable limits events → IsStorable limits others → length events + length (unheld others events) ≤ limits.events
     → IsStorable limits (events ++ unheld others events)
@@ -167,7 +162,7 @@ brought limits mine theirs one other events others input reading asked answered 
     -- the answer
     let answered_is = c.answers.is ∙ answered_so limits theirs other others asked.out counts c.answers.framing is_other heard c.answers.short in
     let lacking : List Event = missing others counts in
-    let lacking_is : lacking ≡ more = missing_are_unheld others events good (swapped events others can.one_each) in
+    let lacking_is : lacking ≡ more = missing_are_unheld others events good (each_swapped events others can.one_each) in
     let sound : AreSound lacking = subst AreSound (sym lacking_is) (all_filter IsSound _ others t.sound) in
     let parts = pieces (frame_room limits) lacking in
     let frames : List Frame = map Events parts ++ Done ∷ Bye ∷ [] in

@@ -11,7 +11,7 @@ use Rattle.ew_model.specs.Rounds.{most_touches}
 use Rattle.ew_model.specs.Sets.{Among}
 use Rattle.ew_model.proofs.SetLaws.{among_joined, joined_left, joined_right}
 use Rattle.arrival_laws.specs.Repeats.{AreAnsweredAlike, LeaveTheSame, without_held}
-use Rattle.arrival_laws.proofs.Answered.{held_events_are_repeats}
+use Rattle.arrival_laws.proofs.Answered.{each_swapped, held_events_are_repeats}
 use Rattle.arrival_laws.proofs.LastAnswers.{few_repeats}
 use Rattle.arrival_laws.proofs.Repeats.{held_events_change_nothing}
 use Rattle.event_graph.specs.Missing.{missing}
@@ -19,13 +19,6 @@ use Rattle.event_graph.specs.Summary.{summary_of}
 use Rattle.generator.proofs.Missing.{lacking, no_more}
 use Rattle.replica.specs.declared.took.Took.{Took}
 use Rattle.replica.specs.Receiving.{Receives}
-
--- one event for each id is in two lists, in whichever order
-swapped : (xs ys : List Event) (z : Event) → Among z (ys ++ xs) → Among z (xs ++ ys)
-swapped xs ys z m = ⊎_elim (joined_right xs ys z) (joined_left xs ys z) (among_joined ys xs z m)
-
-each_swapped : (xs ys : List Event) → OneEach (xs ++ ys) → OneEach (ys ++ xs)
-each_swapped xs ys each f g m n same = each f g (swapped xs ys f m) (swapped xs ys g n) same
 
 -- what is told, with so many more repeats
 abbrev pub with_repeats : Took → ℕ → Took

@@ -23,6 +23,10 @@ use Rattle.waiting_pool.proofs.Order.{missing_same}
 abbrev pub events_in : List Waiter → List Event
 events_in waiters = map (λ (w : Waiter). w.event) waiters
 
+-- the waiter of an id is found under one that is the same
+pub found_as : (waiters : List Waiter) (x y : Id) (o : Option Waiter) → x ≡ y → find (has_id y) waiters ≡ o → find (has_id x) waiters ≡ o
+found_as waiters x y o same found = ap (λ (z : Id). find (has_id z) waiters) same ∙ found
+
 -- an event that is found is held
 found_other : (p : Waiter → Bool) (waiters : List Waiter) (x : Id) (w : Waiter) → is_held (events_in waiters) x ≡ false → find p waiters ≡ Some w → id_eq x w.event.id ≡ false
 found_other p [] x w h e = let no : ⊥ = cc in absurd no
