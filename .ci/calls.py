@@ -17,9 +17,9 @@ ROOT = pathlib.Path(sys.argv[1])
 PAGE = ROOT / "docs" / "CALLS.md"
 # Crates of the programs of trials: nothing is claimed of them.
 UNCLAIMED = {"trial_rows"}
-# What is lent to a call and isn't used any more where it is refused, and steps of which nothing is claimed, those of a net.
 # Where a search begins, which changes no answer.
 HINT = ("near", "Near")
+# What is lent to a call and isn't used any more where it is refused, and steps of which nothing is claimed, those of a net.
 LENT = {("walk", "state"), ("step", "steps"), ("run_script", "steps"), ("net", "steps")}
 HEAD = """# All calls and their clauses
 

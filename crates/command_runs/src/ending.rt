@@ -32,6 +32,7 @@ impl From<Stop> for Ending {
     }
 }
 
+/// Writes the bytes and flushes them: done, or the sink failed.
 pub fn print<K: Sink>(out: &mut K, bytes: &[u8]) -> Ending
     ensures status { IsDoneOrSinkFailed result }
     ensures out { PrintLeaves result (K.taken out.old) (K.taken out.new) (K.flushed out.new) bytes.now }

@@ -96,8 +96,9 @@ fn run_line<H: Shelf, S: Source, K: Sink, E: Sink, L: Ledger>(
     }
 }
 
-/// Runs one command line, without the program's name, and answers the status. What it prints, says, stores and answers is
-/// what the command table says, except where a count of faults rose (status 6) or memory was wanted (status 8).
+/// Runs one command line, without the program's name, and answers the status. Over a shelf and an input that tell what they hold,
+/// what it prints, says, stores and answers is what the command table says, except where a count of faults rose (status 6) or
+/// memory was wanted (status 8). Over others all that doesn't speak of what they hold is so too: `IsRun` has the clauses by name.
 /// The steps taken are at most the touches of loading the files, and of what the command walks behind that.
 pub fn run<H: Shelf, S: Source, K: Sink, E: Sink, L: Ledger>(
     alloc: Global,

@@ -30,6 +30,7 @@ pub record Seen : Type 0 where
   pub out_faults : ℕ
   pub err_faults : ℕ
 
+-- what is seen, by its parts: of the shelf, of the input, of the output and of the error output
 abbrev pub seen : Option Files → ℕ → ℕ → ℕ → ℕ → Option (List ℕ) → ℕ → Option (List ℕ) → Option ℕ → ℕ → Option (List ℕ) → ℕ → Seen
 seen files shelf_faults misses loads lost left source_faults out flushed out_faults err err_faults = record {
   files = files;

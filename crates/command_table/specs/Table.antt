@@ -124,6 +124,7 @@ line_in None = None
 line_in (Some p) =
     if bytes_eq p.0 (codes "serve") then option_map serves (first_of (codes "file") p.1) else option_map does (command_in p.0 p.1)
 
+-- a line, where clap has no fault
 abbrev pub where_none : Kinds → Option Line → Option Line
 where_none [] l = l
 where_none (k ∷ ks) l = None
@@ -143,6 +144,7 @@ pub data Opened : Type 0 where
   opened : (events : List Event) → Opened
   refused : (status : ℕ) (text : List ℕ) → Opened
 
+-- open where no event is bad
 abbrev pub judged : Text → List Event → Option BadEvent → Opened
 judged name events None = opened events
 judged name events (Some bad) = refused 4 (bad_event name bad.position bad.verdict)
@@ -186,6 +188,7 @@ abbrev pub unknown_in : Listing → List Event → Option Id
 unknown_in (past version) events = first_unknown events version
 unknown_in listing events = None
 
+-- a reply, unless an id is unknown
 abbrev pub unless_unknown : Option Id → Reply → Reply
 unless_unknown None reply = reply
 unless_unknown (Some id) reply = refuses 5 (unknown id)
@@ -229,6 +232,7 @@ abbrev pub is_graph_full : Refusal → Bool
 is_graph_full why.GraphFull = true
 is_graph_full refusal = false
 
+-- a reply, unless an event clashes
 abbrev pub unless_clash : Option (Id × Refusal) → Reply → Reply
 unless_clash None reply = reply
 unless_clash (Some p) reply = refuses 5 (clash p.0)
@@ -343,6 +347,7 @@ pub record Answer : Type 0 where
   pub err : List ℕ
   pub files : Files
 
+-- what a run answers by a reply
 abbrev pub answer_of : Reply → Files → Answer
 answer_of (prints out) files = record { status = 0; out = out; err = []; files = files }
 answer_of (stores out name bytes) files = record { status = 0; out = out; err = []; files = insert files name bytes }

@@ -9,16 +9,18 @@ use Rattle.ew_model.specs.Verdicts.Ruling.{Repeat, Clash, SelfParent, TooManyPar
 use Rattle.ew_model.specs.FileFaults.{RecordFault}
 use Rattle.ew_model.specs.FileFaults.RecordFault.{Cut, NameBad, NameTwice, AgentNumber, IdTwice, ParentCount, ParentPosition, ParentOrder, KindBad, Scalar, Trailing, UnusedAgent}
 
--- the usage: every command that the program is to have
+-- the usage: a line for each command
 abbrev pub usage : List ℕ
 usage = codes "usage: egw new FILE\n       egw edit FILE --agent NAME\n       egw cat FILE [--at VERSION]\n       egw heads FILE\n       egw log FILE\n       egw replay FILE\n       egw check FILE\n       egw merge FILE OTHER\n       egw ask FILE\n       egw serve FILE\n       egw net\n       egw make --seed N --count N\n"
 
+-- a file that isn't there, and for a new one that is
 abbrev pub no_file : List ℕ → List ℕ
 no_file name = codes "egw: no file " ++ (name ++ codes "\n")
 
 abbrev pub file_there : List ℕ → List ℕ
 file_there name = codes "egw: file " ++ (name ++ codes " is there\n")
 
+-- what is wrong with a file as a whole
 abbrev pub short_file : List ℕ → ℕ → List ℕ
 short_file name len = codes "egw: " ++ (name ++ (codes ": short, " ++ (decimal len ++ codes " bytes\n")))
 
@@ -46,6 +48,7 @@ field_words Scalar = codes "scalar"
 field_words Trailing = codes "trailing bytes"
 field_words UnusedAgent = codes "unused agent"
 
+-- a field that is bad, and where
 abbrev pub bad_field : List ℕ → ℕ → RecordFault → List ℕ
 bad_field name offset fault = codes "egw: " ++ (name ++ (codes ": byte " ++ (decimal offset ++ (codes ": " ++ (field_words fault ++ codes "\n")))))
 
@@ -65,9 +68,11 @@ verdict_words NotReduced = codes "not reduced"
 verdict_words Skipped = codes "skipped"
 verdict_words (OutOfRange len) = codes "out of range, length " ++ decimal len
 
+-- an event that isn't good, and which
 abbrev pub bad_event : List ℕ → ℕ → Ruling → List ℕ
 bad_event name position verdict = codes "egw: " ++ (name ++ (codes ": event " ++ (decimal position ++ (codes ": " ++ (verdict_words verdict ++ codes "\n")))))
 
+-- what is above a limit
 abbrev pub file_too_long : List ℕ → ℕ → List ℕ
 file_too_long name most = codes "egw: " ++ (name ++ (codes ": more than " ++ (decimal most ++ codes " bytes\n")))
 
@@ -77,6 +82,7 @@ file_too_many name most = codes "egw: " ++ (name ++ (codes ": more than " ++ (de
 abbrev pub input_too_long : ℕ → List ℕ
 input_too_long most = codes "egw: input: more than " ++ (decimal most ++ codes " bytes\n")
 
+-- a line that is bad, or refused
 abbrev pub bad_line : ℕ → List ℕ
 bad_line line = codes "egw: line " ++ (decimal line ++ codes ": unreadable\n")
 
@@ -97,6 +103,7 @@ no_packet line packet = codes "egw: line " ++ (decimal line ++ (codes ": no pack
 abbrev pub out_of_range : ℕ → List ℕ
 out_of_range len = codes "egw: out of range, length " ++ (decimal len ++ codes "\n")
 
+-- a history that is full, or has too many heads
 abbrev pub too_many_events : ℕ → List ℕ
 too_many_events most = codes "egw: more than " ++ (decimal most ++ codes " events\n")
 
@@ -134,6 +141,7 @@ received_text accepted waiting repeats refused cut =
     codes "accepted "
     ++ (decimal accepted ++ (codes " waiting " ++ (decimal waiting ++ (codes " repeats " ++ (decimal repeats ++ (codes " refused " ++ (decimal refused ++ (codes " cut " ++ (decimal cut ++ codes "\n")))))))))
 
+-- a fault of the shelf, the source or a sink, and want of memory
 abbrev pub shelf_failed : List ℕ
 shelf_failed = codes "egw: shelf failed\n"
 

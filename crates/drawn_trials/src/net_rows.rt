@@ -3,12 +3,12 @@
 ghost use Rattle.std.specs.Prelude.{◌<◌};
 
 use crate::histories::{AGENTS, Draws};
+use event_words::net::step::NetStep;
 use event_words::text::Text;
 use ew_model::limits::Limits;
 use ew_model::name::Name;
 use ew_model::steps::Steps;
 use net_core::{Net, NetFault};
-use event_words::net::step::NetStep;
 use std::alloc::Global;
 use std::sync::ledger::Ledger;
 use trial_rows::fault::Fault;

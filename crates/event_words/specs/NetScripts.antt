@@ -50,8 +50,8 @@ abbrev pub IsFirstBadNetLine : List ℕ → ℕ → Type 0
 IsFirstBadNetLine bytes bad = IsFirstUnreadable MeansStep 1 (lines_of bytes) bad
 
 -- the steps that the line of this number means stand behind the others
-abbrev pub AddsLine : ℕ → List ℕ → List (ℕ × NetStep) → List (ℕ × NetStep) → Type 0
-AddsLine number line old new =
+abbrev pub AddsNetLine : ℕ → List ℕ → List (ℕ × NetStep) → List (ℕ × NetStep) → Type 0
+AddsNetLine number line old new =
     (added : List (ℕ × NetStep)) × (new ≡ old ++ added) × LinesMean MeansStep number (line ∷ []) (numbered_steps added)
 
 -- what was read of the line: the step that it means, or nothing where it means none

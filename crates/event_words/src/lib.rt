@@ -1,5 +1,6 @@
-//! The words of the editor as bytes: edit scripts, net scripts and versions are read, and ids, versions and characters are printed. What
-//! the bytes mean is said in `specs/Scripts.antt` of `ew_model`, and in `specs/Versions.antt` of `history_words`.
+//! The words of the editor as bytes: edit scripts, net scripts and versions are read, and ids, versions and characters are
+//! printed. What the bytes mean is said in `specs/Scripts.antt` of `ew_model`, in `specs/Versions.antt` of `history_words`, and for
+//! net scripts in `specs/NetScripts.antt`.
 #![tactic(auto)]
 
 pub mod edit;

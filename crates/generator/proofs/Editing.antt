@@ -24,7 +24,7 @@ use Rattle.replica.specs.declared.fault.EditFault.{EditFault}
 use Rattle.replica.specs.declared.fault.EditFault.TheVariants as fault
 use Rattle.generator.specs.Answers.{TellsStop}
 use Rattle.peer_words.specs.Draws.{Drawn, draw_of, drawn_edit, next_state}
-use Rattle.peer_words.specs.Making.{Made, Making, agent_of, edit_step, edited, edited_peer, peer_at}
+use Rattle.peer_words.specs.Making.{Made, Making, agent_of, drawn_step, edited, edited_peer, peer_at}
 use Rattle.peer_words.specs.Making.Made.{Going, Stopped}
 use Rattle.generator.specs.Owning.{ArePeers, IsOwned, NamesOwned}
 use Rattle.generator.proofs.Drawing.{one_op}
@@ -53,8 +53,8 @@ none_awaited peers n p agent less are is named =
 -- the step that a peer's edit is
 step_of : (state n : ℕ) (peers : List ReplicaState) (p : ReplicaState) → n ≡ draw_of (next_state state) % 3 → p ≡ peer_at peers n
     → let drawn = drawn_edit (next_state state) (length (text_of p.held)) in
-    edit_step (record { state = state; peers = peers }) ≡ edited (record { state = state; peers = peers }) n p drawn (edit_refusal p.limits p.held (agent_of n) drawn.edit)
-unfolding edit_step
+    drawn_step (record { state = state; peers = peers }) ≡ edited (record { state = state; peers = peers }) n p drawn (edit_refusal p.limits p.held (agent_of n) drawn.edit)
+unfolding drawn_step
 step_of state n peers p number is =
     let m : Making = record { state = state; peers = peers } in
     let x = next_state state in
@@ -66,7 +66,7 @@ abbrev pub drawn_for : ℕ → ReplicaState → Drawn
 drawn_for state p = drawn_edit (next_state state) (length (text_of p.held))
 
 pub edit_made : (state n after k : ℕ) (peers : List ReplicaState) (p new : ReplicaState) → n ≡ draw_of (next_state state) % 3 → p ≡ peer_at peers n → EditsBy (agent_of n) (drawn_for state p).edit p new (Ok k)
-    → after ≡ (drawn_for state p).state → edit_step (record { state = state; peers = peers }) ≡ Going (record { state = after; peers = set peers n new })
+    → after ≡ (drawn_for state p).state → drawn_step (record { state = state; peers = peers }) ≡ Going (record { state = after; peers = set peers n new })
 edit_made state n after k peers p new number is edits drawn =
     step_of state n peers p number is
     ∙ ap (edited (record { state = state; peers = peers }) n p (drawn_for state p)) edits.0
@@ -84,7 +84,7 @@ refused m n p new drawn (fault.TooManyHeads many) edits = subst (λ o. TellsStop
 refused m n p new drawn (fault.Full count) edits = subst (λ o. TellsStop (edited m n p drawn o) (fault.Full count)) (sym edits.0) refl
 
 pub edit_stopped : (state n : ℕ) (peers : List ReplicaState) (p new : ReplicaState) (f : EditFault) → n ≡ draw_of (next_state state) % 3 → p ≡ peer_at peers n → EditsBy (agent_of n) (drawn_for state p).edit p new (Err f)
-    → TellsStop (edit_step (record { state = state; peers = peers })) f
+    → TellsStop (drawn_step (record { state = state; peers = peers })) f
 edit_stopped state n peers p new f number is edits =
     subst (λ (m : Made). TellsStop m f) (sym (step_of state n peers p number is)) (refused (record { state = state; peers = peers }) n p new (drawn_for state p) f edits)
 

@@ -7,7 +7,7 @@ use Rattle.ew_model.specs.Limits.{LimitNumbers}
 use Rattle.replica.specs.declared.fault.EditFault.{EditFault}
 use Rattle.replica.specs.declared.fault.EditFault.TheVariants as fault
 use Rattle.generator.specs.Answers.{TellsStop}
-use Rattle.peer_words.specs.Making.{Made, Making, after_step, edit_step, gives, made, made_steps, newcomer, next_step, peer_at, rounded_off, rounded_peers}
+use Rattle.peer_words.specs.Making.{Made, Making, after_step, drawn_step, gives, made, made_steps, newcomer, next_step, peer_at, rounded_off, rounded_peers}
 use Rattle.peer_words.specs.Making.Made.{Going, Stopped}
 use Rattle.generator.specs.Owning.{ArePeers, HasOwned}
 use Rattle.generator.proofs.Editing.{no_memory}
@@ -32,7 +32,7 @@ none_made limits seed peers new =
     record { going = λ i. Going (record { state = seed; peers = sym new i }); are = subst ArePeers (sym new) (record { three = refl; own = none_known limits }) }
 
 -- the step behind these
-one_more : (limits : LimitNumbers) (seed t state after : ℕ) (peers next : List ReplicaState) → HaveMade limits seed t state peers → edit_step (record { state = state; peers = peers }) ≡ Going (record { state = after; peers = next })
+one_more : (limits : LimitNumbers) (seed t state after : ℕ) (peers next : List ReplicaState) → HaveMade limits seed t state peers → drawn_step (record { state = state; peers = peers }) ≡ Going (record { state = after; peers = next })
     → made_steps limits seed (suc t) ≡ after_step t (Going (record { state = after; peers = next }))
 one_more limits seed t state after peers next have step = ap (next_step t) have.going ∙ ap (after_step t) step
 
@@ -44,7 +44,7 @@ between : (t state : ℕ) (peers : List ReplicaState) → (t % 64 ≡ 63 → ⊥
 between t state peers off =
     ap (λ b. cond b (Going (record { state = state; peers = gives (t / 64 % 3) ((t / 64 % 3 + 1) % 3) peers })) (Going (record { state = state; peers = peers }))) (ne_eqb (t % 64) 63 off)
 
-pub made_turn : (limits : LimitNumbers) (seed t state after : ℕ) (peers next last : List ReplicaState) → HaveMade limits seed t state peers → edit_step (record { state = state; peers = peers }) ≡ Going (record { state = after; peers = next })
+pub made_turn : (limits : LimitNumbers) (seed t state after : ℕ) (peers next last : List ReplicaState) → HaveMade limits seed t state peers → drawn_step (record { state = state; peers = peers }) ≡ Going (record { state = after; peers = next })
     → t % 64 ≡ 63 → last ≡ gives (t / 64 % 3) ((t / 64 % 3 + 1) % 3) next → ArePeers last → HaveMade limits seed (t + 1) after last
 made_turn limits seed t state after peers next last have step turn given are =
     record {
@@ -52,7 +52,7 @@ made_turn limits seed t state after peers next last have step turn given are =
       are = are;
     }
 
-pub made_between : (limits : LimitNumbers) (seed t state after : ℕ) (peers next : List ReplicaState) → HaveMade limits seed t state peers → edit_step (record { state = state; peers = peers }) ≡ Going (record { state = after; peers = next })
+pub made_between : (limits : LimitNumbers) (seed t state after : ℕ) (peers next : List ReplicaState) → HaveMade limits seed t state peers → drawn_step (record { state = state; peers = peers }) ≡ Going (record { state = after; peers = next })
     → (t % 64 ≡ 63 → ⊥) → ArePeers next → HaveMade limits seed (t + 1) after next
 made_between limits seed t state after peers next have step off are =
     record { going = ap (made_steps limits seed) (add-one t) ∙ one_more limits seed t state after peers next have step ∙ between t after next off; are = are }
@@ -70,12 +70,12 @@ told_of_going limits seed count m (fault.OutOfRange len) h = absurd h
 told_of_going limits seed count m (fault.TooManyHeads heads) h = absurd h
 told_of_going limits seed count m (fault.Full n) h = absurd h
 
-pub made_stops : (limits : LimitNumbers) (seed t count state : ℕ) (peers : List ReplicaState) (f : EditFault) → HaveMade limits seed t state peers → t < count → TellsStop (edit_step (record { state = state; peers = peers })) f
+pub made_stops : (limits : LimitNumbers) (seed t count state : ℕ) (peers : List ReplicaState) (f : EditFault) → HaveMade limits seed t state peers → t < count → TellsStop (drawn_step (record { state = state; peers = peers })) f
     → TellsStop (made limits seed count) f
 unfolding made
-made_stops limits seed t count state peers f have less told = at (edit_step (record { state = state; peers = peers })) refl told
+made_stops limits seed t count state peers f have less told = at (drawn_step (record { state = state; peers = peers })) refl told
   where
-    at : (m : Made) → edit_step (record { state = state; peers = peers }) ≡ m → TellsStop m f → TellsStop (made limits seed count) f
+    at : (m : Made) → drawn_step (record { state = state; peers = peers }) ≡ m → TellsStop m f → TellsStop (made limits seed count) f
     at (Going m) is h = told_of_going limits seed count m f h
     at (Stopped why) is h =
         let next : made_steps limits seed (suc t) ≡ Stopped why = ap (next_step t) have.going ∙ ap (after_step t) is in

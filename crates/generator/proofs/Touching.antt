@@ -8,7 +8,7 @@ use Rattle.ew_model.specs.Limits.{LimitNumbers}
 use Rattle.ew_model.specs.Rounds.{most_touches}
 use Rattle.arrival_laws.specs.Repeats.{without_held}
 use Rattle.arrival_laws.proofs.Repeats.{held_events_change_nothing}
-use Rattle.peer_words.specs.Making.{Made, edit_step, gives, peer_at}
+use Rattle.peer_words.specs.Making.{Made, drawn_step, gives, peer_at}
 use Rattle.peer_words.specs.Making.Made.{Going}
 use Rattle.peer_words.specs.Touches.{end_touches, gift_touches, made_touches, rounding_touches, step_touches, steps_touches, turn_touches}
 use Rattle.generator.specs.Owning.{ArePeers}
@@ -32,7 +32,7 @@ gift_most peers giver taker before now p events none is few most =
     subst (λ n. now ≤ before + n) ((λ i. most_touches (is i).limits (is i).held (is i).waiting (few i)) ∙ same.touches) most
 
 -- the touches of the step behind these
-one_more : (limits : LimitNumbers) (seed t state after : ℕ) (peers next : List ReplicaState) → HaveMade limits seed t state peers → edit_step (record { state = state; peers = peers }) ≡ Going (record { state = after; peers = next })
+one_more : (limits : LimitNumbers) (seed t state after : ℕ) (peers next : List ReplicaState) → HaveMade limits seed t state peers → drawn_step (record { state = state; peers = peers }) ≡ Going (record { state = after; peers = next })
     → steps_touches limits seed (t + 1) ≡ steps_touches limits seed t + turn_touches t (Going (record { state = after; peers = next }))
 one_more limits seed t state after peers next have step =
     ap (steps_touches limits seed) (add-one t) ∙ ap (λ (m : Made). steps_touches limits seed t + step_touches t m) have.going ∙ ap (λ (m : Made). steps_touches limits seed t + turn_touches t m) step
@@ -44,7 +44,7 @@ between : (t state : ℕ) (peers : List ReplicaState) → (t % 64 ≡ 63 → ⊥
 between t state peers off = ap (λ b. cond b (gift_touches (t / 64 % 3) ((t / 64 % 3 + 1) % 3) peers) 0) (ne_eqb (t % 64) 63 off)
 
 pub touched_turn : (limits : LimitNumbers) (seed t state after before mid edited now : ℕ) (peers next : List ReplicaState) → HasGone limits seed t state peers before mid
-    → edit_step (record { state = state; peers = peers }) ≡ Going (record { state = after; peers = next }) → edited ≡ mid → t % 64 ≡ 63
+    → drawn_step (record { state = state; peers = peers }) ≡ Going (record { state = after; peers = next }) → edited ≡ mid → t % 64 ≡ 63
     → now ≤ edited + gift_touches (t / 64 % 3) ((t / 64 % 3 + 1) % 3) next → now ≤ before + steps_touches limits seed (t + 1)
 touched_turn limits seed t state after before mid edited now peers next have step same turn more =
     let sum : steps_touches limits seed (t + 1) ≡ steps_touches limits seed t + gift_touches (t / 64 % 3) ((t / 64 % 3 + 1) % 3) next =
@@ -52,7 +52,7 @@ touched_turn limits seed t state after before mid edited now peers next have ste
     omega (arith, sum, have.most, more, same)
 
 pub gone_turn : (limits : LimitNumbers) (seed t state after before mid edited now : ℕ) (peers next last : List ReplicaState) → HasGone limits seed t state peers before mid
-    → edit_step (record { state = state; peers = peers }) ≡ Going (record { state = after; peers = next }) → edited ≡ mid → t % 64 ≡ 63 → last ≡ gives (t / 64 % 3) ((t / 64 % 3 + 1) % 3) next
+    → drawn_step (record { state = state; peers = peers }) ≡ Going (record { state = after; peers = next }) → edited ≡ mid → t % 64 ≡ 63 → last ≡ gives (t / 64 % 3) ((t / 64 % 3 + 1) % 3) next
     → now ≤ edited + gift_touches (t / 64 % 3) ((t / 64 % 3 + 1) % 3) next → ArePeers last → HasGone limits seed (t + 1) after last before now
 gone_turn limits seed t state after before mid edited now peers next last have step same turn given more are = record {
   made = made_turn limits seed t state after peers next last have.made step turn given are;
@@ -60,7 +60,7 @@ gone_turn limits seed t state after before mid edited now peers next last have s
 }
 
 pub gone_between : (limits : LimitNumbers) (seed t state after before mid now : ℕ) (peers next : List ReplicaState) → HasGone limits seed t state peers before mid
-    → edit_step (record { state = state; peers = peers }) ≡ Going (record { state = after; peers = next }) → now ≡ mid → (t % 64 ≡ 63 → ⊥) → ArePeers next
+    → drawn_step (record { state = state; peers = peers }) ≡ Going (record { state = after; peers = next }) → now ≡ mid → (t % 64 ≡ 63 → ⊥) → ArePeers next
     → HasGone limits seed (t + 1) after next before now
 gone_between limits seed t state after before mid now peers next have step same off are =
     let sum : steps_touches limits seed (t + 1) ≡ steps_touches limits seed t + 0 =

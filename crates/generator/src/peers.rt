@@ -9,7 +9,7 @@ ghost use Rattle.replica.specs.Answers.{EditsBy};
 ghost use Rattle.generator.specs.Answers.{TellsStop};
 ghost use Rattle.peer_words.specs.Draws.{drawn_edit, letter};
 ghost use Rattle.peer_words.specs.Making as model;
-ghost use Rattle.peer_words.specs.Making.{all_agree, edit_step, gives, newcomer, peer_at};
+ghost use Rattle.peer_words.specs.Making.{neighbours_agree, drawn_step, gives, newcomer, peer_at};
 ghost use Rattle.peer_words.specs.Making.Made.{Going};
 ghost use Rattle.generator.specs.Owning.{ArePeers};
 ghost use Rattle.peer_words.specs.Touches.{gift_touches};
@@ -53,8 +53,8 @@ impl Peers {
         steps: &mut Steps<L>,
     ) -> Result<(), EditFault>
         requires { ArePeers self.old.replicas.items }
-        ensures made { OnOk result (edit_step (record { state = draws.old.state; peers = self.old.replicas.items }) ≡ Going (record { state = draws.new.state; peers = self.new.replicas.items })) }
-        ensures stopped { IfErr result (TellsStop (edit_step (record { state = draws.old.state; peers = self.old.replicas.items }))) }
+        ensures made { OnOk result (drawn_step (record { state = draws.old.state; peers = self.old.replicas.items }) ≡ Going (record { state = draws.new.state; peers = self.new.replicas.items })) }
+        ensures stopped { IfErr result (TellsStop (drawn_step (record { state = draws.old.state; peers = self.old.replicas.items }))) }
         ensures kept { OnOk result (ArePeers self.new.replicas.items) }
         ensures steps { steps.new ≡ steps.old }
     {
@@ -111,7 +111,7 @@ impl Peers {
     /// Whether all hold the same events.
     pub fn agree(&self) -> bool
         requires { ArePeers self.now.replicas.items }
-        ensures { result ≡ all_agree self.now.replicas.items }
+        ensures { result ≡ neighbours_agree self.now.replicas.items }
     {
         self.replicas[0].agrees(&self.replicas[1]) && self.replicas[1].agrees(&self.replicas[2])
     }

@@ -29,7 +29,7 @@ pub fn told(alloc: Global, peers: &Peers) -> Result<Vec<u8>, NoMem>
 }
 
 /// The numbers of a history, and the digest of its text.
-#[tactic(auto, unfolding(crate::specs::Making::history_lines))]
+#[tactic(auto, unfolding(peer_words::specs::Making::history_lines))]
 fn history_lines(alloc: Global, replica: &Replica) -> Result<Vec<u8>, NoMem>
     ensures { IfOk result (λ text. text.items ≡ history_lines replica.now.held) }
 {

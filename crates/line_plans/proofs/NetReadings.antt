@@ -14,7 +14,7 @@ use Rattle.command_table.specs.Table.{refuses, net_run_reply, net_script_reply}
 use Rattle.command_table.specs.Text.{bad_line as bad_line_text}
 use Rattle.opened_files.specs.declared.reply.Plan.{Plan}
 use Rattle.opened_files.specs.Views.{plan_view}
-use Rattle.line_plans.specs.Nets.{MayScript, PlansScript}
+use Rattle.line_plans.specs.Nets.{MayNetScript, PlansNetScript}
 use Rattle.line_plans.proofs.OneStep.{lines_mean_one_step}
 
 -- the pairs of numbered steps
@@ -40,12 +40,12 @@ module _ (limits : LimitNumbers) (input : List ℕ) where
 
   -- a script whose steps were run, or one of them refused
   pub steps_script : (steps : List (ℕ × NetStep)) (result : Result Plan AllocError) → IsNetScript input (numbered_steps steps)
-      → IfOk result (λ p. plan_view p ≡ net_run_reply limits (net_run (empty_network limits) steps)) → PlansScript limits input result
+      → IfOk result (λ p. plan_view p ≡ net_run_reply limits (net_run (empty_network limits) steps)) → PlansNetScript limits input result
   steps_script steps (Ok p) is told = λ reading means. subst (λ r. plan_view p ≡ net_script_reply limits r) (means_net_once input (net_script steps) reading is means) told
   steps_script steps (Err e) is told = tt
 
   pub may_script : (steps : List (ℕ × NetStep)) (result : Result Plan AllocError) → IsNetScript input (numbered_steps steps)
-      → IfOk result (λ p. plan_view p ≡ net_run_reply limits (net_run (empty_network limits) steps)) → MayScript limits input result
+      → IfOk result (λ p. plan_view p ≡ net_run_reply limits (net_run (empty_network limits) steps)) → MayNetScript limits input result
   may_script steps (Ok p) is told = (net_script steps, is, told)
   may_script steps (Err e) is told = tt
 

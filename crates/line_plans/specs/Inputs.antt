@@ -9,9 +9,11 @@ pub data Bytes : Type 0 where
   too_long : Bytes
   whole : (bytes : List ℕ) → Bytes
 
+-- an input within a bound, or that it is above it
 abbrev pub input_of : ℕ → List ℕ → Bytes
 input_of most bytes = if nat_lt most (length bytes) then too_long else whole bytes
 
+-- what a value stands for
 abbrev pub input_view : Input → Bytes
 input_view input.TooLong = too_long
 input_view (input.Whole bytes) = whole bytes.items

@@ -11,18 +11,18 @@ use Rattle.opened_files.specs.declared.reply.Stop.{Stop}
 use Rattle.opened_files.specs.Views.{plan_view}
 
 -- the plan tells why the line is refused
-abbrev pub LineRefuses : LimitNumbers → ℕ → NetFault → Result Plan AllocError → Type 0
-LineRefuses limits line fault (Ok p) = IsSomeAnd (refusal_told fault) (λ why. plan_view p ≡ net_refusal limits line why)
-LineRefuses limits line fault (Err _) = ⊤
+abbrev pub StepRefuses : LimitNumbers → ℕ → NetFault → Result Plan AllocError → Type 0
+StepRefuses limits line fault (Ok p) = IsSomeAnd (refusal_told fault) (λ why. plan_view p ≡ net_refusal limits line why)
+StepRefuses limits line fault (Err _) = ⊤
 
 -- the plan is the table's, whatever the input means
-abbrev pub PlansScript : LimitNumbers → List ℕ → Result Plan AllocError → Type 0
-PlansScript limits input planned = IfOk planned (λ p. (reading : NetReading) → MeansNet input reading → plan_view p ≡ net_script_reply limits reading)
+abbrev pub PlansNetScript : LimitNumbers → List ℕ → Result Plan AllocError → Type 0
+PlansNetScript limits input planned = IfOk planned (λ p. (reading : NetReading) → MeansNet input reading → plan_view p ≡ net_script_reply limits reading)
 
 -- the same of an input that may be too long
-abbrev pub PlansInput : LimitNumbers → List ℕ → Result Plan Stop → Type 0
-PlansInput limits input planned = IfOk planned (λ p. (reading : NetReading) → MeansNet input reading → plan_view p ≡ net_reply limits input reading)
+abbrev pub PlansNetInput : LimitNumbers → List ℕ → Result Plan Stop → Type 0
+PlansNetInput limits input planned = IfOk planned (λ p. (reading : NetReading) → MeansNet input reading → plan_view p ≡ net_reply limits input reading)
 
 -- the plan is the table's for a meaning of the input
-abbrev pub MayScript : LimitNumbers → List ℕ → Result Plan AllocError → Type 0
-MayScript limits input planned = IfOk planned (λ p. (reading : NetReading) × MeansNet input reading × (plan_view p ≡ net_script_reply limits reading))
+abbrev pub MayNetScript : LimitNumbers → List ℕ → Result Plan AllocError → Type 0
+MayNetScript limits input planned = IfOk planned (λ p. (reading : NetReading) × MeansNet input reading × (plan_view p ≡ net_script_reply limits reading))

@@ -7,7 +7,7 @@ ghost use Rattle.command_table.specs.Table.{net_run_reply};
 ghost use Rattle.line_plans.specs.Sources.{ReadsAll, SourceCauses};
 ghost use Rattle.peer_words.specs.Runs.{net_run};
 ghost use Rattle.peer_words.specs.Machine.{empty_network};
-ghost use Rattle.line_plans.specs.Nets.{LineRefuses, MayScript, PlansInput, PlansScript};
+ghost use Rattle.line_plans.specs.Nets.{StepRefuses, MayNetScript, PlansNetInput, PlansNetScript};
 ghost use Rattle.opened_files.specs.Views.{IsCommandPlan, plan_view};
 
 use crate::edit::refuse_line;
@@ -15,26 +15,26 @@ use crate::input::{Input, read_input};
 use command_texts::texts::{
     bad_line_text, input_too_long_text, no_packet_text, no_peer_text, peer_there_text,
 };
+use event_words::net::script::read_net;
+use event_words::net::step::NetStep;
 use event_words::script::ScriptFault;
 use ew_model::limits::Limits;
 use ew_model::steps::Steps;
 use ew_outside::Source;
 use net_core::{NetFault, run_script};
-use event_words::net::script::read_net;
-use event_words::net::step::NetStep;
 use opened_files::reply::{Plan, Stop};
 use replica::EditFault;
 use std::alloc::{AllocError, Global};
 use std::sync::ledger::Ledger;
 
-/// Why a line is refused, as a plan.
+/// Why a step is refused, as a plan.
 fn refuse_step<'a>(
     alloc: Global,
     limits: &Limits,
     line: u32,
     fault: NetFault,
 ) -> Result<Plan<'a>, AllocError>
-    ensures told { LineRefuses limits.now line fault result }
+    ensures told { StepRefuses limits.now line fault result }
     ensures plan { IfOk result IsCommandPlan }
 {
     match fault {
@@ -86,8 +86,8 @@ fn run_net<'a, L: Ledger>(
     steps: &mut Steps<L>,
 ) -> Result<Plan<'a>, AllocError>
     requires { length input.now ≤ limits.now.input }
-    ensures told { PlansScript limits.now input.now result }
-    ensures some { MayScript limits.now input.now result }
+    ensures told { PlansNetScript limits.now input.now result }
+    ensures some { MayNetScript limits.now input.now result }
     ensures plan { IfOk result IsCommandPlan }
 {
     let _most = limits.input();
@@ -112,7 +112,7 @@ pub fn net<'a, S: Source, L: Ledger>(
     input: &mut S,
     steps: &mut Steps<L>,
 ) -> Result<Plan<'a>, Stop>
-    ensures told { IfSome (S.left input.old) (λ xs. PlansInput limits.now xs result) }
+    ensures told { IfSome (S.left input.old) (λ xs. PlansNetInput limits.now xs result) }
     ensures some { IfOk result (λ p. MayReplyTo table.net limits.now (plan_view p)) }
     ensures plan { IfOk result IsCommandPlan }
     ensures end { ReadsAll (S.left input.old) (S.left input.new) result }

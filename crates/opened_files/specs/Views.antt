@@ -27,6 +27,7 @@ opened_view f = found_view (λ r. r.held) f
 abbrev pub graph_view : Found (List Event) → Opened
 graph_view f = found_view (λ events. events) f
 
+-- the reply that a plan stands for
 abbrev pub plan_view : Plan → Reply
 plan_view (plan.Prints out) = prints out.items
 plan_view (plan.Stores out name bytes) = stores out.items name.now bytes.items
@@ -44,6 +45,7 @@ ShelfCauses before now (Err OutOfMemory) = now ≡ before
 ShelfCauses before now (Err ShelfFailed) = (before ≤ now) × Rose before now
 ShelfCauses before now (Err SourceFailed) = ⊥
 
+-- its status
 abbrev pub status_of : Plan → ℕ
 status_of (plan.Prints _) = 0
 status_of (plan.Stores _ _ _) = 0

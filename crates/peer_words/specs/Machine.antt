@@ -185,7 +185,7 @@ all_agree peers = list_all (λ p. list_all (λ q. are_held_by p.replica.held q.r
 abbrev pub agree_line : List Peer → List ℕ
 agree_line peers = printed_line (codes "agree" ∷ (if all_agree peers then codes "yes" else codes "no") ∷ [])
 
--- one step
+-- what a step of a net script makes of the network and prints, or why it is refused
 unfoldable pub net_step : Network → NetStep → StepOutcome
 net_step network (step.Peer name) = peer_step network name (peer_of network name)
 net_step network (step.Ins who at text) = edit_step network who (edits.Edit.Insert at text)

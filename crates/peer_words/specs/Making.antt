@@ -49,8 +49,8 @@ edited m n p drawn (Some why) = Stopped why
 edited m n p drawn None = Going (record { state = drawn.state; peers = set m.peers n (edited_peer p (agent_of n) drawn.edit) })
 
 -- the edit of a drawn peer
-unfoldable pub edit_step : Making → Made
-edit_step m =
+unfoldable pub drawn_step : Making → Made
+drawn_step m =
     let x = next_state m.state in
     let n = draw_of x % 3 in
     let p = peer_at m.peers n in
@@ -73,9 +73,10 @@ after_step t (Stopped why) = Stopped why
 after_step t (Going m) =
     if t % 64 == 63 then Going (record { state = m.state; peers = gives (t / 64 % 3) ((t / 64 % 3 + 1) % 3) m.peers }) else Going m
 
+-- one more step: an edit, and a gift where it is one's turn
 abbrev pub next_step : ℕ → Made → Made
 next_step t (Stopped why) = Stopped why
-next_step t (Going m) = after_step t (edit_step m)
+next_step t (Going m) = after_step t (drawn_step m)
 
 -- what a seed makes by so many steps
 abbrev pub made_steps : LimitNumbers → ℕ → ℕ → Made
@@ -86,7 +87,7 @@ made_steps limits seed (suc t) = next_step t (made_steps limits seed t)
 abbrev pub rounded_peers : List ReplicaState → List ReplicaState
 rounded_peers peers = gives 0 1 (gives 2 0 (gives 1 2 (gives 0 1 peers)))
 
--- so it does at the end
+-- the gifts at the end of a making, unless it was stopped
 abbrev pub rounded_off : Made → Made
 rounded_off (Stopped why) = Stopped why
 rounded_off (Going m) =
@@ -101,13 +102,14 @@ unfoldable pub same_events : List Event → List Event → Bool
 same_events xs ys = list_all (λ (x : Event). list_any (event_eq x) ys) xs && list_all (λ (y : Event). list_any (event_eq y) xs) ys
 
 -- each peer has the same events as the next, and so all have
-abbrev pub all_agree : List ReplicaState → Bool
-all_agree [] = true
-all_agree (p ∷ []) = true
-all_agree (p ∷ q ∷ peers) = same_events p.held q.held && all_agree (q ∷ peers)
+abbrev pub neighbours_agree : List ReplicaState → Bool
+neighbours_agree [] = true
+neighbours_agree (p ∷ []) = true
+neighbours_agree (p ∷ q ∷ peers) = same_events p.held q.held && neighbours_agree (q ∷ peers)
 
-abbrev pub agree_line : Bool → List ℕ
-agree_line b = if b then codes "agree yes\n" else codes "agree no\n"
+-- whether all agree, as a line
+abbrev pub agreement_line : Bool → List ℕ
+agreement_line b = if b then codes "agree yes\n" else codes "agree no\n"
 
 -- the digest of a text
 abbrev pub digest_line : List ℕ → List ℕ
@@ -124,4 +126,4 @@ history_lines history =
 
 -- what is printed: of the first peer's history, and whether all agree
 abbrev pub printed : List ReplicaState → List ℕ
-printed peers = history_lines (peer_at peers 0).held ++ agree_line (all_agree peers)
+printed peers = history_lines (peer_at peers 0).held ++ agreement_line (neighbours_agree peers)

@@ -9,6 +9,7 @@ pub data RunOutcome : Type 0 where
   Ran : (printed : List ℕ) → RunOutcome
   Broke : (line : ℕ) (why : Refusal) → RunOutcome
 
+-- more bytes in front of what a run prints
 abbrev pub more_printed : List ℕ → RunOutcome → RunOutcome
 more_printed printed (Ran more) = Ran (printed ++ more)
 more_printed printed (Broke line why) = Broke line why

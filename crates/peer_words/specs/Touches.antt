@@ -3,7 +3,7 @@ use Rattle.std.specs.Prelude.{ℕ, zero, suc, ◌+◌, ◌/◌, ◌%◌, List, i
 use Rattle.ew_model.specs.Kept.{ReplicaState}
 use Rattle.ew_model.specs.Limits.{LimitNumbers}
 use Rattle.ew_model.specs.Rounds.{most_touches}
-use Rattle.peer_words.specs.Making.{Made, edit_step, gives, made_steps, peer_at}
+use Rattle.peer_words.specs.Making.{Made, drawn_step, gives, made_steps, peer_at}
 use Rattle.peer_words.specs.Making.Made.{Going, Stopped}
 
 -- where one peer receives all the events of another
@@ -17,9 +17,10 @@ abbrev pub turn_touches : ℕ → Made → ℕ
 turn_touches t (Stopped why) = 0
 turn_touches t (Going m) = if t % 64 == 63 then gift_touches (t / 64 % 3) ((t / 64 % 3 + 1) % 3) m.peers else 0
 
+-- of one step
 abbrev pub step_touches : ℕ → Made → ℕ
 step_touches t (Stopped why) = 0
-step_touches t (Going m) = turn_touches t (edit_step m)
+step_touches t (Going m) = turn_touches t (drawn_step m)
 
 -- of so many steps
 abbrev pub steps_touches : LimitNumbers → ℕ → ℕ → ℕ
@@ -31,6 +32,7 @@ abbrev pub rounding_touches : List ReplicaState → ℕ
 rounding_touches peers =
     gift_touches 0 1 peers + gift_touches 1 2 (gives 0 1 peers) + gift_touches 2 0 (gives 1 2 (gives 0 1 peers)) + gift_touches 0 1 (gives 2 0 (gives 1 2 (gives 0 1 peers)))
 
+-- of the gifts at the end, unless it was stopped
 abbrev pub end_touches : Made → ℕ
 end_touches (Stopped why) = 0
 end_touches (Going m) = rounding_touches m.peers

@@ -2,7 +2,7 @@
 
 ghost use Rattle.std.specs.Prelude.{◌≡◌, ℕ, ◌<◌, ◌^◌, List, length, IfOk, IsErr, IsOkUnless, OnOk};
 ghost use Rattle.ew_model.specs.Scripts.{IsReadable, Numbered};
-ghost use Rattle.event_words.specs.NetScripts.{AddsLine, IsFirstBadNetLine, IsNetScript, MeansStep, numbered_steps};
+ghost use Rattle.event_words.specs.NetScripts.{AddsNetLine, IsFirstBadNetLine, IsNetScript, MeansStep, numbered_steps};
 ghost use Rattle.event_words.specs.declared.net.step.NetStep as declared;
 
 use crate::net::line::read_step;
@@ -42,7 +42,7 @@ fn push_line(
     line: &[u8],
     steps: &mut Vec<(u32, NetStep)>,
 ) -> Result<(), ScriptFault>
-    ensures line { OnOk result (AddsLine number line.now steps.old.items steps.new.items) }
+    ensures line { OnOk result (AddsNetLine number line.now steps.old.items steps.new.items) }
     ensures bad_line { (k : ℕ) → result ≡ Err (ScriptFault.BadLine k) → (k ≡ number) × ¬ IsReadable MeansStep line.now }
 {
     if line.is_empty() {

@@ -5,7 +5,7 @@ use Rattle.ew_model.specs.Texts.{text_of}
 use Rattle.replica.specs.Answers.{EditsBy}
 use Rattle.generator.specs.Answers.{TellsStop}
 use Rattle.peer_words.specs.Draws.{drawn_edit}
-use Rattle.peer_words.specs.Making.{edit_step, edited_peer}
+use Rattle.peer_words.specs.Making.{drawn_step, edited_peer}
 use Rattle.generator.proofs.Editing.{drawn_for, edit_kept, edit_made, edit_stopped, none_awaited}
 use Rattle.generator.proofs.Owned.{read}
 use Rattle.generator.proofs.peers.Peers.edit.Goals as goal
@@ -24,11 +24,11 @@ returns-in_err-edit_by-clause-stopped g c =
     let state = c.args.draws.now.state in
     let f = c.in_err-edit_by.field-0.0 in
     let edits = subst (λ x. EditsBy c.agent_of.result (drawn_edit x (length (text_of p.held))).edit p c.edit_by.new.replica (Err f)) c.draw-who.ensures.state c.in_err-edit_by.ensures.edits in
-    let stopped : TellsStop (edit_step (record { state = state; peers = peers })) f =
+    let stopped : TellsStop (drawn_step (record { state = state; peers = peers })) f =
     edit_stopped state n peers p c.edit_by.new.replica f (ap (λ d. d % 3) c.draw-who.ensures.drawn) (read peers n p (omega arith) c.requires.three c.index_mut-peer.ensures.value)
     (subst (λ agent. EditsBy agent (drawn_for state p).edit p c.edit_by.new.replica (Err f)) c.agent_of.ensures edits) in
     let told = err_from_is_err_and c.from_residual.result c.from_residual.ensures.1 in
-    subst (λ r. IfErr r (TellsStop (edit_step (record { state = state; peers = peers })))) (sym (told.1 ∙ ap Err told.2)) stopped
+    subst (λ r. IfErr r (TellsStop (drawn_step (record { state = state; peers = peers })))) (sym (told.1 ∙ ap Err told.2)) stopped
 
 pub returns-clause-made : goal.returns-clause-made
 returns-clause-made g c =
