@@ -1,5 +1,5 @@
 -- Only a peer's local edits add events of its agent.
-use Rattle.std.proofs.Common.{◌≡◌, ℕ, true, false, ◌⊎◌, inl, inr, ⊎_elim, List, [], ◌∷◌, ◌++◌, cond, filter, map, Option, Some, None, refl, sym, ap, ◌∙◌, subst, append-nil}
+use Rattle.std.proofs.Common.{◌≡◌, ℕ, true, false, ◌⊎◌, inl, inr, ⊎_elim, List, [], ◌∷◌, ◌++◌, filter, map, Option, Some, None, refl, sym, ap, ◌∙◌, subst, append-nil}
 use Rattle.std.specs.List.{AllByRecursion, slice_get}
 use Rattle.std.specs.Option.{option_map_or}
 use Rattle.std.proofs.lemmas.Bool.{cases_Bool, cond-false, false≢true}
@@ -25,9 +25,9 @@ use Rattle.replica.proofs.Fronts.{good_behind}
 use Rattle.peer_exchange.specs.Answering.{answer_to, event_frames, question}
 use Rattle.peer_frames.specs.declared.frame.Frame.{Frame}
 use Rattle.peer_frames.specs.declared.frame.Frame.TheVariants.{Have, Events, Done, Took, Clash, Bye}
-use Rattle.net_core.specs.Keeping.{IsHome, IsReached, IsReplica}
+use Rattle.net_core.specs.Keeping.{IsHome, IsReplica}
 use Rattle.net_core.specs.Laws.{OnlyEditsAdd, is_edit_of, made_by, network_left}
-use Rattle.peer_words.specs.Machine.{Network, Packet, Peer, StepOutcome, deliver_step, delivery_of, edit_outcome, net_step, peer_among, peer_of, peer_step, piece_of, print_before, put_replica, restart_outcome, with_packet, with_peer, with_replies}
+use Rattle.peer_words.specs.Machine.{Network, Packet, Peer, deliver_step, delivery_of, edit_outcome, net_step, peer_among, peer_of, peer_step, piece_of, print_before, put_replica, restart_outcome, with_packet, with_peer, with_replies}
 use Rattle.peer_words.specs.Machine.Refusal.{NoPacket}
 use Rattle.peer_words.specs.Machine.StepOutcome.{Refused}
 use Rattle.net_core.proofs.Deliveries.{went}

@@ -1,5 +1,5 @@
 -- The packet that answers a question brings all that its sender held.
-use Rattle.std.proofs.Common.{◌≡◌, ℕ, ◌<◌, true, false, not, ◌⊎◌, inl, inr, ⊎_elim, List, [], ◌∷◌, ◌++◌, filter, length, Option, Some, refl, sym, ap, ◌∙◌, subst, arith}
+use Rattle.std.proofs.Common.{◌≡◌, ℕ, ◌<◌, not, ◌⊎◌, inl, inr, ⊎_elim, List, [], ◌∷◌, ◌++◌, length, Some, refl, sym, ap, ◌∙◌, subst, arith}
 use Rattle.std.specs.List.{AllByRecursion, list_any, slice_get}
 use Rattle.std.proofs.lemmas.List.{length-append}
 use Rattle.std.proofs.lemmas.Bool.{cases_Bool}
@@ -14,15 +14,14 @@ use Rattle.ew_model.proofs.SetLaws.{among_filter, among_joined, filter_among}
 use Rattle.ew_model.proofs.SortingLaws.{all_at, all_from}
 use Rattle.event_graph.specs.Missing.{missing}
 use Rattle.event_graph.specs.Summary.{summary_of}
-use Rattle.event_words.specs.declared.net.step.NetStep.{NetStep}
 use Rattle.event_words.specs.declared.net.step.NetStep.TheVariants as step
 use Rattle.peer_exchange.specs.Answering.{event_frames, question}
 use Rattle.peer_exchange.specs.Laws.{unheld}
 use Rattle.peer_exchange.proofs.MissingLaw.{missing_are_unheld}
 use Rattle.peer_frames.specs.declared.frame.Frame.TheVariants as frame
 use Rattle.net_core.specs.Keeping.{IsHome}
-use Rattle.net_core.specs.Laws.{AnswersArrive, Delivered, after_steps, network_left}
-use Rattle.peer_words.specs.Machine.{Network, Packet, Peer, net_step, peer_of, with_packet, with_peer}
+use Rattle.net_core.specs.Laws.{AnswersArrive, network_left}
+use Rattle.peer_words.specs.Machine.{Network, Packet, Peer, peer_of, with_packet, with_peer}
 use Rattle.net_core.proofs.Editing.{replica_of}
 use Rattle.net_core.proofs.Following.{Follows, IsGrown, peer_did, step_follows, steps_follow, then_follows}
 use Rattle.net_core.proofs.Homes.{one_home}

@@ -1,18 +1,18 @@
 -- What all judgements leave of events that were good where they were made.
 use Rattle.std.proofs.Common.{◌≡◌, ℕ, zero, suc, Bool, true, false, cond, ◌⊎◌, inl, inr, ⊎_elim, List, [], ◌∷◌, ◌++◌, find, Option, Some, None, refl, sym, ap, ◌∙◌, subst}
 use Rattle.std.specs.List.{AllByRecursion, position_or_len}
-use Rattle.std.proofs.lemmas.Bool.{cases_Bool, cond-false, cond-true, false≢true}
+use Rattle.std.proofs.lemmas.Bool.{cond-true}
 use Rattle.std.proofs.lemmas.List.Folds.{find_at}
 use Rattle.ew_model.specs.declared.event.Event.{Event}
-use Rattle.ew_model.specs.Arrival.{Answer, Desk, Judgement, Outcome, arrive, at_the_pool, desk_after, desk_of, is_ready, judge_coming, judge_ready, judgement_of, judgements, most_judgements, next_judgement, with_answer, without_ready}
+use Rattle.ew_model.specs.Arrival.{Desk, Judgement, Outcome, arrive, at_the_pool, desk_after, desk_of, is_ready, judge_coming, judge_ready, judgement_of, judgements, most_judgements, next_judgement, without_ready}
 use Rattle.ew_model.specs.ArrivalLaw.{NoneReady}
 use Rattle.ew_model.specs.Ids.{id_eq}
 use Rattle.ew_model.specs.Kept.{IsOrderly}
 use Rattle.ew_model.specs.Limits.{LimitNumbers}
 use Rattle.ew_model.specs.Sets.{Among}
 use Rattle.ew_model.specs.Verdicts.{Ruling, first_row, id_rows, later_rows}
-use Rattle.ew_model.specs.Verdicts.Ruling.{Repeat, Unknown, PoolFull, GraphFull, Good}
-use Rattle.ew_model.proofs.ArrivalLaws.{is_unknown, ready_found}
+use Rattle.ew_model.specs.Verdicts.Ruling.{Unknown, Good}
+use Rattle.ew_model.proofs.ArrivalLaws.{ready_found}
 use Rattle.ew_model.proofs.KeptLaws.{kept_next}
 use Rattle.ew_model.proofs.OperationLaws.{got}
 use Rattle.ew_model.proofs.RoundLaws.{then}
@@ -21,7 +21,7 @@ use Rattle.ew_model.proofs.VersionLaws.{find_none}
 use Rattle.net_core.specs.Laws.{IsRoomRefusal}
 use Rattle.net_core.proofs.Arriving.{IsFrom, IsTurn, by_way}
 use Rattle.net_core.proofs.Elsewhere.{WasGood}
-use Rattle.net_core.proofs.Judging.{Way, coming_way, ready_way}
+use Rattle.net_core.proofs.Judging.{coming_way, ready_way}
 
 -- what is to come stays
 still_coming : (r : Ruling) (e : Event) (d : Desk) → d.coming ≡ (desk_after r e d).coming

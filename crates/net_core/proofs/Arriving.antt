@@ -1,26 +1,16 @@
 -- What a judgement leaves of events that were good where they were made, and what all of them leave.
-use Rattle.std.proofs.Common.{◌≡◌, ℕ, zero, suc, Bool, true, false, cond, ◌⊎◌, inl, inr, ⊎_elim, List, [], ◌∷◌, ◌++◌, find, Option, Some, None, refl, sym, ap, ◌∙◌, subst}
-use Rattle.std.specs.List.{AllByRecursion}
-use Rattle.std.specs.Option.{option_map_or}
+use Rattle.std.proofs.Common.{◌≡◌, true, false, ◌⊎◌, inl, inr, ⊎_elim, List, [], ◌∷◌, ◌++◌, refl, sym, subst}
 use Rattle.std.proofs.lemmas.Bool.{false≢true}
 use Rattle.ew_model.specs.declared.event.Event.{Event}
-use Rattle.ew_model.specs.Arrival.{Answer, Desk, Judgement, Outcome, desk_after, is_ready, judge_coming, judge_ready, judgement_of, judgements, next_judgement, at_the_pool, with_answer, without_ready}
-use Rattle.ew_model.specs.ArrivalLaw.{NoneReady, is_full}
-use Rattle.ew_model.specs.Ids.{id_eq}
+use Rattle.ew_model.specs.Arrival.{Desk, Judgement, desk_after, is_ready}
+use Rattle.ew_model.specs.ArrivalLaw.{NoneReady}
 use Rattle.ew_model.specs.Kept.{IsOrderly}
-use Rattle.ew_model.specs.Limits.{LimitNumbers}
 use Rattle.ew_model.specs.Sets.{Among}
-use Rattle.ew_model.specs.Verdicts.{Ruling, first_row, id_rows, later_rows}
+use Rattle.ew_model.specs.Verdicts.{Ruling}
 use Rattle.ew_model.specs.Verdicts.Ruling.{Repeat, Clash, SelfParent, TooManyParents, ParentsUnsorted, Unknown, PoolFull, NotReduced, Skipped, GraphFull, OutOfRange, Good}
-use Rattle.ew_model.proofs.ArrivalLaws.{is_unknown, ready_found}
-use Rattle.ew_model.proofs.KeptLaws.{kept_next}
-use Rattle.ew_model.proofs.RoundLaws.{then}
+use Rattle.ew_model.proofs.ArrivalLaws.{is_unknown}
 use Rattle.ew_model.proofs.SetLaws.{among_joined, joined_left, joined_right}
-use Rattle.ew_model.proofs.VersionLaws.{find_none}
-use Rattle.history_words.specs.Tallies.{refused_by}
 use Rattle.net_core.specs.Laws.{IsRoomRefusal}
-use Rattle.net_core.proofs.Elsewhere.{WasGood}
-use Rattle.net_core.proofs.Judging.{Way, coming_way, ready_way}
 
 -- all events of a desk are given ones
 pub record IsFrom (U : Event → Type 0) (d : Desk) : Type 0 where

@@ -1,5 +1,5 @@
 -- No peer awaits an event of its own agent: such events stand in its own history.
-use Rattle.std.proofs.Common.{◌≡◌, ℕ, Bool, true, false, not, ◌&&◌, ◌⊎◌, ⊎_elim, List, ◌∷◌, Option, Some, None, refl, sym, ap, subst, ◌∙◌}
+use Rattle.std.proofs.Common.{◌≡◌, ℕ, Bool, true, false, not, ◌&&◌, ⊎_elim, List, ◌∷◌, Some, refl, sym, ap, subst, ◌∙◌}
 use Rattle.std.specs.List.{AllByRecursion, list_any}
 use Rattle.std.proofs.lemmas.Bool.{and_parts, false_from_ne_true, false≢true}
 use Rattle.ew_model.specs.declared.event.Event.{Event}

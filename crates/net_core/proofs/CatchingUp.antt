@@ -1,16 +1,14 @@
 -- Events that come in order are all held at last, where the history isn't full.
-use Rattle.std.proofs.Common.{◌≡◌, ℕ, zero, suc, ◌+◌, ◌*◌, ◌≤◌, ◌<◌, Bool, true, false, ◌⊎◌, inl, inr, ⊎_elim, List, [], ◌∷◌, ◌++◌, find, length, Option, Some, None, refl, sym, ap, ◌∙◌, subst, cond, arith}
-use Rattle.std.specs.List.{AllByRecursion}
+use Rattle.std.proofs.Common.{◌≡◌, ℕ, zero, suc, ◌≤◌, true, false, ◌⊎◌, inl, inr, ⊎_elim, List, [], ◌∷◌, ◌++◌, find, length, Option, Some, None, refl, sym, ap, ◌∙◌, subst, cond, arith}
 use Rattle.std.proofs.lemmas.Bool.{cases_Bool, cond-true, false≢true}
 use Rattle.ew_model.specs.declared.event.Event.{Event}
 use Rattle.ew_model.specs.declared.id.Id.{Id}
 use Rattle.ew_model.specs.Ancestors.{is_held}
-use Rattle.ew_model.specs.Arrival.{Answer, Desk, Judgement, arrive, desk_of, is_ready, judge_coming, judge_ready, judgements, most_judgements, next_judgement}
+use Rattle.ew_model.specs.Arrival.{Desk, Judgement, arrive, desk_of, is_ready, judge_coming, judge_ready, judgements, most_judgements, next_judgement}
 use Rattle.ew_model.specs.ArrivalLaw.{NoneReady}
 use Rattle.ew_model.specs.Ids.{id_eq}
 use Rattle.ew_model.specs.Limits.{LimitNumbers}
 use Rattle.ew_model.specs.Sets.{Among}
-use Rattle.ew_model.specs.Verdicts.{Ruling}
 use Rattle.ew_model.specs.Verdicts.Ruling.{GraphFull}
 use Rattle.ew_model.proofs.ArrivalLaws.{judgements_end, next_less}
 use Rattle.ew_model.proofs.CoverLaws.{ids_within, pass_all}

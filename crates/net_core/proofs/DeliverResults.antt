@@ -1,5 +1,5 @@
 -- What the delivery of a packet leaves of a network, and what is answered.
-use Rattle.std.proofs.Common.{◌≡◌, ℕ, suc, ◌<◌, Bool, true, false, ⊎_elim, List, [], ◌∷◌, ◌++◌, find, length, map, Option, Some, None, refl, sym, ap, ◌∙◌, subst, append-nil}
+use Rattle.std.proofs.Common.{◌≡◌, ℕ, suc, ◌<◌, Bool, true, false, ⊎_elim, List, [], ◌∷◌, find, length, Option, Some, None, refl, sym, ap, ◌∙◌, subst, append-nil}
 use Rattle.std.specs.Global.{Vec}
 use Rattle.std.specs.List.{AllByRecursion, slice_get}
 use Rattle.std.specs.Option.{option_map_or}
@@ -17,7 +17,7 @@ use Rattle.net_core.specs.Answers.{IsLeftAt, IsLeftIn, StepsTo, refusal_told, to
 use Rattle.net_core.specs.Handing.{IsNotHanded}
 use Rattle.net_core.specs.Keeping.{IsPacket, IsReached}
 use Rattle.net_core.specs.Laws.{NoneClashes}
-use Rattle.peer_words.specs.Machine.{Network, Packet, Peer, StepOutcome, deliver_step, delivery_of, net_step, peer_of, print_before, put_replica, with_packet, with_replies}
+use Rattle.peer_words.specs.Machine.{Network, Packet, Peer, deliver_step, delivery_of, net_step, peer_of, print_before, put_replica, with_packet, with_replies}
 use Rattle.peer_words.specs.Machine.Refusal.{NoPacket, NoPeer}
 use Rattle.peer_words.specs.Machine.StepOutcome.{Refused, Stepped}
 use Rattle.net_core.proofs.Editing.{replica_of}

@@ -1,12 +1,10 @@
 -- What delivered frames leave, whose events stand where they were made.
-use Rattle.std.proofs.Common.{◌≡◌, ℕ, ◌≤◌, zero, suc, true, false, length, ◌⊎◌, inl, inr, ⊎_elim, List, [], ◌∷◌, ◌++◌, map, take, drop, Option, Some, None, refl, sym, ap, ◌∙◌, subst}
+use Rattle.std.proofs.Common.{◌≡◌, ℕ, ◌≤◌, zero, suc, true, false, length, inl, inr, List, [], ◌∷◌, ◌++◌, map, drop, Option, Some, None, refl, sym, subst}
 use Rattle.std.specs.List.{AllByRecursion}
 use Rattle.std.specs.Prelude.{nat_le}
 use Rattle.ew_model.specs.declared.event.Event.{Event}
 use Rattle.ew_model.specs.declared.id.Id.{Id}
-use Rattle.ew_model.specs.Arrival.{Answer, Desk, Outcome, arrive, desk_of, judgements}
-use Rattle.ew_model.specs.ArrivalLaw.{is_full}
-use Rattle.ew_model.specs.Ids.{id_eq}
+use Rattle.ew_model.specs.Arrival.{Answer, Outcome, arrive, desk_of, judgements}
 use Rattle.ew_model.specs.Kept.{IsKept, ReplicaState}
 use Rattle.ew_model.specs.Limits.{LimitNumbers}
 use Rattle.ew_model.specs.Sets.{Among}
@@ -18,16 +16,15 @@ use Rattle.ew_model.proofs.LimitsKept.{arrivals_keep, judgements_keep_limits}
 use Rattle.ew_model.proofs.SortingLaws.{all_at, all_filter, all_from}
 use Rattle.event_graph.proofs.Tails.{all_first}
 use Rattle.event_graph.specs.Missing.{count_in, missing}
-use Rattle.history_words.specs.Tallies.{refused_by, refused_in}
+use Rattle.history_words.specs.Tallies.{refused_in}
 use Rattle.peer_exchange.specs.Answering.{IsLeftBy, answer_to, event_frames, first_clash, frame_for, took_of}
 use Rattle.peer_exchange.specs.Pieces.{frame_room, pieces_from}
 use Rattle.peer_exchange.proofs.Lengths.{all_drop, few_after}
 use Rattle.peer_frames.specs.declared.frame.Frame.{Frame}
 use Rattle.peer_frames.specs.declared.frame.Frame.TheVariants.{Have, Events, Done, Took, Clash, Bye}
 use Rattle.peer_frames.specs.declared.frame.Frame.TheVariants as frame
-use Rattle.replica.specs.Receiving.{StopsBetween}
 use Rattle.net_core.specs.Answers.{IsLeftIn}
-use Rattle.net_core.specs.Keeping.{IsHome, IsReplica, events_in}
+use Rattle.net_core.specs.Keeping.{IsHome, IsReplica}
 use Rattle.net_core.specs.Laws.{IsRoomRefusal, NoneClashes, answers_in, answers_to, is_clash}
 use Rattle.peer_words.specs.Machine.{Peer, delivery_of}
 use Rattle.net_core.proofs.Arrivals.{AreTurns, arrival, turns}

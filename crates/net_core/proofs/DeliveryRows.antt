@@ -7,8 +7,7 @@ use Rattle.ew_model.specs.Arrival.{Answer, arrive}
 use Rattle.ew_model.specs.Cuts.{latest_cut}
 use Rattle.ew_model.specs.Kept.{ReplicaState}
 use Rattle.event_graph.specs.Missing.{missing}
-use Rattle.history_words.specs.Tallies.{refused_in}
-use Rattle.peer_exchange.specs.Answering.{answer_to, event_frames, frame_for, took_of}
+use Rattle.peer_exchange.specs.Answering.{answer_to, frame_for, took_of}
 use Rattle.peer_exchange.specs.Pieces.{frame_room, pieces_from}
 use Rattle.peer_frames.specs.declared.frame.Frame.{Frame}
 use Rattle.peer_frames.specs.declared.frame.Frame.TheVariants.{Have, Events, Done, Took, Clash, Bye}

@@ -1,5 +1,5 @@
 -- What a local edit of a peer leaves of a network, and what is answered.
-use Rattle.std.proofs.Common.{◌≡◌, ℕ, ◌<◌, List, [], ◌∷◌, ◌++◌, length, Option, Some, None, refl, sym, ap, ◌∙◌, subst}
+use Rattle.std.proofs.Common.{◌≡◌, ℕ, ◌<◌, List, [], ◌∷◌, length, Some, None, refl, sym, ap, ◌∙◌, subst}
 use Rattle.std.specs.Global.{Vec}
 use Rattle.std.specs.List.{slice_get}
 use Rattle.std.specs.Prelude.{Err, Ok, Result, codes, decimal}
@@ -7,16 +7,16 @@ use Rattle.ew_model.specs.Edits.{Edit, edit_refusal}
 use Rattle.ew_model.specs.Edits as model
 use Rattle.ew_model.specs.Kept.{ReplicaState}
 use Rattle.event_words.specs.declared.net.step.NetStep.{NetStep}
-use Rattle.replica.specs.Answers.{EditsBy, refusal_of}
+use Rattle.replica.specs.Answers.{EditsBy}
 use Rattle.replica.specs.declared.fault.EditFault.{EditFault}
 use Rattle.replica.specs.declared.fault.EditFault.TheVariants as edit
 use Rattle.net_core.specs.declared.fault.NetFault.{NetFault}
 use Rattle.net_core.specs.declared.fault.NetFault.TheVariants as fault
 use Rattle.net_core.specs.Answers.{IsLeftAt, StepsTo, fault_of, handed_over, told_bytes}
 use Rattle.net_core.specs.Keeping.{IsReached}
-use Rattle.peer_words.specs.Machine.{Network, Peer, edit_outcome, edit_step, net_step, peer_of, printed_line, put_replica}
+use Rattle.peer_words.specs.Machine.{Network, Peer, edit_outcome, edit_step, net_step, peer_of, printed_line}
 use Rattle.peer_words.specs.Machine.Refusal.{NoEdit}
-use Rattle.peer_words.specs.Machine.StepOutcome.{Stepped, Refused}
+use Rattle.peer_words.specs.Machine.StepOutcome.{Stepped}
 use Rattle.net_core.proofs.Editing.{edited_homely, edited_state, edited_step, named_so}
 use Rattle.net_core.proofs.Reaching.{homely}
 use Rattle.net_core.proofs.Steps.{at_peer, refused}

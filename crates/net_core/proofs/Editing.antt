@@ -1,29 +1,26 @@
 -- Local edits and restarts in a network.
-use Rattle.std.proofs.Common.{◌≡◌, ℕ, ◌+◌, ◌≤◌, false, true, ◌⊎◌, inl, inr, ⊎_elim, List, [], ◌∷◌, ◌++◌, map, set, length, Option, Some, None, refl, sym, ap, ◌∙◌, subst, arith}
-use Rattle.std.specs.List.{AllByRecursion, slice_get}
-use Rattle.std.specs.Prelude.{Err, Ok, codes, decimal}
+use Rattle.std.proofs.Common.{◌≡◌, ℕ, ◌+◌, false, inl, inr, List, [], ◌∷◌, ◌++◌, map, set, length, Some, None, sym, ap, ◌∙◌, subst, arith}
+use Rattle.std.specs.List.{slice_get}
+use Rattle.std.specs.Prelude.{codes, decimal}
 use Rattle.ew_model.specs.declared.event.Event.{Event}
 use Rattle.ew_model.specs.declared.event.Op.{Op}
 use Rattle.ew_model.specs.declared.id.Id.{Id}
-use Rattle.ew_model.specs.Edits.{Edit, chain_of, count_of, edit_refusal, events_of_edit, events_of_ops, ops_of}
-use Rattle.ew_model.specs.Kept.{IsKept, ReplicaState, is_awaited}
-use Rattle.ew_model.specs.Limits.{LimitNumbers}
+use Rattle.ew_model.specs.Edits.{Edit, chain_of, edit_refusal, events_of_edit, events_of_ops, ops_of}
+use Rattle.ew_model.specs.Kept.{ReplicaState, is_awaited}
 use Rattle.ew_model.specs.Sets.{Among}
 use Rattle.ew_model.proofs.EditLaws.{edits_keep}
 use Rattle.ew_model.proofs.IdLaws.{name_exact, names_equal}
 use Rattle.ew_model.proofs.SetLaws.{joined_left, joined_right}
 use Rattle.ew_model.proofs.SortingLaws.{all_at, all_from}
-use Rattle.event_words.specs.declared.net.step.NetStep.{NetStep}
 use Rattle.net_core.specs.Keeping.{IsHome, IsReplica}
-use Rattle.peer_words.specs.Machine.{Network, Peer, StepOutcome, edit_outcome, edit_step, net_step, peer_among, peer_of, printed_line, put_replica, restart_outcome, with_peer}
-use Rattle.peer_words.specs.Machine.Refusal.{NoEdit}
-use Rattle.peer_words.specs.Machine.StepOutcome.{Stepped, Refused}
-use Rattle.net_core.proofs.Awaiting.{none_awaited, replica_at}
+use Rattle.peer_words.specs.Machine.{Network, Peer, edit_outcome, edit_step, peer_among, peer_of, printed_line, put_replica, restart_outcome, with_peer}
+use Rattle.peer_words.specs.Machine.StepOutcome.{Stepped}
+use Rattle.net_core.proofs.Awaiting.{none_awaited}
 use Rattle.ew_model.proofs.EntryLaws.{all_joined}
 use Rattle.net_core.proofs.Deliveries.{Went}
 use Rattle.net_core.proofs.Puts.{found_named, found_put, peer_there, put_here, put_in, set_is_put}
 use Rattle.net_core.proofs.Reaching.{IsHomely, all_on, home_after, put_homely, still_replica}
-use Rattle.net_core.proofs.Steps.{at_peer, no_peer}
+use Rattle.net_core.proofs.Steps.{at_peer}
 
 -- an agent's edit makes events of its own
 chain_agent : (agent : List ℕ) (n : ℕ) (parents : List Id) (ops : List Op) (e : Event) → Among e (chain_of agent n parents ops) → e.id.agent ≡ agent

@@ -1,5 +1,5 @@
 -- An event that was good where it was made is good wherever its parents are held.
-use Rattle.std.proofs.Common.{◌≡◌, true, List, [], ◌∷◌, ◌++◌, inl, inr, refl, sym, ap, ◌∙◌, subst, append_assoc}
+use Rattle.std.proofs.Common.{◌≡◌, true, List, [], ◌∷◌, ◌++◌, inl, inr, sym, ◌∙◌, subst, append_assoc}
 use Rattle.std.specs.List.{list_all}
 use Rattle.ew_model.specs.declared.id.Id.{Id}
 use Rattle.ew_model.specs.declared.event.Event.{Event}
@@ -9,7 +9,7 @@ use Rattle.ew_model.specs.Ids.{id_eq, is_among}
 use Rattle.ew_model.specs.Sets.{Among, SameElements}
 use Rattle.ew_model.specs.Verdicts.{IsGood, IsGoodAfter, first_row}
 use Rattle.ew_model.specs.Verdicts.Ruling.{Good}
-use Rattle.ew_model.proofs.CoverLaws.{closed_taken, equal_through, event_of, ids_alike, passes}
+use Rattle.ew_model.proofs.CoverLaws.{closed_taken, equal_through, event_of, passes}
 use Rattle.ew_model.proofs.EntryLaws.{points_back}
 use Rattle.ew_model.proofs.GoodLaws.{good_laid_out}
 use Rattle.ew_model.proofs.JudgeLaws.{ancestors_judge}

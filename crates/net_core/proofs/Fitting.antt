@@ -1,12 +1,11 @@
 -- At every moment of every script readers take the frames of all packets, and events stand where they were made.
-use Rattle.std.proofs.Common.{◌≡◌, ℕ, zero, suc, ◌+◌, ◌<◌, ◌≤◌, ◌^◌, true, false, ◌⊎◌, inl, inr, ⊎_elim, List, [], ◌∷◌, ◌++◌, length, map, take, drop, count_by, Option, Some, None, refl, sym, ap, ◌∙◌, subst, append-nil, arith}
+use Rattle.std.proofs.Common.{◌≡◌, ℕ, ◌+◌, ◌<◌, ◌≤◌, ◌^◌, true, false, ◌⊎◌, inl, inr, List, [], ◌∷◌, ◌++◌, length, map, Option, Some, None, refl, sym, ap, ◌∙◌, subst, arith}
 use Rattle.std.specs.List.{AllByRecursion, slice_get}
 use Rattle.std.specs.Option.{option_and_then, option_map_or}
 use Rattle.std.proofs.lemmas.Bool.{cases_Bool}
 use Rattle.std.proofs.lemmas.List.{length-append}
 use Rattle.std.proofs.lemmas.List.Sums.{count_by-le-length}
 use Rattle.ew_model.specs.declared.event.Event.{Event}
-use Rattle.ew_model.specs.declared.id.Id.{Id}
 use Rattle.ew_model.specs.Arrival.{Answer, arrive}
 use Rattle.ew_model.specs.Edits as edits
 use Rattle.ew_model.specs.Edits.{Edit, EditRefusal, edit_refusal, events_of_edit}
@@ -16,7 +15,7 @@ use Rattle.ew_model.specs.Limits.{AreLimits, LimitNumbers}
 use Rattle.ew_model.specs.Names.{is_name}
 use Rattle.ew_model.specs.Sets.{Among}
 use Rattle.ew_model.specs.Sound.{AreSound, IsSound}
-use Rattle.ew_model.specs.Verdicts.{IsGood, is_verdict_good}
+use Rattle.ew_model.specs.Verdicts.{is_verdict_good}
 use Rattle.ew_model.proofs.EntryLaws.{all_joined}
 use Rattle.ew_model.proofs.LimitsKept.{arrivals_keep}
 use Rattle.ew_model.proofs.SortingLaws.{all_at}
@@ -38,13 +37,13 @@ use Rattle.peer_frames.specs.declared.frame.Frame.TheVariants.{Have, Events, Don
 use Rattle.std.specs.List.{flat_map}
 use Rattle.net_core.specs.Keeping.{IsHome, IsReached, IsReplica}
 use Rattle.net_core.specs.Laws.{NetsAreReached, after_steps, network_left}
-use Rattle.peer_words.specs.Machine.{Network, Packet, Peer, StepOutcome, deliver_step, delivery_of, edit_outcome, empty_network, net_step, peer_of, peer_step, piece_of, print_before, put_replica, restart_outcome, with_packet, with_peer, with_replies}
+use Rattle.peer_words.specs.Machine.{Network, Packet, Peer, deliver_step, delivery_of, edit_outcome, empty_network, net_step, peer_of, peer_step, piece_of, print_before, put_replica, restart_outcome, with_packet, with_peer, with_replies}
 use Rattle.peer_words.specs.Machine.Refusal.{NoPacket}
 use Rattle.peer_words.specs.Machine.StepOutcome.{Refused}
 use Rattle.net_core.proofs.Counting.{adds_one}
 use Rattle.net_core.proofs.Deliveries.{all_before, few_parents, no_clashes, room_in, went, went_all}
 use Rattle.net_core.proofs.Editing.{named_so, replica_of}
-use Rattle.net_core.proofs.Following.{Follows, peer_did, step_follows}
+use Rattle.net_core.proofs.Following.{peer_did, step_follows}
 use Rattle.ew_model.proofs.OperationLaws.{got}
 use Rattle.net_core.proofs.Puts.{peer_there, put_elsewhere, put_here, put_in}
 use Rattle.net_core.proofs.Reaching.{AreTaken, HasHomes, IsHomely, IsSent, all_on, reached}

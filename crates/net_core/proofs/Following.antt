@@ -1,5 +1,5 @@
 -- Networks follow one another: histories grow, packets stay, and events keep their homes.
-use Rattle.std.proofs.Common.{◌≡◌, ℕ, ◌⊎◌, inl, inr, ⊎_elim, true, false, List, [], ◌∷◌, ◌++◌, map, Option, Some, None, refl, sym, ap, ◌∙◌, subst, append-nil, append_assoc}
+use Rattle.std.proofs.Common.{◌≡◌, ℕ, ◌⊎◌, inl, inr, true, false, List, [], ◌∷◌, ◌++◌, Option, Some, None, refl, sym, ap, ◌∙◌, subst, append-nil, append_assoc}
 use Rattle.std.specs.List.{AllByRecursion, slice_get}
 use Rattle.std.specs.Option.{option_and_then, option_map_or}
 use Rattle.std.proofs.lemmas.Bool.{cases_Bool}
@@ -8,7 +8,6 @@ use Rattle.ew_model.specs.Edits as edits
 use Rattle.ew_model.specs.Edits.{Edit, EditRefusal, edit_refusal}
 use Rattle.ew_model.specs.Ids.{name_eq}
 use Rattle.ew_model.specs.Kept.{ReplicaState}
-use Rattle.ew_model.specs.Limits.{LimitNumbers}
 use Rattle.ew_model.specs.Sets.{Among}
 use Rattle.ew_model.proofs.IdLaws.{name_exact}
 use Rattle.ew_model.proofs.SetLaws.{joined_left}
@@ -21,14 +20,14 @@ use Rattle.peer_exchange.specs.Answering.{event_frames, question}
 use Rattle.peer_frames.specs.declared.frame.Frame.{Frame}
 use Rattle.net_core.specs.Keeping.{IsHome, IsReplica}
 use Rattle.net_core.specs.Laws.{after_steps, network_left}
-use Rattle.peer_words.specs.Machine.{Network, Packet, Peer, Refusal, StepOutcome, deliver_step, delivery_of, edit_outcome, net_step, peer_among, peer_of, peer_step, piece_of, print_before, put_replica, restart_outcome, with_packet, with_peer, with_replies}
+use Rattle.peer_words.specs.Machine.{Network, Packet, Peer, StepOutcome, deliver_step, delivery_of, edit_outcome, net_step, peer_of, peer_step, piece_of, print_before, put_replica, restart_outcome, with_packet, with_peer, with_replies}
 use Rattle.peer_words.specs.Machine.Refusal.{NoPeer, NoPacket}
-use Rattle.peer_words.specs.Machine.StepOutcome.{Stepped, Refused}
+use Rattle.peer_words.specs.Machine.StepOutcome.{Refused}
 use Rattle.net_core.proofs.Deliveries.{Went, homes_in_frames, went_all}
-use Rattle.net_core.proofs.Editing.{edited_homely, edited_state, grows, named_so, replica_of, restarted, restarted_homely, went_homely}
+use Rattle.net_core.proofs.Editing.{edited_homely, edited_state, named_so, replica_of, restarted, restarted_homely, went_homely}
 use Rattle.ew_model.proofs.OperationLaws.{got}
 use Rattle.net_core.proofs.Packets.{replies_are, sent_between}
-use Rattle.net_core.proofs.Puts.{found_named, found_put, put_elsewhere, put_here, put_in}
+use Rattle.net_core.proofs.Puts.{found_put, put_elsewhere, put_here, put_in}
 use Rattle.net_core.proofs.Reaching.{HasHomes, IsHomely, IsSent, one_more_peer, one_more_sent, still_there}
 
 -- the peer is still there, and holds all that it held

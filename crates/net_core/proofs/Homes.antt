@@ -1,5 +1,5 @@
 -- Of events that stand where they were made there is one for each id, and each was good there.
-use Rattle.std.proofs.Common.{◌≡◌, [], true, List, Option, Some, sym, ap, ◌∙◌, subst}
+use Rattle.std.proofs.Common.{◌≡◌, [], true, List, Some, sym, ap, ◌∙◌, subst}
 use Rattle.std.specs.List.{AllByRecursion}
 use Rattle.ew_model.specs.declared.id.Id.{Id}
 use Rattle.ew_model.specs.declared.event.Event.{Event}

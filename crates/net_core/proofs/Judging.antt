@@ -1,5 +1,5 @@
 -- How events are judged that were good where they were made: none is refused but for want of room.
-use Rattle.std.proofs.Common.{◌≡◌, ℕ, zero, suc, nat_lt, nat_le, Bool, true, false, not, cond, ◌||◌, ◌⊎◌, inl, inr, ⊎_elim, List, [], ◌∷◌, ◌++◌, find, length, Option, Some, None, option_map, refl, sym, ap, ◌∙◌, subst}
+use Rattle.std.proofs.Common.{◌≡◌, ℕ, nat_lt, nat_le, Bool, true, false, not, cond, ◌⊎◌, inl, inr, ⊎_elim, List, [], ◌∷◌, ◌++◌, find, length, Option, Some, None, option_map, refl, sym, ap, ◌∙◌, subst}
 use Rattle.std.specs.Bool.{then_some}
 use Rattle.std.specs.List.{list_any}
 use Rattle.std.proofs.lemmas.Bool.{cases_Bool, false≢true}
@@ -18,7 +18,7 @@ use Rattle.ew_model.proofs.ArrivalRuns.{no_id}
 use Rattle.ew_model.proofs.KeptLaws.{no_repeat}
 use Rattle.ew_model.proofs.ListTests.{any_from}
 use Rattle.ew_model.proofs.MergeSteps.{good_or_full, repeat_row, same_event}
-use Rattle.ew_model.proofs.RulingLaws.{is_malformed, ruled, ruled_cases}
+use Rattle.ew_model.proofs.RulingLaws.{ruled, ruled_cases}
 use Rattle.ew_model.proofs.SetLaws.{among_joined}
 use Rattle.net_core.proofs.Elsewhere.{WasGood, good_elsewhere, has_event}
 

@@ -1,42 +1,33 @@
 -- The laws of deliveries: nothing is refused but for want of room, packets of a push and of an answer bring all, and what agreement tells.
-use Rattle.std.proofs.Common.{◌≡◌, ℕ, zero, suc, ◌+◌, Bool, true, false, not, ◌⊎◌, inl, inr, ⊎_elim, ◌↔◌, List, [], ◌∷◌, ◌++◌, filter, length, map, Option, Some, None, refl, sym, ap, ◌∙◌, subst, append_assoc, append-nil, arith}
-use Rattle.std.specs.List.{AllByRecursion, list_any, slice_get}
+use Rattle.std.proofs.Common.{◌≡◌, ℕ, Bool, true, false, ◌⊎◌, inl, inr, List, [], ◌∷◌, ◌++◌, length, Some, refl, sym, ap, ◌∙◌, subst, append-nil, arith}
+use Rattle.std.specs.List.{AllByRecursion, slice_get}
 use Rattle.std.specs.Prelude.{codes, if◌then◌else◌}
-use Rattle.std.proofs.lemmas.Bool.{cases_Bool}
 use Rattle.ew_model.specs.declared.event.Event.{Event}
-use Rattle.ew_model.specs.ArrivalLaw.{OneEach}
-use Rattle.ew_model.specs.Events.{event_eq}
-use Rattle.ew_model.specs.Ids.{name_eq}
 use Rattle.ew_model.specs.Kept.{ReplicaState}
 use Rattle.ew_model.specs.Limits.{AreLimits}
 use Rattle.ew_model.specs.Sets.{Among}
 use Rattle.ew_model.proofs.GoodLaws.{equal_sets_agree}
 use Rattle.ew_model.proofs.IdLaws.{names_equal}
-use Rattle.ew_model.proofs.SameEvents.{event_among}
-use Rattle.ew_model.proofs.SetLaws.{among_filter, among_joined, filter_among}
 use Rattle.ew_model.proofs.SortingLaws.{all_at, all_from}
 use Rattle.event_graph.specs.Missing.{missing}
-use Rattle.event_words.specs.declared.net.step.NetStep.{NetStep}
 use Rattle.event_words.specs.declared.net.step.NetStep.TheVariants as step
-use Rattle.peer_exchange.specs.Answering.{event_frames, question}
+use Rattle.peer_exchange.specs.Answering.{event_frames}
 use Rattle.peer_frames.specs.declared.frame.Frame.{Frame}
 use Rattle.peer_frames.specs.declared.frame.Frame.TheVariants as frame
 use Rattle.net_core.specs.Keeping.{IsHome, IsReached, IsReplica}
-use Rattle.net_core.specs.Laws.{Agree, AgreementIsTold, Delivered, HeldAll, HoldsAllOf, OnlyFullRefuses, PushesArrive, after_steps, answers_in, network_left}
-use Rattle.peer_words.specs.Machine.{Network, Packet, Peer, StepOutcome, agree_line, all_agree, delivery_of, net_step, packet_step, peer_among, peer_of, print_before, printed_line, put_replica, with_packet, with_peer, with_replies}
-use Rattle.peer_words.specs.Machine.StepOutcome.{Stepped, Refused}
+use Rattle.net_core.specs.Laws.{Agree, AgreementIsTold, HeldAll, OnlyFullRefuses, PushesArrive, answers_in, network_left}
+use Rattle.peer_words.specs.Machine.{Network, Packet, Peer, agree_line, all_agree, delivery_of, net_step, packet_step, peer_among, peer_of, print_before, printed_line, put_replica, with_packet, with_peer, with_replies}
 use Rattle.net_core.proofs.Agreeing.{agree_by_one, all_as_one}
 use Rattle.net_core.proofs.Deliveries.{room_in_all}
 use Rattle.net_core.proofs.Editing.{replica_of}
 use Rattle.net_core.proofs.Following.{Follows, IsGrown, peer_did, step_follows, steps_follow, then_follows}
-use Rattle.net_core.proofs.Homes.{one_home}
 use Rattle.ew_model.proofs.OperationLaws.{got}
 use Rattle.net_core.proofs.Packets.{deliver_is, with_some}
-use Rattle.net_core.proofs.Puts.{found_named, found_put, put_here, put_in}
+use Rattle.net_core.proofs.Puts.{found_put, put_here, put_in}
 use Rattle.net_core.proofs.Reaching.{HasHomes, IsHomely, IsSent, homely}
 use Rattle.net_core.proofs.Steps.{push_is}
 use Rattle.net_core.proofs.CatchingUp.{AreOrdered}
-use Rattle.net_core.proofs.Sending.{frames_caught, good_ordered, unheld_ordered}
+use Rattle.net_core.proofs.Sending.{frames_caught, good_ordered}
 
 -- Nothing is refused but for want of room.
 pub only_full_refuses : OnlyFullRefuses

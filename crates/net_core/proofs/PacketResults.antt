@@ -1,5 +1,5 @@
 -- What the making of a packet leaves of a network, and what is answered.
-use Rattle.std.proofs.Common.{◌≡◌, ℕ, ◌<◌, List, [], ◌∷◌, ◌++◌, get_or, length, Option, Some, None, refl, sym, ap, ◌∙◌, subst}
+use Rattle.std.proofs.Common.{◌≡◌, ℕ, ◌<◌, List, [], get_or, length, sym, ap, ◌∙◌, subst}
 use Rattle.std.specs.List.{AllByRecursion, slice_get}
 use Rattle.ew_model.specs.Kept.{ReplicaState}
 use Rattle.ew_model.specs.Limits.{LimitNumbers}
@@ -9,7 +9,7 @@ use Rattle.peer_exchange.specs.Answering.{event_frames}
 use Rattle.peer_frames.specs.Laws.{IsTaken}
 use Rattle.peer_frames.specs.declared.frame.Frame.{Frame}
 use Rattle.net_core.specs.Keeping.{IsHome, IsPacket, IsReached, IsReplica}
-use Rattle.peer_words.specs.Machine.{Network, Peer, StepOutcome, packet_step, peer_of, piece_of, print_before, with_packet}
+use Rattle.peer_words.specs.Machine.{Network, Peer, packet_step, peer_of, piece_of, print_before, with_packet}
 use Rattle.peer_words.specs.Machine.StepOutcome.{Stepped}
 use Rattle.net_core.proofs.Deliveries.{homes_in_frames}
 use Rattle.net_core.proofs.Editing.{replica_of}

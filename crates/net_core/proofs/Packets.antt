@@ -1,20 +1,18 @@
 -- Packets in a network, and their delivery.
-use Rattle.std.proofs.Common.{◌≡◌, ℕ, zero, suc, ◌<◌, ◌⊎◌, inr, ⊎_elim, List, [], ◌∷◌, ◌++◌, map, set, length, Option, Some, None, refl, sym, ap, ◌∙◌, subst, append-nil}
+use Rattle.std.proofs.Common.{◌≡◌, ℕ, zero, suc, inr, List, [], ◌∷◌, map, set, length, Option, Some, None, refl, sym, ap, ◌∙◌, subst}
 use Rattle.std.specs.List.{AllByRecursion, slice_get}
 use Rattle.std.specs.Option.{option_map_or}
-use Rattle.ew_model.specs.declared.event.Event.{Event}
 use Rattle.ew_model.specs.Kept.{ReplicaState}
 use Rattle.ew_model.specs.Limits.{LimitNumbers}
-use Rattle.ew_model.proofs.SortingLaws.{all_at}
 use Rattle.event_words.specs.declared.net.step.NetStep.TheVariants as step
-use Rattle.peer_exchange.specs.Answering.{IsLeftBy, answer_to}
+use Rattle.peer_exchange.specs.Answering.{answer_to}
 use Rattle.peer_frames.specs.declared.frame.Frame.{Frame}
 use Rattle.peer_frames.specs.Laws.{IsTaken}
 use Rattle.net_core.specs.Answers.{IsLeftAt, IsLeftIn}
 use Rattle.net_core.specs.Laws.{NoneClashes}
-use Rattle.peer_words.specs.Machine.{Network, Packet, Peer, StepOutcome, deliver_step, delivery_of, net_step, peer_among, peer_of, print_before, put_replica, with_packet, with_peer, with_replies}
+use Rattle.peer_words.specs.Machine.{Network, Packet, Peer, deliver_step, delivery_of, net_step, peer_of, print_before, put_replica, with_packet, with_replies}
 use Rattle.peer_words.specs.Machine.Refusal.{NoPacket}
-use Rattle.peer_words.specs.Machine.StepOutcome.{Stepped, Refused}
+use Rattle.peer_words.specs.Machine.StepOutcome.{Refused}
 use Rattle.net_core.proofs.Deliveries.{Went, homes_in_replies, left_in_went, none_clashes, went_all}
 use Rattle.net_core.proofs.Editing.{grows, named_so, replica_of, went_homely}
 use Rattle.net_core.proofs.Puts.{found_named, found_put, put_in, set_is_put}

@@ -1,5 +1,5 @@
 -- The first peer of a name among others, and the test of names.
-use Rattle.std.proofs.Common.{◌≡◌, ℕ, zero, suc, ◌<◌, Bool, true, false, ◌↔◌, IsTrue, List, [], ◌∷◌, length, drop, get_or, refl, sym, ap, subst, ◌∙◌, arith}
+use Rattle.std.proofs.Common.{◌≡◌, ℕ, zero, suc, ◌<◌, Bool, true, false, ◌↔◌, IsTrue, List, [], ◌∷◌, length, drop, get_or, refl, sym, subst, arith}
 use Rattle.std.specs.List.{find, slice_get}
 use Rattle.std.proofs.lemmas.Bool.{cond-true, false_from_ne_true, false≢true}
 use Rattle.ew_model.specs.Ids.{name_eq}

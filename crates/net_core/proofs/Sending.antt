@@ -1,12 +1,11 @@
 -- Events that are sent in frames, in order, are all held after them, where the history isn't full.
-use Rattle.std.proofs.Common.{◌≡◌, ℕ, zero, suc, ◌+◌, ◌*◌, ◌≤◌, Bool, true, false, not, ◌⊎◌, inl, inr, ⊎_elim, List, [], ◌∷◌, ◌++◌, cond, filter, length, map, take, drop, refl, sym, ap, ◌∙◌, subst, append_assoc, append-nil, arith}
+use Rattle.std.proofs.Common.{◌≡◌, ℕ, zero, suc, ◌+◌, ◌*◌, ◌≤◌, true, false, not, ◌⊎◌, inl, inr, ⊎_elim, List, [], ◌∷◌, ◌++◌, cond, length, map, take, drop, refl, sym, ap, subst, append_assoc, append-nil, arith}
 use Rattle.std.specs.Int.{div_ceil}
 use Rattle.std.specs.List.{AllByRecursion, list_any}
 use Rattle.std.proofs.lemmas.Bool.{cases_Bool, cond-false, cond-true}
 use Rattle.std.proofs.lemmas.Grind.{div_ceil_times}
 use Rattle.std.proofs.lemmas.List.{length-drop, take-append-drop}
 use Rattle.ew_model.specs.declared.event.Event.{Event}
-use Rattle.ew_model.specs.declared.id.Id.{Id}
 use Rattle.ew_model.specs.Ancestors.{is_held}
 use Rattle.ew_model.specs.Arrival.{Answer}
 use Rattle.ew_model.specs.Events.{event_eq}
@@ -14,7 +13,7 @@ use Rattle.ew_model.specs.Kept.{ReplicaState}
 use Rattle.ew_model.specs.Limits.{AreLimits, LimitNumbers}
 use Rattle.ew_model.specs.Sets.{Among}
 use Rattle.ew_model.specs.Verdicts.{IsGood, IsGoodAfter}
-use Rattle.ew_model.proofs.CoverLaws.{event_of, held_by, ids_within}
+use Rattle.ew_model.proofs.CoverLaws.{ids_within}
 use Rattle.ew_model.proofs.GoodLaws.{next_from_good}
 use Rattle.ew_model.proofs.SameEvents.{event_among}
 use Rattle.ew_model.proofs.SetLaws.{among_joined, joined_left, joined_right}
@@ -31,7 +30,7 @@ use Rattle.net_core.specs.Keeping.{IsHome, IsReplica}
 use Rattle.net_core.specs.Laws.{HeldAll, answers_in, answers_to, is_graph_full}
 use Rattle.peer_words.specs.Machine.{Peer, delivery_of}
 use Rattle.net_core.proofs.CatchingUp.{AreOrdered, all_caught}
-use Rattle.net_core.proofs.Deliveries.{Went, all_before, from_desk, went, went_all}
+use Rattle.net_core.proofs.Deliveries.{all_before, from_desk, went, went_all}
 use Rattle.net_core.proofs.Homes.{one_home, was_home}
 use Rattle.net_core.proofs.Reaching.{HasHomes}
 

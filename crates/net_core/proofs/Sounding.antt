@@ -1,9 +1,8 @@
 -- Which events of a network the types can hold: all, since its steps are such that can be written.
-use Rattle.std.proofs.Common.{◌≡◌, ℕ, zero, suc, ◌+◌, ◌<◌, ◌≤◌, ◌^◌, ◌&&◌, true, false, Bool, ◌⊎◌, inl, inr, ⊎_elim, List, [], ◌∷◌, ◌++◌, length, map, count_by, None, refl, sym, ap, ◌∙◌, subst, cond, arith}
+use Rattle.std.proofs.Common.{◌≡◌, ℕ, zero, suc, ◌+◌, ◌<◌, ◌≤◌, ◌^◌, true, List, [], ◌∷◌, length, None, sym, subst, arith}
 use Rattle.std.specs.List.{AllByRecursion}
 use Rattle.std.specs.Str.{all_scalars}
-use Rattle.std.proofs.lemmas.Bool.{and_parts, cases_Bool}
-use Rattle.std.proofs.lemmas.Cmp.{nat_list_cmp_total}
+use Rattle.std.proofs.lemmas.Bool.{and_parts}
 use Rattle.std.proofs.lemmas.List.Sums.{count_by-le-length}
 use Rattle.ew_model.specs.declared.event.Event.{Event}
 use Rattle.ew_model.specs.declared.event.Op.{Op}
@@ -13,10 +12,9 @@ use Rattle.ew_model.specs.EditLaws.{size_of}
 use Rattle.ew_model.specs.Edits as edits
 use Rattle.ew_model.specs.Edits.{Edit, chain_of, count_of, deletions_at, edit_refusal, events_of_edit, events_of_ops, insertions_at, needed_length, ops_of}
 use Rattle.ew_model.specs.Ids.{id_cmp, name_eq}
-use Rattle.ew_model.specs.Kept.{IsKept, ReplicaState}
+use Rattle.ew_model.specs.Kept.{IsKept}
 use Rattle.ew_model.specs.Limits.{AreLimits, LimitNumbers}
 use Rattle.ew_model.specs.Names.{is_name}
-use Rattle.ew_model.specs.Sets.{Among}
 use Rattle.ew_model.specs.Sorting.{sort_by}
 use Rattle.ew_model.specs.Sound.{AreSound, IsSound, IsSoundId, IsSoundOp}
 use Rattle.ew_model.proofs.CoverLaws.{event_of}

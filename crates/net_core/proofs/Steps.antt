@@ -1,7 +1,7 @@
 -- What a step comes to, and how it is refused.
-use Rattle.std.proofs.Common.{◌≡◌, ℕ, ◌<◌, List, [], ◌∷◌, ◌++◌, length, Option, Some, None, refl, sym, ap, ◌∙◌, subst}
+use Rattle.std.proofs.Common.{◌≡◌, ℕ, ◌<◌, List, [], ◌∷◌, length, Option, Some, None, refl, ap, ◌∙◌}
 use Rattle.std.specs.List.{slice_get}
-use Rattle.std.specs.Prelude.{Err, decimal, codes}
+use Rattle.std.specs.Prelude.{Err}
 use Rattle.std.specs.Option.{option_map_or}
 use Rattle.ew_model.specs.Edits as edits
 use Rattle.ew_model.specs.Kept.{ReplicaState}
@@ -15,8 +15,8 @@ use Rattle.peer_frames.specs.declared.frame.Frame.{Frame}
 use Rattle.net_core.specs.declared.fault.NetFault.{NetFault}
 use Rattle.net_core.specs.declared.fault.NetFault.TheVariants as fault
 use Rattle.net_core.specs.Answers.{StepsTo, refusal_told}
-use Rattle.peer_words.specs.Machine.{Network, Packet, Peer, Refusal, StepOutcome, agree_line, edit_step, net_step, packet_step, peer_of, peer_step, piece_of, printed_line, restart_outcome, with_packet, with_peer}
-use Rattle.peer_words.specs.Machine.Refusal.{NoPeer, PeerTwice, NoPacket}
+use Rattle.peer_words.specs.Machine.{Network, Peer, Refusal, StepOutcome, agree_line, edit_step, net_step, packet_step, peer_of, peer_step, piece_of, printed_line, restart_outcome, with_packet, with_peer}
+use Rattle.peer_words.specs.Machine.Refusal.{NoPeer, PeerTwice}
 use Rattle.peer_words.specs.Machine.StepOutcome.{Stepped, Refused}
 
 -- the peer at the place that was found

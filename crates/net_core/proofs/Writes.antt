@@ -1,14 +1,13 @@
 -- A peer of a network is read at its place, and written there.
-use Rattle.std.proofs.Common.{◌≡◌, ℕ, zero, suc, ◌<◌, List, [], ◌∷◌, get_or, length, set, Option, Some, None, refl, sym, ap, ◌∙◌, subst}
+use Rattle.std.proofs.Common.{◌≡◌, ℕ, zero, suc, ◌<◌, List, [], ◌∷◌, get_or, length, set, Some, refl, sym, ap, ◌∙◌, subst}
 use Rattle.std.specs.Global.{Vec}
 use Rattle.std.specs.List.{slice_get}
 use Rattle.std.specs.Prelude.{Err, Result}
-use Rattle.ew_model.specs.Edits.{Edit}
 use Rattle.ew_model.specs.Kept.{ReplicaState}
 use Rattle.event_words.specs.declared.net.step.NetStep.{NetStep}
 use Rattle.net_core.specs.declared.fault.NetFault.{NetFault}
 use Rattle.net_core.specs.declared.fault.NetFault.TheVariants as fault
-use Rattle.net_core.specs.Answers.{StepsTo, handed_over, refusal_told, told_bytes}
+use Rattle.net_core.specs.Answers.{StepsTo, refusal_told, told_bytes}
 use Rattle.net_core.specs.Keeping.{IsReached}
 use Rattle.peer_words.specs.Machine.{Network, Peer, Refusal, net_step, peer_of, put_replica}
 use Rattle.peer_words.specs.Machine.Refusal.{NoPeer}

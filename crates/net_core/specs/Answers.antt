@@ -12,8 +12,10 @@ use Rattle.replica.specs.declared.fault.EditFault.{EditFault}
 use Rattle.replica.specs.declared.fault.EditFault.TheVariants as edit
 use Rattle.net_core.specs.declared.fault.NetFault.{NetFault}
 use Rattle.net_core.specs.declared.fault.NetFault.TheVariants as fault
-use Rattle.peer_words.specs.Machine.{Network, Packet, Peer, Refusal, StepOutcome, empty_network, net_step, peer_of, put_replica}
+use Rattle.peer_words.specs.Machine.{Network, Packet, Peer, Refusal, empty_network, net_step, peer_of, put_replica}
 use Rattle.peer_words.specs.Machine.Refusal.{NoPeer, PeerTwice, NoPacket, NoEdit}
+use Rattle.peer_words.specs.Runs.{net_run}
+use Rattle.peer_words.specs.Runs.RunOutcome.{Ran, Broke}
 use Rattle.peer_words.specs.Machine.StepOutcome.{Stepped, Refused}
 
 -- the refusal that a fault tells; none for want of memory

@@ -1,4 +1,4 @@
-use Rattle.std.proofs.Common.{◌≡◌, [], ◌∷◌, ◌++◌, codes, sym, ap, ◌∙◌}
+use Rattle.std.proofs.Common.{[], ◌∷◌, ◌++◌, codes, sym, ap, ◌∙◌}
 use Rattle.std.specs.Prelude.{decimal}
 use Rattle.peer_frames.specs.declared.frame.Frame.{Frame}
 use Rattle.net_core.specs.Bytes.{reply_line}

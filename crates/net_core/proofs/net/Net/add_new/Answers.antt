@@ -1,6 +1,6 @@
-use Rattle.std.proofs.Common.{◌≡◌, [], ◌∷◌, ◌++◌, codes, sym, ap, ◌∙◌, subst}
+use Rattle.std.proofs.Common.{[], ◌∷◌, ◌++◌, sym, ap, ◌∙◌, subst}
 use Rattle.net_core.specs.Keeping.{IsReached}
-use Rattle.peer_words.specs.Machine.{Network, printed_line}
+use Rattle.peer_words.specs.Machine.{Network}
 use Rattle.peer_words.specs.Machine.StepOutcome.{Stepped}
 use Rattle.net_core.proofs.Reaching.{fit, homely, new_peer, one_more_peer, reached}
 use Rattle.net_core.proofs.Steps.{added}

@@ -1,4 +1,4 @@
-use Rattle.std.proofs.Common.{◌≡◌, [], ◌∷◌, codes, if◌then◌else◌, sym, ap, ◌∙◌}
+use Rattle.std.proofs.Common.{[], ◌∷◌, codes, if◌then◌else◌, sym, ap, ◌∙◌}
 use Rattle.peer_words.specs.Machine.{Network, all_agree, printed_line}
 use Rattle.peer_words.specs.Machine.StepOutcome.{Stepped}
 use Rattle.net_core.proofs.Steps.{agree_is}

@@ -1,4 +1,4 @@
-use Rattle.std.proofs.Common.{◌≡◌, [], ◌∷◌, sym, ap, ◌∙◌, codes}
+use Rattle.std.proofs.Common.{[], ◌∷◌, sym, ap, ◌∙◌, codes}
 use Rattle.std.proofs.lemmas.Result.{err_from_is_err_and}
 use Rattle.event_words.specs.declared.net.step.NetStep.TheVariants as step
 use Rattle.peer_words.specs.Machine.{Network, Peer, printed_line, restart_outcome}

@@ -1,4 +1,4 @@
-use Rattle.std.proofs.Common.{◌≡◌, ◌≤◌, drop, length, take, sym, ap, ◌∙◌, subst}
+use Rattle.std.proofs.Common.{◌≤◌, drop, length, take, sym, ◌∙◌, subst}
 use Rattle.std.specs.List.{AllByRecursion}
 use Rattle.ew_model.specs.declared.event.Event.{Event}
 use Rattle.ew_model.specs.Sound.{AreSound, IsSound}
