@@ -9,7 +9,7 @@ use Rattle.ew_model.specs.declared.id.Id.{Id}
 use Rattle.ew_model.specs.Ids.{id_eq}
 use Rattle.ew_model.proofs.IdLaws.{is_same_id}
 use Rattle.agent_ids.specs.declared.runs.IdRun.{IdRun}
-use Rattle.agent_ids.specs.IdRuns.{id_runs, id_with, is_next, ids_in, last_of, IsApart, AreRuns, goes_on, with_more, shortened}
+use Rattle.agent_ids.specs.IdRuns.{id_runs, id_with, last_in, is_next, ids_in, last_of, IsApart, AreRuns, goes_on, with_more, shortened}
 
 -- so many ids of an agent, from a number on
 abbrev pub block : List ℕ → ℕ → ℕ → List Id
@@ -287,3 +287,25 @@ last_gone (y ∷ []) place zero x long e l = sym (ap (λ b. cond b (record { sta
 last_gone (y ∷ []) place (suc at) x long e l = absurd (omega (arith, long))
 last_gone (y ∷ z ∷ runs) place zero x long e l = absurd (omega (arith, long))
 last_gone (y ∷ z ∷ runs) place (suc at) x long e l = ap (λ rs. y ∷ rs) (last_gone (z ∷ runs) place at x (omega (arith, long)) e l)
+
+-- THE LAST ID is that of the last run, and the last run goes on with the next one.
+pub last_of_last : (runs : List IdRun) (end : ℕ) (r : IdRun) → AreRuns 0 runs end → 0 < length runs → slice_get runs (length runs - 1) ≡ Some r → last_in (ids_in runs) ≡ Some (last_of r)
+last_of_last runs end r are some e =
+    let at = length runs - 1 in
+    let all = length_in runs 0 end are in
+    let stop = last_ends runs 0 end at r are (omega (arith, some)) e in
+    let place : length (ids_in runs) - 1 ≡ r.start + r.more = omega (arith, all, stop) in
+    let behind : r.start + r.more - r.start ≡ r.more = omega arith in
+    ap (slice_get (ids_in runs)) place ∙ read_run runs 0 end (r.start + r.more) at (r.start + r.more) r are e (omega arith) (omega arith) (omega arith)
+    ∙ ap (λ k. Some (id_with r.agent (r.seq + k))) behind
+
+pub next_in : (runs : List IdRun) (end : ℕ) (x : Id) → AreRuns 0 runs end → last_in (ids_in runs) ≡ Some x → goes_on runs (id_with x.agent (suc x.seq)) ≡ true
+next_in [] end x are e = let no : ⊥ = cc in absurd no
+next_in (y ∷ runs) end x are e =
+    let at = length runs in
+    let d : IdRun = y in
+    let r = slice_index_or (y ∷ runs) at d in
+    let there : slice_get (y ∷ runs) at ≡ Some r = slice_get-get_or (y ∷ runs) at d (omega arith) in
+    let place : length (y ∷ runs) - 1 ≡ at = omega arith in
+    let one : last_of r ≡ x = same_Some (last_of r) x (sym (last_of_last (y ∷ runs) end r are (omega arith) (ap (slice_get (y ∷ runs)) place ∙ there)) ∙ e) in
+    last_goes_on (y ∷ runs) at r (id_with x.agent (suc x.seq)) refl there ∙ subst (λ (z : Id). is_next (last_of r) (id_with z.agent (suc z.seq)) ≡ true) one (next_of_agent r.agent (r.seq + r.more) (suc (r.seq + r.more)) refl)

@@ -1,5 +1,5 @@
 -- Ids in runs: neighbours of one agent.
-use Rattle.std.specs.Prelude.{◌≡◌, ℕ, suc, ◌+◌, ◌<◌, ◌≤◌, ◌^◌, Bool, false, ◌-◌, nat_lt, List, [], ◌∷◌, ◌++◌, map, if◌then◌else◌, Some, slice_get}
+use Rattle.std.specs.Prelude.{◌≡◌, ℕ, suc, ◌+◌, ◌<◌, ◌≤◌, ◌^◌, Bool, false, ◌-◌, nat_lt, List, [], ◌∷◌, ◌++◌, map, if◌then◌else◌, length, Option, Some, slice_get}
 use Rattle.std.specs.List.{range_with_len}
 use Rattle.ew_model.specs.declared.id.Id.{Id}
 use Rattle.ew_model.specs.Ids.{id_eq}
@@ -8,6 +8,10 @@ use Rattle.agent_ids.specs.declared.runs.IdRun.{IdRun}
 -- the agent's id with this number
 abbrev pub id_with : List ℕ → ℕ → Id
 id_with agent seq = record { agent = agent; seq = seq }
+
+-- the last of the ids, if there is one
+abbrev pub last_in : List Id → Option Id
+last_in ids = slice_get ids (length ids - 1)
 
 -- the second is the next id of the first one's agent
 abbrev pub is_next : Id → Id → Bool

@@ -4,7 +4,7 @@ ghost use Rattle.std.specs.Prelude.{◌≡◌, ◌↔◌, ℕ, suc, ◌+◌, ◌
 ghost use Rattle.std.specs.List.{AllWithin};
 ghost use Rattle.ew_model.specs.declared.id.Id.{Id};
 ghost use Rattle.agent_ids.specs.declared.runs.IdRun.{IdRun};
-ghost use Rattle.agent_ids.specs.IdRuns.{id_runs, id_with, ids_in, AreRuns, goes_on, with_more, shortened, ids_from, IsHeldAt};
+ghost use Rattle.agent_ids.specs.IdRuns.{id_runs, id_with, last_in, ids_in, AreRuns, goes_on, with_more, shortened, ids_from, IsHeldAt};
 
 use ew_model::NoMem;
 use ew_model::id::Id;
@@ -93,6 +93,29 @@ impl IdRuns {
         put(&mut self.runs, self.count, id)?;
         self.count += 1;
         Ok(())
+    }
+
+    /// The last id, if there is one.
+    pub fn last(&self) -> Option<Id>
+        ensures { result ≡ last_in self.now }
+    {
+        let _count = self.count;
+        let run = self.runs.last()?;
+        Some(Id {
+            agent: run.agent,
+            seq: run.seq + run.more,
+        })
+    }
+
+    /// Puts the next id of the last one's agent behind the others.
+    pub fn push_next(&mut self)
+        requires some { 0 < length self.old }
+        requires room { length self.old + 1 < 2 ^ 32 }
+        requires number { (x : Id) → last_in self.old ≡ Some x → x.seq + 1 < 2 ^ 32 }
+        ensures { (x : Id) × (last_in self.old ≡ Some x) × (self.new ≡ self.old ++ id_with x.agent (suc x.seq) ∷ []) }
+    {
+        lengthen_last(&mut self.runs);
+        self.count += 1;
     }
 
     /// Takes out the ids of the last run that stand at a place or behind it, and gives the first of them.

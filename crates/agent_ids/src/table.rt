@@ -1,6 +1,6 @@
 //! The table of ids.
 
-ghost use Rattle.std.specs.Prelude.{◌≡◌, ℕ, suc, ◌+◌, ◌<◌, ◌≤◌, ◌^◌, List, [], ◌∷◌, ◌++◌, length, take, Some, OnOk, OnErr, IsOkAnd, IfSome, IfNone, MatchOption, IsTrue, false, nat_eq, slice_get, position};
+ghost use Rattle.std.specs.Prelude.{◌≡◌, ℕ, suc, ◌+◌, ◌<◌, ◌≤◌, ◌^◌, List, [], ◌∷◌, ◌++◌, length, take, Some, OnOk, OnErr, IsOkAnd, IfOk, IfSome, IfNone, MatchOption, IsTrue, false, nat_eq, slice_get, position};
 ghost use Rattle.std.specs.List.{All};
 ghost use Rattle.std.specs.Cmp.Lexicographic.{pointwise};
 ghost use Rattle.std.specs.Vec.{vec_len};
@@ -8,8 +8,8 @@ ghost use Rattle.indexmap.specs.IndexSet.{contains};
 ghost use Rattle.ew_model.specs.declared.id.Id.{Id};
 ghost use Rattle.ew_model.specs.Ids.{name_eq, id_eq};
 ghost use Rattle.agent_ids.specs.Agents.{agents_of, count_of, AreNumbered};
-ghost use Rattle.agent_ids.specs.IdRuns.{id_runs, ids_from};
-ghost use Rattle.agent_ids.specs.Table.{AreAgents, positions_of};
+ghost use Rattle.agent_ids.specs.IdRuns.{id_runs, id_with, ids_from, last_in};
+ghost use Rattle.agent_ids.specs.Table.{AreAgents, IsNumberOfLast, positions_of};
 
 use crate::positions::PositionRuns;
 use crate::runs::IdRuns;
@@ -28,8 +28,8 @@ pub struct AgentTable {
     names: IndexSet<Name>,
     /// For each agent the positions of its ids.
     positions: Vec<PositionRuns>,
-    /// The number of an agent that had an id lately: most often the next id is that agent's too.
-    lately: usize,
+    /// The number of the last id's agent, where there is an id. Most often the next id is that agent's too.
+    last_agent: usize,
 }
 
 impl Model for AgentTable {
@@ -41,7 +41,7 @@ impl Model for AgentTable {
 
     ghost view = { λ t. t.ids };
 
-    ghost invariant = { λ t. IsTable t.ids t.names.keys t.positions.items };
+    ghost invariant = { λ t. IsTable t.ids t.names.keys t.positions.items t.last_agent };
 }
 
 impl AgentTable {
@@ -53,7 +53,7 @@ impl AgentTable {
             ids: IdRuns::new(alloc),
             names: IndexSet::new(alloc),
             positions: Vec::new(alloc),
-            lately: 0,
+            last_agent: 0,
         })
     }
 
@@ -142,12 +142,12 @@ impl AgentTable {
         match add_position(
             &mut self.names,
             &mut self.positions,
-            self.lately,
+            self.last_agent,
             &id.agent,
             lv,
         ) {
             Ok(number) => {
-                self.lately = number;
+                self.last_agent = number;
                 Ok(())
             }
             Err(fault) => {
@@ -155,6 +155,19 @@ impl AgentTable {
                 Err(fault)
             }
         }
+    }
+
+    /// Puts the next id of the last one's agent behind the others. No names are compared.
+    pub fn append_next(&mut self) -> Result<(), NoMem>
+        requires some { 0 < length self.old }
+        requires room { length self.old + 1 < 2 ^ 32 }
+        ensures ok { OnOk result ((x : Id) × (last_in self.old ≡ Some x) × (self.new ≡ self.old ++ id_with x.agent (suc x.seq) ∷ [])) }
+        ensures err { OnErr result (self.new ≡ self.old) }
+    {
+        let lv = self.ids.len();
+        self.positions[self.last_agent].push(lv)?;
+        self.ids.push_next();
+        Ok(())
     }
 
     /// Leaves the first n ids.
@@ -171,7 +184,7 @@ impl AgentTable {
         ensures value { MatchOption result (positions_of self.now name.now ≡ []) (λ own. own.now ≡ positions_of self.now name.now) }
         ensures numbered { AreNumbered self.now }
     {
-        let number = find_number(&self.names, self.lately, name)?;
+        let number = find_number(&self.names, self.last_agent, name)?;
         Some(&self.positions[number])
     }
 
@@ -182,6 +195,7 @@ impl AgentTable {
     {
         if let Some(first) = self.ids.cut_run(n) {
             remove_positions(&mut self.names, &mut self.positions, &first);
+            self.last_agent = number_of_last(&self.ids, &self.names);
         }
     }
 }
@@ -210,6 +224,17 @@ fn is_at(names: &IndexSet<Name>, place: usize, name: &Name) -> bool
     }
 }
 
+/// The number of the last id's agent, where these are the agents' names. Without an id it is 0.
+fn number_of_last(ids: &IdRuns, names: &IndexSet<Name>) -> usize
+    requires { names.now.keys ≡ agents_of ids.now }
+    ensures { IsNumberOfLast ids.now names.now.keys result }
+{
+    match ids.last() {
+        Some(last) => names.get_index_of(&last.agent).unwrap_or(0),
+        None => 0,
+    }
+}
+
 /// Gives an agent one more position, behind the ones that it has. Its likely number is tried first, and its number is told.
 fn add_position(
     names: &mut IndexSet<Name>,
@@ -222,6 +247,7 @@ fn add_position(
     requires alike { vec_len positions.old ≡ length names.old.keys }
     requires room { All (λ own. length own + 1 < 2 ^ 32) positions.old.items }
     ensures ok { OnOk result ((ids : List Id) (id : Id) → AreAgents ids names.old.keys positions.old.items → length ids ≡ lv → id.agent ≡ name.now → AreAgents (ids ++ id ∷ []) names.new.keys positions.new.items) }
+    ensures number { IfOk result (λ n. slice_get names.new.keys n ≡ Some name.now) }
     ensures same_names { OnErr result (names.new.keys ≡ names.old.keys) }
     ensures same_positions { OnErr result (positions.new.items ≡ positions.old.items) }
 {

@@ -3,6 +3,7 @@ use Rattle.ew_model.specs.declared.id.Id.{Id}
 use Rattle.agent_ids.specs.Agents.{count_of}
 use Rattle.agent_ids.specs.Table.{IsTable}
 use Rattle.agent_ids.proofs.OwnPositions.{kept_alike, own_few}
+use Rattle.agent_ids.proofs.LastIds.{last_behind}
 use Rattle.agent_ids.proofs.Numbers.{numbered_push}
 use Rattle.agent_ids.proofs.table.AgentTable.append.Goals as goal
 
@@ -23,8 +24,9 @@ invariant_of-self-in-Ok c =
     let place : length ids ≡ c.len-lv.result = sym c.len-lv.ensures in
     let next = subst (λ (xs : List Id). c.args.id.seq ≡ count_of xs c.args.id.agent) (sym c.self.view_is) c.requires.next in
     let long = ap (length {A = Id}) c.self.view_is in
-    subst (λ (xs : List Id). IsTable xs c.add_position.new.names.keys c.add_position.new.positions.items) more (record {
+    subst (λ (xs : List Id). IsTable xs c.add_position.new.names.keys c.add_position.new.positions.items c.in-Ok.number) more (record {
       agents = c.in-Ok.ensures.ok ids c.args.id c.self.invariant.agents place refl;
       numbered = numbered_push ids c.args.id c.self.invariant.numbered next;
       few = omega (arith, c.requires.room, long, length-append ids (c.args.id ∷ []));
+      last_is = last_behind ids c.args.id c.add_position.new.names.keys c.in-Ok.number c.in-Ok.ensures.number;
     })
