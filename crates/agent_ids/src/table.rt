@@ -137,6 +137,28 @@ impl AgentTable {
         ensures ok { OnOk result (self.new ≡ self.old ++ id ∷ []) }
         ensures err { OnErr result (self.new ≡ self.old) }
     {
+        if self.has_last_of(&id.agent) {
+            self.append_next()
+        } else {
+            self.append_any(id)
+        }
+    }
+
+    /// Whether there are ids, and the last one is of this agent.
+    fn has_last_of(&self, name: &Name) -> bool
+        ensures last { IsTrue result → (x : Id) × (last_in self.now ≡ Some x) × (x.agent ≡ name.now) }
+        ensures numbered { AreNumbered self.now }
+    {
+        self.ids.len() > 0 && is_at(&self.names, self.last_agent, name)
+    }
+
+    /// Puts one more id behind the others, whosever it is.
+    fn append_any(&mut self, id: Id) -> Result<(), NoMem>
+        requires next { id.seq ≡ count_of self.old id.agent }
+        requires room { length self.old + 1 < 2 ^ 32 }
+        ensures ok { OnOk result (self.new ≡ self.old ++ id ∷ []) }
+        ensures err { OnErr result (self.new ≡ self.old) }
+    {
         let lv = self.ids.len();
         self.ids.push(&id)?;
         match add_position(
