@@ -1,5 +1,5 @@
 -- No row holds for an event that goes on right behind the last one.
-use Rattle.std.proofs.Common.{◌≡◌, ℕ, suc, ◌+◌, ◌-◌, ◌<◌, ◌≤◌, nat_lt, Bool, true, false, not, cond, ◌&&◌, ◌||◌, List, [], ◌∷◌, ◌++◌, find, length, length-append, position, Option, Some, None, option_map, refl, sym, ap, ◌∙◌, subst, arith, nat_cmp, IsSorted}
+use Rattle.std.proofs.Common.{◌≡◌, ℕ, zero, suc, ◌+◌, ◌-◌, ◌<◌, ◌≤◌, ◌^◌, nat_lt, Bool, true, false, not, cond, ◌&&◌, ◌||◌, List, [], ◌∷◌, ◌++◌, find, length, length-append, position, Option, Some, None, option_map, refl, sym, ap, ◌∙◌, subst, arith, nat_cmp, IsSorted}
 use Rattle.std.specs.Prelude.{slice_get}
 use Rattle.std.specs.Bool.{then_some}
 use Rattle.std.specs.List.Sorted.{IsPermutation}
@@ -14,6 +14,7 @@ use Rattle.ew_model.specs.declared.event.Event.{Event}
 use Rattle.ew_model.specs.Ids.{name_eq, id_eq, is_among, ids_ascend}
 use Rattle.ew_model.specs.Ancestors.{ids_of, is_held, is_reduced, ancestors}
 use Rattle.ew_model.specs.Positions.{positions_in}
+use Rattle.ew_model.specs.Sound.{IsSoundId, IsSoundOp, IsSound, AreSound}
 use Rattle.ew_model.specs.Verdicts.{Ruling, id_rows, parent_rows, has_number_below, follows_its_agent, graph_verdict}
 use Rattle.ew_model.specs.Verdicts.Ruling.{SelfParent, TooManyParents, ParentsUnsorted, Unknown, NotReduced, Skipped, Good}
 use Rattle.ew_model.proofs.CoverLaws.{ids_alike, event_of, held_by}
@@ -21,8 +22,8 @@ use Rattle.ew_model.proofs.GoodLaws.{no_parent}
 use Rattle.ew_model.proofs.GraphVersions.{taken_named}
 use Rattle.ew_model.proofs.IdLaws.{is_same_id}
 use Rattle.agent_ids.specs.Agents.{count_of, AreNumbered}
-use Rattle.agent_ids.proofs.Agents.{names_alike, count_push}
-use Rattle.agent_ids.proofs.Numbers.{numbered_next}
+use Rattle.agent_ids.specs.IdRuns.{last_in}
+use Rattle.agent_ids.proofs.LastIds.{last_split, next_number}
 use Rattle.history_words.specs.Chains.{event_behind, next_id, last_id}
 use Rattle.event_graph.specs.Finding.{found_in}
 use Rattle.event_graph.specs.GoingOn.{GoesOn}
@@ -36,6 +37,7 @@ use Rattle.event_graph.proofs.IdRows.{row_of_unheld}
 use Rattle.event_graph.proofs.Numbers.{below_count, numbered_ids}
 use Rattle.event_graph.proofs.Places.{place_of}
 use Rattle.event_graph.proofs.RowLaws.{first_row-alone, row_in-none}
+use Rattle.event_graph.proofs.Soundness.{next_sound}
 
 -- the last event of a history is the one that came behind the others
 pub last_pushed : (history : List Event) (e : Event) → last_id (history ++ e ∷ []) ≡ Some e.id
@@ -45,31 +47,21 @@ last_pushed (f ∷ history) e =
     let place : length (f ∷ (history ++ e ∷ [])) - 1 ≡ suc (length (history ++ e ∷ []) - 1) = omega (arith, long) in
     ap (slice_get (ids_of (f ∷ (history ++ e ∷ [])))) place ∙ last_pushed history e
 
--- the last of some ids stands behind the others
-last_split : (ids : List Id) (x : Id) → slice_get ids (length ids - 1) ≡ Some x → (front : List Id) × (ids ≡ front ++ x ∷ [])
-last_split [] x h = let no : ⊥ = cc in absurd no
-last_split (y ∷ []) x h = let one : y ≡ x = cc in ([], ap (λ z. z ∷ []) one)
-last_split (y ∷ z ∷ ids) x h =
-    let place : length (y ∷ z ∷ ids) - 1 ≡ suc (length (z ∷ ids) - 1) = omega arith in
-    let rest = last_split (z ∷ ids) x (sym (ap (slice_get (y ∷ z ∷ ids)) place) ∙ h) in
-    (y ∷ rest.0, ap (λ xs. y ∷ xs) rest.1)
-
 -- the last of numbered ids is its agent's last
-next_free : (ids front : List Id) (x : Id) → AreNumbered ids → ids ≡ front ++ x ∷ [] → is_among ids (next_id x) ≡ false
-next_free ids front x numbered split =
-    let own : x.seq ≡ count_of front x.agent = numbered_next front x [] (subst AreNumbered split numbered) in
-    let all : count_of ids x.agent ≡ count_of front x.agent + 1 =
-    ap (λ xs. count_of xs x.agent) split ∙ count_push front x x.agent ∙ ap (λ b. count_of front x.agent + cond b 1 0) (names_alike.refl x.agent) in
-    false_from_ne_true (is_among ids (next_id x)) (λ q. let less : suc x.seq < count_of ids x.agent = below_count ids (next_id x) numbered q in omega (arith, own, all, less))
+next_free : (ids : List Id) (x : Id) → AreNumbered ids → last_in ids ≡ Some x → is_among ids (next_id x) ≡ false
+next_free ids x numbered last =
+    let own : suc x.seq ≡ count_of ids x.agent = next_number ids x numbered last in
+    false_from_ne_true (is_among ids (next_id x)) (λ q. let less : suc x.seq < count_of ids x.agent = below_count ids (next_id x) numbered q in omega (arith, own, less))
 
 module _ (history : List Event) (admitted : IsAdmitted history) (x : Id) (last : last_id history ≡ Some x) where
+  last_of_ids : last_in (ids_of history) ≡ Some x
+  last_of_ids = ap (λ n. slice_get (ids_of history) (n - 1)) (length-map history (λ (e : Event). e.id)) ∙ last
+
   split : (front : List Id) × (ids_of history ≡ front ++ x ∷ [])
-  split =
-      let few : length history ≡ length (ids_of history) = sym (length-map history (λ (e : Event). e.id)) in
-      last_split (ids_of history) x (ap (λ n. slice_get (ids_of history) (n - 1)) (sym few) ∙ last)
+  split = last_split (ids_of history) x last_of_ids
 
   next_unheld : is_held history (next_id x) ≡ false
-  next_unheld = next_free (ids_of history) split.0 x (numbered_ids history admitted) split.1
+  next_unheld = next_free (ids_of history) x (numbered_ids history admitted) last_of_ids
 
   last_held : is_held history x ≡ true
   last_held = ap (λ ids. is_among ids x) split.1 ∙ at split.0
@@ -153,8 +145,17 @@ module _ (history : List Event) (admitted : IsAdmitted history) (x : Id) (last :
   -- its number is at most how many events there are
   pub next_few : suc x.seq ≤ length history
   next_few =
-      let parts = split history admitted x last in
-      let own : x.seq ≡ count_of parts.0 x.agent = numbered_next parts.0 x [] (subst AreNumbered parts.1 (numbered_ids history admitted)) in
-      let few = count_by-le-length (λ (y : Id). name_eq y.agent x.agent) parts.0 in
-      let all = ap (length {A = Id}) parts.1 in
-      omega (arith, own, few, all, length-append parts.0 (x ∷ []), length-map history (λ (e : Event). e.id))
+      let own : suc x.seq ≡ count_of (ids_of history) x.agent = next_number (ids_of history) x (numbered_ids history admitted) (last_of_ids history admitted x last) in
+      let few = count_by-le-length (λ (y : Id). name_eq y.agent x.agent) (ids_of history) in
+      omega (arith, own, few, length-map history (λ (e : Event). e.id))
+
+  -- the event is sound where its operation is
+  pub sound_behind : (op : Op) → AreSound history → length history + 1 < 2 ^ 32 → IsSoundOp op → IsSound (event_behind x op)
+  sound_behind op sound few fits =
+      let number = next_few in
+      next_sound history (event_behind x op) sound (good_behind op) (record { agent = (id_sound history (length history - 1) sound last).agent; seq = omega (arith, number, few) }) fits
+    where
+      id_sound : (events : List Event) (place : ℕ) → AreSound events → slice_get (ids_of events) place ≡ Some x → IsSoundId x
+      id_sound [] place all there = let no : ⊥ = cc in absurd no
+      id_sound (e ∷ events) zero all there = let one : e.id ≡ x = cc in subst IsSoundId one all.0.id
+      id_sound (e ∷ events) (suc place) all there = id_sound events place all.1 there

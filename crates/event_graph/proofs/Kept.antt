@@ -1,6 +1,7 @@
 -- What is known where a graph is kept.
-use Rattle.std.proofs.Common.{◌≡◌, ℕ, zero, suc, ◌<◌, List, [], ◌∷◌, map, length, Some, refl, sym, ap, ◌∙◌, subst, arith, All}
+use Rattle.std.proofs.Common.{◌≡◌, ℕ, zero, suc, ◌-◌, ◌<◌, List, [], ◌∷◌, map, length, Some, refl, sym, ap, ◌∙◌, subst, arith, All}
 use Rattle.std.specs.Prelude.{slice_get, slice_index_or}
+use Rattle.ew_model.specs.Ancestors.{ids_of}
 use Rattle.ew_model.specs.Ids.{id_cmp, id_eq}
 use Rattle.ew_model.specs.Verdicts.{graph_verdict}
 use Rattle.ew_model.specs.Verdicts.Ruling.{Good}
@@ -17,6 +18,8 @@ use Rattle.ew_model.specs.declared.id.Id.{Id}
 use Rattle.ew_model.specs.declared.event.Event.{Event}
 use Rattle.ew_model.specs.Positions.{positions_in, parent_positions}
 use Rattle.ew_model.specs.PositionLaws.{AgreesByPositions}
+use Rattle.agent_ids.specs.IdRuns.{last_in}
+use Rattle.history_words.specs.Chains.{last_id}
 use Rattle.critical.specs.KeptCuts.{KeptCuts}
 use Rattle.event_runs.specs.BareEvents.{BareEvent, bare, ops_in, parents_in}
 use Rattle.event_graph.specs.Keeping.{IsKeptOf}
@@ -29,6 +32,9 @@ module _ (now : List Event) (ids : List Id) (events : List BareEvent) (heads : L
 
   pub length_ids : length ids ≡ length now
   length_ids = ap (length {A = Id}) kept.ids_are ∙ length-map now (λ (e : Event). e.id)
+
+  pub last_kept : (x : Id) → last_in ids ≡ Some x → last_id now ≡ Some x
+  last_kept x last = ap (λ n. slice_get (ids_of now) (n - 1)) (sym (length-map now (λ (e : Event). e.id))) ∙ ap last_in (sym kept.ids_are) ∙ last
 
   pub length_events : length events ≡ length now
   length_events = ap (length {A = BareEvent}) kept.events_are ∙ length-map now (λ (e : Event). bare e.op (positions_in now e.parents))

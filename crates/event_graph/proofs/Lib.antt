@@ -8,6 +8,7 @@ pub mod Rebuilt
 pub mod Grown
 pub mod Numbers
 pub mod OneHead
+pub mod OnHeads
 pub mod IdRows
 pub mod Lists
 pub mod Counted

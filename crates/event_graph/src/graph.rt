@@ -1,6 +1,6 @@
 //! The graph.
 
-ghost use Rattle.std.specs.Prelude.{◌≡◌, ◌≢◌, ℕ, ◌+◌, ◌<◌, ◌≤◌, ◌^◌, List, [], ◌∷◌, ◌++◌, map, length, true, Some, slice_get, position, find, not, option_map, IfOk, IfSome, IsOkAnd, OnOk, OnErr};
+ghost use Rattle.std.specs.Prelude.{◌≡◌, ◌≢◌, ℕ, ◌+◌, ◌-◌, ◌<◌, ◌≤◌, ◌^◌, List, [], ◌∷◌, ◌++◌, map, length, true, Some, slice_get, position, find, not, option_map, IfOk, IfSome, IsOkAnd, OnOk, OnErr};
 ghost use Rattle.std.specs.List.{All};
 ghost use Rattle.std.specs.Option.{option_copied};
 ghost use Rattle.ew_model.specs.declared.id.Id.{Id};
@@ -16,6 +16,7 @@ ghost use Rattle.ew_model.specs.Verdicts.Ruling.{Good};
 ghost use Rattle.frontier.specs.Chains.{IsChain};
 ghost use Rattle.ancestors.specs.Floors.{HasAllBelow};
 ghost use Rattle.ancestors.specs.Spans as spans;
+ghost use Rattle.history_words.specs.Chains.{event_behind, last_id};
 ghost use Rattle.event_graph.specs.Keeping.{IsAdmitted};
 ghost use Rattle.event_graph.specs.Finding.{found_in};
 ghost use Rattle.event_graph.specs.Joining.{IsGoodBehind, event_on};
@@ -24,7 +25,7 @@ ghost use Rattle.event_graph.specs.Summary.{summary_of};
 
 use crate::ids::{agents, ascend, counts, ids_at, is_among};
 use crate::near::Near;
-use crate::parts::{append, append_apart, only_head};
+use crate::parts::{append, append_apart, append_next, only_head};
 use agent_ids::AgentTable;
 use ancestors::{Spans, contains, diff, is_reduced};
 use critical::Cuts;
@@ -457,6 +458,29 @@ impl Graph {
         Ok(())
     }
 
+    /// Puts an event behind the others that goes on from the last one, where that is the only head. No id is made.
+    pub(crate) fn put_on_last(&mut self, op: Op) -> Result<(), NoMem>
+        requires some { 0 < length self.old }
+        requires room { length self.old + 1 < 2 ^ 32 }
+        requires head { positions_in self.old (model.heads self.old) ≡ (length self.old - 1) ∷ [] }
+        ensures ok { OnOk result ((x : Id) × (last_id self.old ≡ Some x) × (self.new ≡ self.old ++ event_behind x op ∷ [])) }
+        ensures err { OnErr result (self.new ≡ self.old) }
+    {
+        op_fits(&op);
+        let count = self.events.count();
+        let heads = only_head(self.alloc, count)?;
+        append_next(
+            &mut self.ids,
+            &mut self.events,
+            &mut self.cuts,
+            &self.heads,
+            op,
+            &[count - 1],
+        )?;
+        self.heads = heads;
+        Ok(())
+    }
+
     /// Each agent with how many events it has, which is at least 1, ascending by name.
     pub fn summary(&self) -> Result<Vec<(Name, u32)>, NoMem>
         ensures value { IfOk result (λ v. v.items ≡ summary_of self.now) }
@@ -475,6 +499,13 @@ fn fits(id: &Id, op: &Op)
 {
     let _agent = id.agent.as_slice();
     let _number = id.seq;
+    op_fits(op);
+}
+
+/// An operation is in the range of its type.
+fn op_fits(op: &Op)
+    ensures { IsSoundOp op.now }
+{
     match *op {
         Op::Ins { at, ch } => {
             let _index = at;

@@ -55,6 +55,9 @@ impl Graph {
         ensures err { OnErr result (self.new ≡ self.old) }
     {
         let lv = self.count() - 1;
+        if self.frontier().equals(&[lv]) {
+            return self.put_on_last(op);
+        }
         let last = self.id_from_end(lv);
         let next = Id {
             agent: last.agent,

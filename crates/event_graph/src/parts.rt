@@ -1,11 +1,14 @@
 //! The parts of a graph, changed together.
 
-ghost use Rattle.std.specs.Prelude.{◌≡◌, ◌+◌, ◌<◌, ◌^◌, List, ℕ, [], ◌∷◌, ◌++◌, length, true, IfOk, OnOk, OnErr};
+ghost use Rattle.std.specs.Prelude.{◌≡◌, ◌+◌, ◌<◌, ◌^◌, List, ℕ, [], ◌∷◌, ◌++◌, length, true, Some, IfOk, OnOk, OnErr};
 ghost use Rattle.std.specs.List.{All};
+ghost use Rattle.ew_model.specs.declared.id.Id.{Id};
 ghost use Rattle.ew_model.specs.Positions.{AreParents, IsHistoryOfParents, frontier_of, is_reduced_at};
 ghost use Rattle.agent_ids.specs.Agents.{count_of};
+ghost use Rattle.agent_ids.specs.IdRuns.{last_in};
 ghost use Rattle.critical.specs.KeptCuts.{kept_for};
 ghost use Rattle.event_runs.specs.BareEvents.{bare};
+ghost use Rattle.history_words.specs.Chains.{next_id};
 
 use agent_ids::AgentTable;
 use critical::Cuts;
@@ -49,6 +52,36 @@ pub fn append(
 {
     let count = runs.count();
     ids.append(id)?;
+    if let Err(fault) = append_bare(runs, cuts, heads, op, parents) {
+        ids.truncate(count);
+        return Err(fault);
+    }
+    Ok(())
+}
+
+/// The same with the next id of the last one's agent, which isn't made.
+pub fn append_next(
+    ids: &mut AgentTable,
+    runs: &mut EventRuns,
+    cuts: &mut Cuts,
+    heads: &Frontier,
+    op: Op,
+    parents: &[u32],
+) -> Result<(), NoMem>
+    requires some { 0 < length ids.old }
+    requires alike { length ids.old ≡ length runs.old }
+    requires cut_count { cuts.old.count ≡ length runs.old }
+    requires parents { AreParents (length runs.old) parents.now }
+    requires room { length runs.old + 1 < 2 ^ 32 }
+    ensures ids { OnOk result ((x : Id) × (last_in ids.old ≡ Some x) × (ids.new ≡ ids.old ++ next_id x ∷ [])) }
+    ensures runs { OnOk result (runs.new ≡ runs.old ++ bare op parents.now ∷ []) }
+    ensures cuts { OnOk result ((history : List (List ℕ)) → IsHistoryOfParents history → cuts.old ≡ kept_for history → heads.now ≡ frontier_of history → is_reduced_at history parents.now ≡ true → cuts.new ≡ kept_for (history ++ parents.now ∷ [])) }
+    ensures same_ids { OnErr result (ids.new ≡ ids.old) }
+    ensures same_runs { OnErr result (runs.new ≡ runs.old) }
+    ensures same_cuts { OnErr result (cuts.new ≡ cuts.old) }
+{
+    let count = runs.count();
+    ids.append_next()?;
     if let Err(fault) = append_bare(runs, cuts, heads, op, parents) {
         ids.truncate(count);
         return Err(fault);

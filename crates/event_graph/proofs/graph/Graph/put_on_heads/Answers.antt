@@ -1,16 +1,14 @@
-use Rattle.std.proofs.Common.{◌≡◌, ◌∙◌, ◌∷◌, ◌++◌, [], true, List, ℕ, length, sym, ap, subst}
+use Rattle.std.proofs.Common.{◌≡◌, ◌∙◌, ◌∷◌, ◌++◌, [], List, length, sym, ap, subst}
 use Rattle.ew_model.specs.declared.id.Id.{Id}
 use Rattle.ew_model.specs.declared.event.Event.{Event}
-use Rattle.ew_model.specs.Positions.{AreParents, frontier_of, is_reduced_at, positions_in, parent_positions}
+use Rattle.ew_model.specs.Positions.{AreParents, positions_in}
 use Rattle.agent_ids.specs.Agents.{count_of}
-use Rattle.critical.specs.KeptCuts.{kept_for}
-use Rattle.event_runs.specs.BareEvents.{bare}
 use Rattle.event_graph.specs.Joining.{IsGoodBehind, event_on}
 use Rattle.event_graph.specs.Keeping.{IsKeptOf}
 use Rattle.event_graph.proofs.Admitted.{let_in}
-use Rattle.event_graph.proofs.Grown.{grown, told}
-use Rattle.event_graph.proofs.OneHead.{one_head}
-use Rattle.event_graph.proofs.Kept.{agreement, length_events, length_parents, next_parents}
+use Rattle.event_graph.proofs.Grown.{told}
+use Rattle.event_graph.proofs.OnHeads.{kept_on_heads}
+use Rattle.event_graph.proofs.Kept.{length_events, next_parents}
 use Rattle.event_graph.proofs.Numbers.{number_next, numbered_ids}
 use Rattle.event_graph.proofs.graph.Graph.put_on_heads.Goals as goal
 
@@ -39,24 +37,11 @@ append-requires-clause-parents c =
 whole : (c : goal.Joined-self-heads) (parents : List Id) → IsGoodBehind c.args.self.now c.args.positions.now (event_on c.args.id c.args.op parents) → IsKeptOf (c.args.self.now ++ event_on c.args.id c.args.op parents ∷ []) c.append.new.ids c.append.new.runs c.in_ok-heads.heads c.append.new.cuts
 whole c parents next =
     let now = c.args.self.now in
-    let e = event_on c.args.id c.args.op parents in
     let inside = c.self.inside in
     let kept : IsKeptOf now inside.ids inside.events inside.heads inside.cuts = subst (λ (h : List Event). IsKeptOf h inside.ids inside.events inside.heads inside.cuts) c.self.view_is c.self.invariant in
-    let agree = agreement now inside.ids inside.events inside.heads inside.cuts kept in
-    let places = parent_positions now in
-    let placed : c.args.positions.now ≡ positions_in now e.parents = next.placed in
-    let count : c.count.result ≡ length places =
-    c.count.ensures.count ∙ length_events now inside.ids inside.events inside.heads inside.cuts kept ∙ sym (length_parents now inside.ids inside.events inside.heads inside.cuts kept) in
-    let lower : AreParents c.count.result c.args.positions.now =
-    subst (AreParents c.count.result) (sym placed)
-    (subst (λ n. AreParents n (positions_in now e.parents)) (sym (count ∙ length_parents now inside.ids inside.events inside.heads inside.cuts kept)) (next_parents now e kept.admitted next.good)) in
-    let reduced : is_reduced_at places c.args.positions.now ≡ true = ap (is_reduced_at places) placed ∙ agree.reduced e.parents ∙ (let_in now e next.good).reduced in
-    let all : frontier_of places ≡ positions_in now e.parents = agree.heads ∙ sym c.requires.heads ∙ placed in
-    grown now e c.append.new.ids c.append.new.runs c.in_ok-heads.heads c.append.new.cuts kept.admitted kept.sound next.good (c.requires.sound parents next)
-    (c.in_ok-append.ensures.ids ∙ ap (λ (ids : List Id). ids ++ e.id ∷ []) kept.ids_are)
-    (c.in_ok-append.ensures.runs ∙ (λ i. kept.events_are i ++ bare e.op (placed i) ∷ []))
-    (c.in_ok-heads.ensures ∙ ap (λ n. n ∷ []) count ∙ sym (one_head places (positions_in now e.parents) agree.parents (subst (λ n. AreParents n (positions_in now e.parents)) count (subst (AreParents c.count.result) placed lower)) all))
-    (c.in_ok-append.ensures.cuts places agree.parents kept.cuts_are kept.heads_are reduced ∙ ap (λ (ps : List ℕ). kept_for (places ++ ps ∷ [])) placed)
+    let count : c.count.result ≡ length now = c.count.ensures.count ∙ length_events now inside.ids inside.events inside.heads inside.cuts kept in
+    kept_on_heads now inside.ids inside.events inside.heads inside.cuts kept (event_on c.args.id c.args.op parents) c.args.positions.now next (c.requires.sound parents next) c.requires.heads
+    c.append.new.ids c.append.new.runs c.in_ok-heads.heads c.append.new.cuts c.in_ok-append.ensures.ids c.in_ok-append.ensures.runs (c.in_ok-heads.ensures ∙ ap (λ n. n ∷ []) count) c.in_ok-append.ensures.cuts
 
 pub invariant_of-self-2 : goal.invariant_of-self-2
 invariant_of-self-2 c =
