@@ -1,6 +1,6 @@
 //! The list of the critical cuts.
 
-ghost use Rattle.std.specs.Prelude.{◌≡◌, ◌≢◌, ℕ, suc, ◌+◌, ◌<◌, ◌≤◌, ◌^◌, Bool, true, List, [], ◌∷◌, ◌++◌, filter, take, length, nat_lt, IfOk, IsOkAnd, OnOk, OnErr};
+ghost use Rattle.std.specs.Prelude.{◌≡◌, ◌≢◌, ℕ, suc, ◌+◌, ◌-◌, ◌<◌, ◌≤◌, ◌^◌, Bool, true, List, [], ◌∷◌, ◌++◌, filter, take, length, nat_lt, IfOk, IsOkAnd, OnOk, OnErr};
 ghost use Rattle.ew_model.specs.Sets.{Among};
 ghost use Rattle.ew_model.specs.CutChange.{stays_behind};
 ghost use Rattle.ew_model.specs.Positions.{AreParents, IsHistoryOfParents, frontier_of, is_reduced_at, is_cut_at, latest_cut_at, cuts_at};
@@ -71,6 +71,20 @@ impl Cuts {
             self.stop_cuts(parents);
             Ok(())
         }
+    }
+
+    /// Takes in one more event, whose one parent is the last event so far, and that is the only head.
+    pub fn push_on_last(&mut self) -> Result<(), NoMem>
+        requires some { 0 < self.old.count }
+        requires room { self.old.count + 1 < 2 ^ 32 }
+
+        // Where these were the cuts of a history, they are those of the history with the event.
+        ensures ok { OnOk result ((history : List (List ℕ)) → IsHistoryOfParents history → self.old ≡ kept_for history → frontier_of history ≡ (self.old.count - 1) ∷ [] → is_reduced_at history ((self.old.count - 1) ∷ []) ≡ true → self.new ≡ kept_for (history ++ ((self.old.count - 1) ∷ []) ∷ [])) }
+        ensures count { OnOk result (self.new.count ≡ self.old.count + 1) }
+        ensures err { OnErr result (self.new ≡ self.old) }
+    {
+        let last = self.count - 1;
+        self.keep_whole(&[last])
     }
 
     /// Takes in one more event, whose parents aren't the frontier of the events so far. It takes no memory.

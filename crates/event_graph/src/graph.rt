@@ -25,7 +25,7 @@ ghost use Rattle.event_graph.specs.Summary.{summary_of};
 
 use crate::ids::{agents, ascend, counts, ids_at, is_among};
 use crate::near::Near;
-use crate::parts::{append, append_apart, append_next, only_head};
+use crate::parts::{append, append_apart, append_on_last, only_head};
 use agent_ids::AgentTable;
 use ancestors::{Spans, contains, diff, is_reduced};
 use critical::Cuts;
@@ -467,16 +467,8 @@ impl Graph {
         ensures err { OnErr result (self.new ≡ self.old) }
     {
         op_fits(&op);
-        let count = self.events.count();
-        let heads = only_head(self.alloc, count)?;
-        append_next(
-            &mut self.ids,
-            &mut self.events,
-            &mut self.cuts,
-            &self.heads,
-            op,
-            &[count - 1],
-        )?;
+        let heads = only_head(self.alloc, self.events.count())?;
+        append_on_last(&mut self.ids, &mut self.events, &mut self.cuts, op)?;
         self.heads = heads;
         Ok(())
     }

@@ -55,7 +55,7 @@ impl Graph {
         ensures err { OnErr result (self.new ≡ self.old) }
     {
         let lv = self.count() - 1;
-        if self.frontier().equals(&[lv]) {
+        if is_only_place(self.frontier().as_slice(), lv) {
             return self.put_on_last(op);
         }
         let last = self.id_from_end(lv);
@@ -80,4 +80,11 @@ fn is_only(ids: &[Id], x: &Id) -> bool
     ensures { IsTrue result ↔ (ids.now ≡ x.now ∷ []) }
 {
     ids.len() == 1 && ids[0].is(x)
+}
+
+/// Whether the position is the only one of these.
+fn is_only_place(positions: &[u32], lv: u32) -> bool
+    ensures { IsTrue result ↔ (positions.now ≡ lv ∷ []) }
+{
+    positions.len() == 1 && positions[0] == lv
 }

@@ -1,6 +1,6 @@
 //! The parts of a graph, changed together.
 
-ghost use Rattle.std.specs.Prelude.{◌≡◌, ◌+◌, ◌<◌, ◌^◌, List, ℕ, [], ◌∷◌, ◌++◌, length, true, Some, IfOk, OnOk, OnErr};
+ghost use Rattle.std.specs.Prelude.{◌≡◌, ◌+◌, ◌-◌, ◌<◌, ◌^◌, List, ℕ, [], ◌∷◌, ◌++◌, length, true, Some, IfOk, OnOk, OnErr};
 ghost use Rattle.std.specs.List.{All};
 ghost use Rattle.ew_model.specs.declared.id.Id.{Id};
 ghost use Rattle.ew_model.specs.Positions.{AreParents, IsHistoryOfParents, frontier_of, is_reduced_at};
@@ -59,36 +59,6 @@ pub fn append(
     Ok(())
 }
 
-/// The same with the next id of the last one's agent, which isn't made.
-pub fn append_next(
-    ids: &mut AgentTable,
-    runs: &mut EventRuns,
-    cuts: &mut Cuts,
-    heads: &Frontier,
-    op: Op,
-    parents: &[u32],
-) -> Result<(), NoMem>
-    requires some { 0 < length ids.old }
-    requires alike { length ids.old ≡ length runs.old }
-    requires cut_count { cuts.old.count ≡ length runs.old }
-    requires parents { AreParents (length runs.old) parents.now }
-    requires room { length runs.old + 1 < 2 ^ 32 }
-    ensures ids { OnOk result ((x : Id) × (last_in ids.old ≡ Some x) × (ids.new ≡ ids.old ++ next_id x ∷ [])) }
-    ensures runs { OnOk result (runs.new ≡ runs.old ++ bare op parents.now ∷ []) }
-    ensures cuts { OnOk result ((history : List (List ℕ)) → IsHistoryOfParents history → cuts.old ≡ kept_for history → heads.now ≡ frontier_of history → is_reduced_at history parents.now ≡ true → cuts.new ≡ kept_for (history ++ parents.now ∷ [])) }
-    ensures same_ids { OnErr result (ids.new ≡ ids.old) }
-    ensures same_runs { OnErr result (runs.new ≡ runs.old) }
-    ensures same_cuts { OnErr result (cuts.new ≡ cuts.old) }
-{
-    let count = runs.count();
-    ids.append_next()?;
-    if let Err(fault) = append_bare(runs, cuts, heads, op, parents) {
-        ids.truncate(count);
-        return Err(fault);
-    }
-    Ok(())
-}
-
 /// The same for the parts that don't know ids.
 fn append_bare(
     runs: &mut EventRuns,
@@ -108,6 +78,53 @@ fn append_bare(
     let count = runs.count();
     runs.append(op, parents)?;
     if let Err(fault) = cuts.push(parents, heads) {
+        runs.truncate(count);
+        return Err(fault);
+    }
+    Ok(())
+}
+
+/// Puts an event behind the others that goes on from the last one, which is the only head, in each of the parts or in none. Its id
+/// isn't made.
+pub fn append_on_last(
+    ids: &mut AgentTable,
+    runs: &mut EventRuns,
+    cuts: &mut Cuts,
+    op: Op,
+) -> Result<(), NoMem>
+    requires some { 0 < length ids.old }
+    requires alike { length ids.old ≡ length runs.old }
+    requires cut_count { cuts.old.count ≡ length runs.old }
+    requires room { length runs.old + 1 < 2 ^ 32 }
+    ensures ids { OnOk result ((x : Id) × (last_in ids.old ≡ Some x) × (ids.new ≡ ids.old ++ next_id x ∷ [])) }
+    ensures runs { OnOk result (runs.new ≡ runs.old ++ bare op ((length runs.old - 1) ∷ []) ∷ []) }
+    ensures cuts { OnOk result ((history : List (List ℕ)) → IsHistoryOfParents history → cuts.old ≡ kept_for history → frontier_of history ≡ (length runs.old - 1) ∷ [] → is_reduced_at history ((length runs.old - 1) ∷ []) ≡ true → cuts.new ≡ kept_for (history ++ ((length runs.old - 1) ∷ []) ∷ [])) }
+    ensures same_ids { OnErr result (ids.new ≡ ids.old) }
+    ensures same_runs { OnErr result (runs.new ≡ runs.old) }
+    ensures same_cuts { OnErr result (cuts.new ≡ cuts.old) }
+{
+    let count = runs.count();
+    ids.append_next()?;
+    if let Err(fault) = append_bare_on_last(runs, cuts, op) {
+        ids.truncate(count);
+        return Err(fault);
+    }
+    Ok(())
+}
+
+/// The same for the parts that don't know ids.
+fn append_bare_on_last(runs: &mut EventRuns, cuts: &mut Cuts, op: Op) -> Result<(), NoMem>
+    requires some { 0 < length runs.old }
+    requires cut_count { cuts.old.count ≡ length runs.old }
+    requires room { length runs.old + 1 < 2 ^ 32 }
+    ensures runs { OnOk result (runs.new ≡ runs.old ++ bare op ((length runs.old - 1) ∷ []) ∷ []) }
+    ensures cuts { OnOk result ((history : List (List ℕ)) → IsHistoryOfParents history → cuts.old ≡ kept_for history → frontier_of history ≡ (length runs.old - 1) ∷ [] → is_reduced_at history ((length runs.old - 1) ∷ []) ≡ true → cuts.new ≡ kept_for (history ++ ((length runs.old - 1) ∷ []) ∷ [])) }
+    ensures same_runs { OnErr result (runs.new ≡ runs.old) }
+    ensures same_cuts { OnErr result (cuts.new ≡ cuts.old) }
+{
+    let count = runs.count();
+    runs.append(op, &[count - 1])?;
+    if let Err(fault) = cuts.push_on_last() {
         runs.truncate(count);
         return Err(fault);
     }
