@@ -7,16 +7,14 @@ use Rattle.std.proofs.lemmas.Cmp.{nat_list_cmp_total}
 use Rattle.std.proofs.lemmas.List.{length-append}
 use Rattle.std.proofs.lemmas.List.Concat.{flat_map-append}
 use Rattle.ew_model.specs.declared.event.Event.{Event}
-use Rattle.ew_model.specs.ArrivalLaw.{OneEach}
 use Rattle.ew_model.specs.File.{file_of}
 use Rattle.ew_model.specs.Limits.{LimitNumbers, AreLimits, most_file_bytes}
-use Rattle.ew_model.specs.Sets.{Among}
 use Rattle.ew_model.specs.Sound.{IsSound, AreSound}
 use Rattle.ew_model.specs.Verdicts.{IsGood, IsGoodAfter}
 use Rattle.ew_model.proofs.EntryLaws.{all_joined}
 use Rattle.ew_model.proofs.FirstBadLaws.{good_has_no_bad}
 use Rattle.ew_model.proofs.IdLaws.{names_equal}
-use Rattle.ew_model.proofs.SetLaws.{among_joined, among_filter, joined_left, joined_right}
+use Rattle.ew_model.proofs.SetLaws.{among_joined, among_filter}
 use Rattle.ew_model.proofs.SortingLaws.{all_at, all_filter, all_from}
 use Rattle.ew_model.proofs.WritableLaws.{good_is_writable}
 use Rattle.ew_outside.specs.Files.{Files}

@@ -16,8 +16,9 @@ ghost use Rattle.ew_model.specs.Verdicts.Ruling.{Good};
 ghost use Rattle.frontier.specs.Chains.{IsChain};
 ghost use Rattle.ancestors.specs.Floors.{HasAllBelow};
 ghost use Rattle.ancestors.specs.Spans as spans;
+ghost use Rattle.event_runs.specs.Runs.{IsRunStart};
 ghost use Rattle.history_words.specs.Chains.{event_behind, last_id};
-ghost use Rattle.event_graph.specs.Keeping.{IsAdmitted};
+ghost use Rattle.event_graph.specs.Keeping.{IsAdmitted, bare_events};
 ghost use Rattle.event_graph.specs.Finding.{found_in};
 ghost use Rattle.event_graph.specs.Joining.{IsGoodBehind, event_on};
 ghost use Rattle.event_graph.specs.Rows.{row_in};
@@ -184,11 +185,12 @@ impl Graph {
         self.events.op_near(lv, &mut near.event)
     }
 
-    /// Where a chain to the event at a position begins, in which each event has the one before it as its only parent. It is sought
-    /// first where the last event was found.
+    /// Where the run of the event at a position begins: each event of it but the first has the one before it as its only parent. It
+    /// is sought first where the last event was found.
     pub fn chain_start_near(&self, lv: u32, near: &mut Near) -> u32
         requires { lv < length self.now }
-        ensures { IsChain (parent_positions self.now) result lv }
+        ensures chain { IsChain (parent_positions self.now) result lv }
+        ensures start { IsRunStart (bare_events self.now) lv result }
     {
         self.events.chain_start_near(lv, &mut near.event)
     }

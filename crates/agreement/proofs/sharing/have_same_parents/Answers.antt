@@ -7,8 +7,8 @@ pub returns-then-chain_start_near-other : goal.returns-then-chain_start_near-oth
 returns-then-chain_start_near-other c =
     let a = c.args.a.now in
     let b = c.args.b.now in
-    let ours = before_it a c.args.one c.chain_start_near.result c.chain_start_near.ensures c.if-chain_start_near-one.true in
-    let theirs = before_it b c.args.other c.chain_start_near-then-chain_start_near-one.result c.chain_start_near-then-chain_start_near-one.ensures c.if-chain_start_near-other.true in (
+    let ours = before_it a c.args.one c.chain_start_near.result c.chain_start_near.ensures.chain c.if-chain_start_near-one.true in
+    let theirs = before_it b c.args.other c.chain_start_near-then-chain_start_near-one.result c.chain_start_near-then-chain_start_near-one.ensures.chain c.if-chain_start_near-other.true in (
       (λ t e f here there.
           ids_of_only a c.args.one e c.id_near-ours.result c.requires.admitted_a here ours c.id_near-ours.ensures
           ∙ (ap (λ (x : Id). x ∷ []) (c.is.ensures.same.0 t)

@@ -27,7 +27,7 @@ returns-then-chain_start_near-lv c e at =
     let low = c.if-chain_start_near-lv.true in
     let next : suc (lv - 1) ≡ lv = omega (arith, low) in
     let told : (lv - 1) ∷ [] ≡ parents_at (parent_positions history) lv =
-    sym (c.chain_start_near.ensures.links (lv - 1) (omega (arith, low)) (omega (arith, low))) ∙ ap (parents_at (parent_positions history)) next in
+    sym (c.chain_start_near.ensures.chain.links (lv - 1) (omega (arith, low)) (omega (arith, low))) ∙ ap (parents_at (parent_positions history)) next in
     let lower : All (λ p. p < lv) ((lv - 1) ∷ []) = All-cons (λ p. p < lv) (lv - 1) [] (omega (arith, low)) (All-nil (λ p. p < lv)) in
     let same = one_place history lv e ((lv - 1) ∷ []) c.requires.writable c.count-count.ensures.admitted at told lower (omega arith) in
     c.in_ok-push.ensures.items ∙ (ap (λ xs. xs ++ (lv - 1) ∷ []) c.clear.ensures.items ∙ same)
