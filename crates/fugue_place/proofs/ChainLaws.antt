@@ -95,6 +95,15 @@ module _ (n : ℕ) (outer inner : ℕ → Option ℕ) (number end : ℕ → ℕ)
     pub outer_stays : (new : ℕ → ℕ) → IsOuterRenumbered n outer number new at → new at ≡ number at
     outer_stays new renumbered = ⊎_elim (λ kept. kept) (λ moved. let no : at < at = moved.2 in absurd (omega arith)) (renumbered.each at low)
 
+    -- where nothing follows `at`, there is none to renumber
+    pub none_renumbered : outer at ≡ None → IsOuterRenumbered n outer number number at
+    none_renumbered last = record {
+      steps = λ k j lt e apart. (chains.step k j lt e).number;
+      each = λ k lt. inl refl;
+      end = λ k lt e one apart. absurd (apart (sym (chains.ends k lt e) ∙ ap end one ∙ chains.ends at low last));
+      newest = refl;
+    }
+
     -- THE INNER PART
     pub inner_begins : (new : ℕ → ℕ) → new at ≡ n → ((k : ℕ) → (k ≡ at → ⊥) → new k ≡ number k) → IsInnerPart n outer number at new at
     inner_begins new marked others = record {
@@ -206,7 +215,7 @@ module _ (n : ℕ) (outer inner : ℕ → Option ℕ) (number end : ℕ → ℕ)
       pub record IsRegrouped (new told : ℕ → ℕ) (ends : ℕ → ℕ) : Type 0 where
         pub newest : told n ≡ number at
         pub others : (k : ℕ) → k < n → told k ≡ new k
-        pub tail : ends n ≡ end (number at)
+        pub tail : (k : ℕ) → k < n → new k ≡ n → ends n ≡ end (number at)
         pub front : ends (number at) ≡ n
         pub rest : (c : ℕ) → c < n → (c ≡ number at → ⊥) → ends c ≡ end c
 
@@ -256,7 +265,7 @@ module _ (n : ℕ) (outer inner : ℕ → Option ℕ) (number end : ℕ → ℕ)
               absurd (omega arith))
               (λ other. ap ends kept ∙ grouped.rest (number k) (chains.known k lt) other ∙ chains.ends k lt none)
               (cases_eq (number k) (number at)))
-              (λ moved. ap ends moved.0 ∙ grouped.tail ∙ ap end (sym moved.1) ∙ chains.ends k lt none)
+              (λ moved. ap ends moved.0 ∙ grouped.tail k lt moved.0 ∙ ap end (sym moved.1) ∙ chains.ends k lt none)
               (renumbered.each k lt)
 
 -- a new place that is alone

@@ -6,7 +6,7 @@ use Rattle.std.proofs.lemmas.List.{get_or-set_same, get_or-set_other, get_or_pas
 use Rattle.std.proofs.lemmas.Option.{same_Some}
 use Rattle.fugue_place.specs.declared.chains.Chains.{Chains}
 use Rattle.fugue_place.specs.Chains.{entry_at, other_than, follower, AreChains, AreAligned, IsChains, IsLedBy, IsSame, IsLone, KeepsLinks, IsOuterRenumbered, IsInnerRenumbered}
-use Rattle.fugue_place.proofs.ChainLaws.{IsAdded, inner_led, outer_led, outer_stays, lone_led, chains_stay}
+use Rattle.fugue_place.proofs.ChainLaws.{IsAdded, inner_led, outer_led, outer_stays, lone_led, none_renumbered, chains_stay}
 
 -- LINKS
 -- a place that is linked to itself is followed by none, and any other by what it is linked to
@@ -103,7 +103,8 @@ module _ (c : Chains) (at n : ℕ) (lone : IsLone c at n) where
             (entry_at (set d.numbers.items n number)) (entry_at (set (set d.ends.items n last) number n)) renumbered (record {
               newest = get_or-set_same d.numbers.items n number n (let long = numbers_long in omega arith) ∙ same;
               others = λ k lt. get_or-set_other d.numbers.items n k number k (λ here. absurd (omega arith));
-              tail = get_or-set_other (set d.ends.items n last) number n n n (λ here. let under = low in absurd (omega arith))
+              tail = λ k lt moved.
+                  get_or-set_other (set d.ends.items n last) number n n n (λ here. let under = low in absurd (omega arith))
                   ∙ get_or-set_same d.ends.items n last n (let long = ends_long in omega arith)
                   ∙ ending
                   ∙ old_ends number
@@ -115,6 +116,35 @@ module _ (c : Chains) (at n : ℕ) (lone : IsLone c at n) where
                   ∙ old_ends k;
             }));
       }
+
+  -- behind the end of a chain, without a change to the others' numbers
+  module _ (last : follower c.outer.items at ≡ None) (e : Chains) (all : e.count ≡ c.count) (outer : e.outer.items ≡ led) (inner : e.inner.items ≡ c.inner.items) (number : ℕ) (is : number ≡ entry_at c.numbers.items at)
+      (numbers : e.numbers.items ≡ set c.numbers.items n number) (ends : e.ends.items ≡ set c.ends.items number n) where
+    number_low : number < n
+    number_low = subst (λ (x : ℕ). x < n) (sym is) (lone.chains.known at lone.early)
+
+    long : length e.outer.items ≡ n + 1
+    long = ap length outer ∙ length-set c.outer.items at n ∙ lone.outer
+
+    pub end_led : IsChains e
+    end_led = record {
+      aligned = record {
+        within = let m = all ∙ lone.count in let rows = long in omega arith;
+        inner = ap length inner ∙ lone.inner ∙ sym long;
+        numbers = ap length numbers ∙ length-set c.numbers.items n number ∙ lone.numbers ∙ sym long;
+        ends = ap length ends ∙ length-set c.ends.items number n ∙ lone.ends ∙ sym long;
+      };
+      chains = same_tables (n + 1) e.count led e.outer.items c.inner.items e.inner.items (set c.numbers.items n number) e.numbers.items (set c.ends.items number n) e.ends.items (all ∙ lone.count) outer inner numbers ends
+          (outer_led n (follower c.outer.items) (follower c.inner.items) (entry_at c.numbers.items) (entry_at c.ends.items) lone.chains at lone.early (follower led) added lone.behind (entry_at c.numbers.items)
+          (entry_at (set c.numbers.items n number)) (entry_at (set c.ends.items number n))
+          (none_renumbered n (follower c.outer.items) (follower c.inner.items) (entry_at c.numbers.items) (entry_at c.ends.items) lone.chains at lone.early last) (record {
+            newest = get_or-set_same c.numbers.items n number n (let rows = lone.numbers in omega arith) ∙ is;
+            others = λ k lt. get_or-set_other c.numbers.items n k number k (λ here. absurd (omega arith));
+            tail = λ k lt moved. let low : entry_at c.numbers.items k < n = lone.chains.known k lt in absurd (omega arith);
+            front = ap (entry_at (set c.ends.items number n)) (sym is) ∙ get_or-set_same c.ends.items number n number (let rows = lone.ends in let low = number_low in omega arith);
+            rest = λ k lt apart. get_or-set_other c.ends.items number k n k (λ here. apart (here ∙ is));
+          }));
+    }
 
 -- ROWS
 -- a place without a row follows none, and none follows it

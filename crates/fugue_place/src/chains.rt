@@ -1,6 +1,6 @@
 //! Where the subtrees of children end on one side.
 
-ghost use Rattle.std.specs.Prelude.{◌≡◌, ℕ, ◌<◌, ◌+◌, ◌^◌, length, set, Some, IfSome, IfNone, OnOk};
+ghost use Rattle.std.specs.Prelude.{◌≡◌, ℕ, ◌<◌, ◌+◌, ◌^◌, length, set, None, Some, IfSome, IfNone, OnOk};
 ghost use Rattle.fugue_place.specs.Chains.{follower, entry_at, IsChains, IsEndOf, IsLedBy, AreAligned, IsSame, TellsSame, HasRoom, HasRows, IsLone, KeepsLinks, IsOuterRenumbered, IsInnerRenumbered};
 
 use ew_model::NoMem;
@@ -136,11 +136,27 @@ impl Chains {
         ensures count { self.new.count ≡ self.old.count }
         ensures outer { self.new.outer.items ≡ set self.old.outer.items at new }
     {
-        if self.is_outer_part_shorter(at) {
+        if self.follower(at as usize).is_none() {
+            self.lengthen(at, new);
+        } else if self.is_outer_part_shorter(at) {
             self.move_outer_part(at, new);
         } else {
             self.move_inner_part(at, new);
         }
+    }
+
+    /// Has the newest one follow another that is the end of its chain.
+    fn lengthen(&mut self, at: u32, new: u32)
+        requires lone { IsLone self.old at new }
+        requires last { follower self.old.outer.items at ≡ None }
+        ensures chains { IsChains self.new }
+        ensures count { self.new.count ≡ self.old.count }
+        ensures outer { self.new.outer.items ≡ set self.old.outer.items at new }
+    {
+        let chain = self.numbers[at as usize];
+        self.numbers[new as usize] = chain;
+        self.ends[chain as usize] = new;
+        self.outer[at as usize] = new;
     }
 
     /// Gives the number of the newest one to all that follow the other.

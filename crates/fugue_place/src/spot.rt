@@ -6,7 +6,7 @@ ghost use Rattle.fugue_place.specs.Attachments.{is_attached, has_id};
 ghost use Rattle.fugue_place.specs.Places.{ArePlaces};
 ghost use Rattle.fugue_place.specs.Spots.{spot_cmp, IsIndex};
 
-use crate::child::{Attached, Side, is_heir};
+use crate::child::{Attached, Side};
 use crate::children::Children;
 use crate::places::Places;
 use ew_model::NoMem;
@@ -33,7 +33,7 @@ pub enum Rank {
     Last,
 }
 
-/// Keeps the place of one more child behind these: under its spot, where it is no heir, and by its node.
+/// Keeps the place of one more child behind these: under its spot, and by its node.
 pub fn enlist(
     spots: &mut BTreeMap<Spot, usize>,
     places: &mut Places,
@@ -49,10 +49,6 @@ pub fn enlist(
     ensures same_spots { OnErr result (IsIndex children.now.items (get spot_cmp spots.new)) }
     ensures same_places { OnErr result (ArePlaces children.now.items places.new) }
 {
-    if is_heir(children, child) {
-        places.add(children, child)?;
-        return Ok(());
-    }
     let rank = Rank::Of(child.id);
     let spot = Spot {
         parent: child.parent,

@@ -1,11 +1,12 @@
 //! The attached children.
 
 ghost use Rattle.std.specs.Prelude.{◌≡◌, true, false, [], ◌∷◌, ◌++◌, IfOk, OnOk, OnErr};
-ghost use Rattle.fugue_place.specs.Attachments.{is_event, is_attached, is_there, has_id};
+ghost use Rattle.fugue_place.specs.Attachments.{is_event, is_attached, is_there, has_id, MayAttach};
+ghost use Rattle.fugue_place.specs.Heirs.{is_heir};
 ghost use Rattle.fugue_place.specs.Neighbours.{has_beyond, IsPlaceOfNew};
 
 use crate::chains::Chains;
-use crate::child::{Attached, Side};
+use crate::child::{Attached, Side, is_heir};
 use crate::children::Children;
 use crate::leaders::leader_of;
 use crate::neighbour::Place;
@@ -78,6 +79,9 @@ impl Siblings {
             id,
             node,
         };
+        if is_heir(&self.children, &child) {
+            return self.attach_heir(&child);
+        }
         let children = &self.children;
         let left = leader_of(children, &self.places, &self.left, Side::Left, &child);
         let right = leader_of(children, &self.places, &self.right, Side::Right, &child);
@@ -112,5 +116,22 @@ impl Siblings {
             side,
             id,
         )
+    }
+
+    /// Attaches a child on the right of the one that was attached last, which has no other: it is found without its spot.
+    fn attach_heir(&mut self, child: &Attached) -> Result<(), NoMem>
+        requires may { MayAttach self.old child.now }
+        requires heir { is_heir self.old child.now ≡ true }
+        ensures ok { OnOk result (self.new ≡ self.old ++ child.now ∷ []) }
+        ensures err { OnErr result (self.new ≡ self.old) }
+    {
+        let newest = self.children.len() - 1;
+        let agent = self.children.reserve(child.id.agent)?;
+        self.right.reserve(Some(newest))?;
+        self.places.add(&self.children, child)?;
+        self.children.push_reserved(*child, agent);
+        self.left.add(None);
+        self.right.add(Some(newest));
+        Ok(())
     }
 }

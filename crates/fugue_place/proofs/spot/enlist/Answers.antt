@@ -1,14 +1,11 @@
-use Rattle.std.proofs.Common.{◌≡◌, ℕ, length, Some, None, cond, sym, subst, ap, ◌∙◌}
+use Rattle.std.proofs.Common.{◌≡◌, ℕ, length, Some, None, cond, subst, ap, ◌∙◌}
 use Rattle.std.specs.BTreeMap.{get, is_at}
 use Rattle.std.specs.declared.cmp.Ordering.{Ordering}
 use Rattle.fugue_place.specs.declared.spot.Spot.{Spot}
 use Rattle.fugue_place.specs.Spots.{spot_cmp, spot_of}
 use Rattle.fugue_place.proofs.CmpLaws.{spots_by}
-use Rattle.fugue_place.proofs.IndexLaws.{heir_more, new_spot, spots_more, index_same, taken_back}
+use Rattle.fugue_place.proofs.IndexLaws.{new_spot, spots_more, index_same, taken_back}
 use Rattle.fugue_place.proofs.spot.enlist.Goals as goal
-
-pub returns-then-is_heir-clause-spots : goal.returns-then-is_heir-clause-spots
-returns-then-is_heir-clause-spots c = heir_more c.args.children.now.items c.args.child.now (get spot_cmp c.args.spots.now) c.requires.spots (sym c.if-is_heir.ensures)
 
 pub returns-in-Ok-clause-spots : goal.returns-in-Ok-clause-spots
 returns-in-Ok-clause-spots c =
