@@ -206,3 +206,12 @@ module _ (children : List Attached) (places : Places) (kept : ArePlaces children
           let here : length children ≡ k = same_Some (length children) k (sym (put v ∙ ap (λ (t : Bool). cond t (Some (length children)) (get node_cmp places.others v)) at) ∙ e) in
           (a, place_new children a k (sym here), node_exact a.node v (eq_from (node_cmp a.node v) at))
       told v k false at e = others_told v k (sym (put v ∙ ap (λ (t : Bool). cond t (Some (length children)) (get node_cmp places.others v)) at) ∙ e)
+
+-- the same is kept of others
+pub places_same : (children : List Attached) (places m : Places) → ArePlaces children places → m.rising ≡ places.rising → ((v : Node) → get node_cmp m.others v ≡ get node_cmp places.others v) → ArePlaces children m
+places_same children places m kept rising others = record {
+  within = subst (λ (n : ℕ). n ≤ length children) (sym rising) kept.within;
+  rise = subst (λ (n : ℕ). AreRising (take n children)) (sym rising) kept.rise;
+  tells = λ k a here le. others a.node ∙ kept.tells k a here (subst (λ (n : ℕ). n ≤ k) rising le);
+  told = λ v k found. kept.told v k (sym (others v) ∙ found);
+}

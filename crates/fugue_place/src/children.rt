@@ -108,10 +108,10 @@ impl Children {
     }
 
     /// Makes room for one more child, and gives the number of its agent.
-    pub fn reserve(&mut self, agent: Name) -> Result<u32, NoMem>
+    pub fn reserve(&mut self, agent: &Name) -> Result<u32, NoMem>
         ensures same { self.new.items ≡ self.old.items }
         ensures room { OnOk result (0 < self.new.room) }
-        ensures number { IfOk result (λ n. slice_get self.new.names n ≡ Some agent) }
+        ensures number { IfOk result (λ n. slice_get self.new.names n ≡ Some agent.now) }
     {
         self.members.reserve(1)?;
         let likely = newest_agent(&self.members);
@@ -147,17 +147,17 @@ fn newest_agent(members: &[Member]) -> u32 {
 }
 
 /// The number of an agent, which gets one where it has none. The likely number is tried first.
-fn number_of(names: &mut IndexSet<Name>, likely: u32, agent: Name) -> Result<u32, NoMem>
+fn number_of(names: &mut IndexSet<Name>, likely: u32, agent: &Name) -> Result<u32, NoMem>
     ensures kept { (more : List (List ℕ)) × (names.new.keys ≡ names.old.keys ++ more) }
-    ensures number { IfOk result (λ n. slice_get names.new.keys n ≡ Some agent) }
+    ensures number { IfOk result (λ n. slice_get names.new.keys n ≡ Some agent.now) }
 {
-    if is_at(names, likely, &agent) {
+    if is_at(names, likely, agent) {
         return Ok(likely);
     }
     if names.len() >= MOST as usize {
         return Err(NoMem);
     }
-    let (number, _) = names.insert_full(agent)?;
+    let (number, _) = names.insert_full(*agent)?;
     Ok(number as u32)
 }
 

@@ -1,8 +1,11 @@
 //! Where children stand in the list of all, by their nodes.
 
-ghost use Rattle.std.specs.Prelude.{◌≡◌, true, false, [], ◌∷◌, ◌++◌, IfSome, IfNone, OnOk, OnErr};
+ghost use Rattle.std.specs.Prelude.{◌≡◌, true, false, [], ◌∷◌, ◌++◌, Some, IfSome, IfNone, OnOk, OnErr, if◌then◌else◌};
+ghost use Rattle.std.specs.BTreeMap.{get, is_at};
+ghost use Rattle.ew_model.specs.declared.node.Node.{Node as Nodes};
 ghost use Rattle.fugue_place.specs.Attachments.{is_attached};
 ghost use Rattle.fugue_place.specs.Places.{HasNodeAt, ArePlaces, is_above_newest};
+ghost use Rattle.fugue_place.specs.Spots.{node_cmp};
 
 use crate::child::{Attached, is_newest};
 use crate::children::Children;
@@ -58,8 +61,18 @@ impl Places {
         if self.rising == count && is_above_newest(children, child.node) {
             self.rising += 1;
         } else {
-            self.others.insert(child.node, count)?;
+            self.keep(child.node, count)?;
         }
+        Ok(())
+    }
+
+    /// Keeps the place of a node that doesn't rise.
+    fn keep(&mut self, node: Node, place: usize) -> Result<(), NoMem>
+        ensures ok { OnOk result ((v : Nodes) → get node_cmp self.new.others v ≡ (if is_at (node_cmp node) v then Some place else get node_cmp self.old.others v)) }
+        ensures err { OnErr result ((v : Nodes) → get node_cmp self.new.others v ≡ get node_cmp self.old.others v) }
+        ensures rising { self.new.rising ≡ self.old.rising }
+    {
+        self.others.insert(node, place)?;
         Ok(())
     }
 }

@@ -80,19 +80,10 @@ impl Siblings {
             node,
         };
         if is_heir(&self.children, &child) {
-            return self.attach_heir(&child);
+            self.attach_heir(child)
+        } else {
+            self.attach_other(child)
         }
-        let children = &self.children;
-        let left = leader_of(children, &self.places, &self.left, Side::Left, &child);
-        let right = leader_of(children, &self.places, &self.right, Side::Right, &child);
-        let agent = self.children.reserve(id.agent)?;
-        self.left.reserve(left)?;
-        self.right.reserve(right)?;
-        enlist(&mut self.spots, &mut self.places, &self.children, &child)?;
-        self.children.push_reserved(child, agent);
-        self.left.add(left);
-        self.right.add(right);
-        Ok(())
     }
 
     /// Where a new child with this id would stand: behind the last node of the next lower sibling's subtree; where there is no
@@ -119,19 +110,38 @@ impl Siblings {
     }
 
     /// Attaches a child on the right of the one that was attached last, which has no other: it is found without its spot.
-    fn attach_heir(&mut self, child: &Attached) -> Result<(), NoMem>
-        requires may { MayAttach self.old child.now }
-        requires heir { is_heir self.old child.now ≡ true }
-        ensures ok { OnOk result (self.new ≡ self.old ++ child.now ∷ []) }
+    fn attach_heir(&mut self, child: Attached) -> Result<(), NoMem>
+        requires may { MayAttach self.old child }
+        requires heir { is_heir self.old child ≡ true }
+        ensures ok { OnOk result (self.new ≡ self.old ++ child ∷ []) }
         ensures err { OnErr result (self.new ≡ self.old) }
     {
         let newest = self.children.len() - 1;
-        let agent = self.children.reserve(child.id.agent)?;
+        let agent = self.children.reserve(&child.id.agent)?;
         self.right.reserve(Some(newest))?;
-        self.places.add(&self.children, child)?;
-        self.children.push_reserved(*child, agent);
+        self.places.add(&self.children, &child)?;
+        self.children.push_reserved(child, agent);
         self.left.add(None);
         self.right.add(Some(newest));
+        Ok(())
+    }
+
+    /// Attaches any child.
+    fn attach_other(&mut self, child: Attached) -> Result<(), NoMem>
+        requires may { MayAttach self.old child }
+        ensures ok { OnOk result (self.new ≡ self.old ++ child ∷ []) }
+        ensures err { OnErr result (self.new ≡ self.old) }
+    {
+        let children = &self.children;
+        let left = leader_of(children, &self.places, &self.left, Side::Left, &child);
+        let right = leader_of(children, &self.places, &self.right, Side::Right, &child);
+        let agent = self.children.reserve(&child.id.agent)?;
+        self.left.reserve(left)?;
+        self.right.reserve(right)?;
+        enlist(&mut self.spots, &mut self.places, &self.children, &child)?;
+        self.children.push_reserved(child, agent);
+        self.left.add(left);
+        self.right.add(right);
         Ok(())
     }
 }

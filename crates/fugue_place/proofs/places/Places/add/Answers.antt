@@ -1,10 +1,8 @@
-use Rattle.std.proofs.Common.{◌≡◌, ℕ, ◌+◌, Some, cond, refl, sym, subst, ap, ◌∙◌}
+use Rattle.std.proofs.Common.{ℕ, ◌+◌, Some, OnErr, Result, Ok, Err, cond, refl, sym, ap, ◌∙◌}
 use Rattle.std.specs.BTreeMap.{get, is_at}
-use Rattle.std.specs.declared.cmp.Ordering.{Ordering}
-use Rattle.ew_model.specs.declared.node.Node.{Node}
+use Rattle.fugue_place.specs.Places.{ArePlaces}
 use Rattle.fugue_place.specs.Spots.{node_cmp}
-use Rattle.fugue_place.proofs.CmpLaws.{nodes_by}
-use Rattle.fugue_place.proofs.FoundLaws.{rising_more, others_more}
+use Rattle.fugue_place.proofs.FoundLaws.{rising_more, others_more, places_same}
 use Rattle.fugue_place.proofs.places.Places.add.Goals as goal
 
 pub returns-then-is_above_newest-clause-ok : goal.returns-then-is_above_newest-clause-ok
@@ -12,11 +10,17 @@ returns-then-is_above_newest-clause-ok c =
     rising_more c.args.children.now.items c.args.self.now c.requires.places c.args.child.now c.requires.new (record { rising = c.args.self.now.rising + 1; others = c.args.self.now.others }) (c.if-self-count.true ∙ c.len-count.ensures.count) (sym c.if-is_above_newest.ensures)
     refl refl
 
-pub returns-in_ok-insert-clause-ok : goal.returns-in_ok-insert-clause-ok
-returns-in_ok-insert-clause-ok c =
-    others_more c.args.children.now.items c.args.self.now c.requires.places c.args.child.now c.requires.new (record { rising = c.args.self.now.rising; others = c.insert.new.self }) refl (λ v.
-    subst
-    (λ (cmp : Node → Node → Ordering).
-    get cmp c.insert.new.self v ≡ cond (is_at (cmp c.args.child.now.node) v) (Some c.len-count.result) (get cmp c.args.self.now.others v))
-    nodes_by (c.in_ok-insert.ensures.updates.0 v)
+pub returns-in_ok-keep-clause-ok : goal.returns-in_ok-keep-clause-ok
+returns-in_ok-keep-clause-ok c =
+    others_more c.args.children.now.items c.args.self.now c.requires.places c.args.child.now c.requires.new c.keep.new.self c.keep.ensures.rising (λ v.
+    c.in_ok-keep.ensures.ok v
     ∙ ap (λ (n : ℕ). cond (is_at (node_cmp c.args.child.now.node) v) (Some n) (get node_cmp c.args.self.now.others v)) c.len-count.ensures.count)
+
+so_anyway : {X E : Type 0} (result : Result X E) (P : Type 0) → P → OnErr result P
+so_anyway (Ok x) P p = tt
+so_anyway (Err e) P p = p
+
+pub returns-in_err-keep-clause-err : goal.returns-in_err-keep-clause-err
+returns-in_err-keep-clause-err c =
+    so_anyway c.from_residual.result (ArePlaces c.args.children.now.items c.keep.new.self)
+    (places_same c.args.children.now.items c.args.self.now c.keep.new.self c.requires.places c.keep.ensures.rising c.in_err-keep.ensures.err)

@@ -9,21 +9,35 @@ use Rattle.fugue_place.specs.Lines.{IsNewOutermost}
 use Rattle.fugue_place.specs.Places.{ArePlaces}
 use Rattle.fugue_place.specs.Spots.{spot_cmp}
 use Rattle.fugue_place.proofs.IndexLaws.{heir_more}
-use Rattle.fugue_place.proofs.KeptLaws.{unchanged, siblings_more}
+use Rattle.fugue_place.proofs.KeptLaws.{unchanged, siblings_same, siblings_more}
 use Rattle.fugue_place.proofs.LeaderLaws.{newest_early, heir_left, heir_right}
 use Rattle.fugue_place.proofs.table.Siblings.attach_heir.Goals as goal
 
 pub overflow_sub-newest : goal.overflow_sub-newest
 overflow_sub-newest c =
     let old = c.self.inside.children.items in
-    let heir : is_heir old c.args.child.now ≡ true = ap (λ (xs : List Attached). is_heir xs c.args.child.now) c.self.view_is ∙ c.requires.heir in
-    let some : length old - 1 < length old = newest_early old c.self.invariant.attached c.args.child.now heir in
+    let heir : is_heir old c.args.child ≡ true = ap (λ (xs : List Attached). is_heir xs c.args.child) c.self.view_is ∙ c.requires.heir in
+    let some : length old - 1 < length old = newest_early old c.self.invariant.attached c.args.child heir in
     let count = c.len-newest.ensures.count in
     omega arith
 
+pub invariant_of-self-in_err-reserve : goal.invariant_of-self-in_err-reserve
+invariant_of-self-in_err-reserve c =
+    let old = c.self.inside in
+    let kept = c.self.invariant in
+    siblings_same old.children.items c.reserve.new.self.items (get spot_cmp old.spots) (get spot_cmp old.spots) old.places old.places old.left old.right old.left c.reserve-2.new.self
+    kept c.reserve.ensures.same kept.spots kept.places (unchanged old.left) c.reserve-2.ensures.same
+
+pub invariant_of-self-in_err-add : goal.invariant_of-self-in_err-add
+invariant_of-self-in_err-add c =
+    let old = c.self.inside in
+    let kept = c.self.invariant in
+    siblings_same old.children.items c.reserve.new.self.items (get spot_cmp old.spots) (get spot_cmp old.spots) old.places c.add.new.self old.left old.right old.left c.reserve-2.new.self
+    kept c.reserve.ensures.same kept.spots (subst (λ (xs : List Attached). ArePlaces xs c.add.new.self) c.reserve.ensures.same c.in_err-add.ensures.err) (unchanged old.left) c.reserve-2.ensures.same
+
 pub invariant_of-self-2 : goal.invariant_of-self-2
 invariant_of-self-2 c =
-    let a : Attached = c.args.child.now in
+    let a : Attached = c.args.child in
     let old = c.self.inside in
     let items = old.children.items in
     let kept = c.self.invariant in
