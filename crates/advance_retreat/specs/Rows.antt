@@ -1,5 +1,5 @@
 -- What is kept of the nodes of events, by the events' positions.
-use Rattle.std.specs.Prelude.{◌≡◌, ℕ, ◌-◌, List, slice_get, Option, None, IsSome, nat_lt, if◌then◌else◌, unwrap_or}
+use Rattle.std.specs.Prelude.{◌≡◌, ℕ, ◌+◌, ◌-◌, ◌^◌, ◌<◌, Bool, true, false, List, slice_get, Option, None, IsSome, nat_lt, if◌then◌else◌, unwrap_or}
 use Rattle.std.specs.BTreeMap.{get}
 use Rattle.std.specs.Option.{option_or}
 use Rattle.std.specs.Ordering.{nat_cmp}
@@ -26,3 +26,11 @@ row_at r n = unwrap_or (kept_at r n) empty
 pub record KeepsRows (old new : Rows) : Type 0 where
   pub same : (n : ℕ) → row_at new n ≡ row_at old n
   pub kept : (n : ℕ) → IsSome (kept_at old n) → IsSome (kept_at new n)
+
+-- one more, or one fewer
+abbrev pub stepped : ℕ → Bool → ℕ
+stepped n more = if more then n + 1 else n - 1
+
+-- a number of 32 bits can go there
+abbrev pub MayStep : ℕ → Bool → Type 0
+MayStep n more = (more ≡ false → 0 < n) × (more ≡ true → n + 1 < 2 ^ 32)

@@ -10,10 +10,11 @@ ghost use Rattle.fugue_place.specs.Neighbours.{side_eq};
 ghost use Rattle.fugue_place.specs.Spots.{node_cmp};
 ghost use Rattle.advance_retreat.specs.declared.change.Change.{Change as Changes};
 ghost use Rattle.advance_retreat.specs.Replacing.{changed_in};
+ghost use Rattle.advance_retreat.specs.Rows.{stepped, MayStep};
 ghost use Rattle.advance_retreat.specs.Rights.{parent_of, or_none, counted, AreRights, HasCount, IsWhole, Shifts, ShiftEach, MayShift};
 
 use crate::change::Positions;
-use crate::rows::Rows;
+use crate::rows::{Rows, stepped};
 use crate::runs::Known;
 use crate::spot::Hold;
 use ew_model::NoMem;
@@ -80,9 +81,7 @@ impl Rights {
         let Some(parent) = self.parent(node) else {
             return;
         };
-        let before = self.count(parent);
-        let count = if is { before + 1 } else { before - 1 };
-        self.set_count(parent, count);
+        self.shift_count(parent, is);
     }
 
     /// The nodes of the events at these positions came from the first state to the second.
@@ -132,16 +131,20 @@ impl Rights {
         }
     }
 
-    /// Gives a node that has a count another.
-    fn set_count(&mut self, node: Node, count: u32)
-        requires { HasCount self.old node }
+    /// Notes that one more right child of a node that has a count is inserted, or one fewer.
+    fn shift_count(&mut self, node: Node, is: bool)
+        requires has { HasCount self.old node }
+        requires may { MayStep ((counted self.old).count node) is }
         ensures kept { (v : Nodes) → HasCount self.old v → HasCount self.new v }
         ensures parents { (n : ℕ) → (counted self.new).parent_at n ≡ (counted self.old).parent_at n }
-        ensures counts { (v : Nodes) → (counted self.new).count v ≡ (if is_at (node_cmp node) v then count else (counted self.old).count v) }
+        ensures counts { (v : Nodes) → (counted self.new).count v ≡ (if is_at (node_cmp node) v then stepped ((counted self.old).count node) is else (counted self.old).count v) }
     {
         match node {
-            Node::Event(lv) => self.rows.set_inserted(lv, count),
-            Node::Root | Node::Base(_) => set_count(&mut self.counts, node, count),
+            Node::Event(lv) => self.rows.shift_inserted(lv, is),
+            Node::Root | Node::Base(_) => {
+                let count = stepped(count_at(&self.counts, node), is);
+                set_count(&mut self.counts, node, count);
+            }
         }
     }
 }

@@ -1,9 +1,9 @@
 //! What is kept of the nodes of events, by the events' positions.
 
-ghost use Rattle.std.specs.Prelude.{◌≡◌, ◌+◌, ◌-◌, ◌≤◌, ℕ, true, None, Some, IsSome, OnOk, OnErr, length, nat_eq, if◌then◌else◌};
+ghost use Rattle.std.specs.Prelude.{◌≡◌, ◌+◌, ◌-◌, ◌≤◌, ℕ, true, None, Some, IsSome, OnOk, OnErr, length, nat_eq, unwrap_or, if◌then◌else◌};
 ghost use Rattle.std.specs.Ordering.{nat_cmp};
 ghost use Rattle.std.specs.BTreeMap.{get};
-ghost use Rattle.advance_retreat.specs.Rows.{empty, in_line, kept_at, row_at, KeepsRows};
+ghost use Rattle.advance_retreat.specs.Rows.{empty, in_line, kept_at, row_at, stepped, KeepsRows, MayStep};
 
 use ew_model::NoMem;
 use ew_model::node::Node;
@@ -83,13 +83,22 @@ impl Rows {
         }
     }
 
-    /// Notes how many right children of the node of a position that has a row are inserted.
-    pub fn set_inserted(&mut self, lv: u32, inserted: u32)
-        requires { IsSome (kept_at self.old lv) }
-        ensures { (n : ℕ) → kept_at self.new n ≡ (if nat_eq lv n then Some (record (row_at self.old lv) { inserted = inserted }) else kept_at self.old n) }
+    /// Notes that one more right child of the node of a position that has a row is inserted, or one fewer.
+    pub fn shift_inserted(&mut self, lv: u32, is: bool)
+        requires has { IsSome (kept_at self.old lv) }
+        requires may { MayStep (row_at self.old lv).inserted is }
+        ensures { (n : ℕ) → kept_at self.new n ≡ (if nat_eq lv n then Some (record (row_at self.old lv) { inserted = stepped (row_at self.old lv).inserted is }) else kept_at self.old n) }
     {
-        let row = self.at(lv);
-        self.put(lv, Row { inserted, ..row });
+        if in_line(self.first, &self.line, lv).is_some() {
+            let place = (lv - self.first) as usize;
+            let row = self.line[place];
+            let inserted = stepped(row.inserted, is);
+            self.line[place] = Row { inserted, ..row };
+        } else {
+            let row = self.elsewhere(lv);
+            let inserted = stepped(row.inserted, is);
+            replace(&mut self.others, lv, Row { inserted, ..row });
+        }
     }
 
     /// Notes the parent of the node of a position, or that it is no right child.
@@ -98,6 +107,10 @@ impl Rows {
         ensures err { OnErr result ((n : ℕ) → row_at self.new n ≡ row_at self.old n) }
         ensures kept { (n : ℕ) → IsSome (kept_at self.old n) → IsSome (kept_at self.new n) }
     {
+        if self.is_next(lv) {
+            let row = self.elsewhere(lv);
+            return self.push_row(lv, Row { parent, ..row });
+        }
         self.begin(lv)?;
         let row = self.at(lv);
         self.put(lv, Row { parent, ..row });
@@ -109,7 +122,19 @@ impl Rows {
         ensures begun { OnOk result (IsSome (kept_at self.new lv)) }
         ensures rows { KeepsRows self.old self.new }
     {
-        if self.get(lv).is_some() {
+        if in_line(self.first, &self.line, lv).is_some() {
+            return Ok(());
+        }
+        self.begin_out_of_line(lv)
+    }
+
+    /// Sees to it that a position out of line has a row.
+    fn begin_out_of_line(&mut self, lv: u32) -> Result<(), NoMem>
+        requires { in_line self.old.first self.old.line.items lv ≡ None }
+        ensures begun { OnOk result (IsSome (kept_at self.new lv)) }
+        ensures rows { KeepsRows self.old self.new }
+    {
+        if other(&self.others, lv).is_some() {
             return Ok(());
         }
         if self.line.is_empty() {
@@ -120,6 +145,13 @@ impl Rows {
         } else {
             keep(&mut self.others, lv, Row::empty())
         }
+    }
+
+    /// Whether a position lies right behind the line.
+    fn is_next(&self, lv: u32) -> bool
+        ensures { result ≡ true → lv ≡ self.now.first + length self.now.line.items }
+    {
+        self.first as usize + self.line.len() == lv as usize
     }
 
     /// Whether a position lies behind the line, and not far.
@@ -154,10 +186,36 @@ impl Rows {
         ensures first { self.new.first ≡ self.old.first }
         ensures rows { KeepsRows self.old self.new }
     {
-        let row = other(&self.others, lv).unwrap_or(Row::empty());
+        let row = self.elsewhere(lv);
+        self.push_row(lv, row)
+    }
+
+    /// Lengthens the line by one position, with its row.
+    fn push_row(&mut self, lv: u32, row: Row) -> Result<(), NoMem>
+        requires { lv ≡ self.old.first + length self.old.line.items }
+        ensures ok { OnOk result ((n : ℕ) → kept_at self.new n ≡ (if nat_eq lv n then Some row else kept_at self.old n)) }
+        ensures err { OnErr result ((n : ℕ) → kept_at self.new n ≡ kept_at self.old n) }
+        ensures len { OnOk result (length self.new.line.items ≡ length self.old.line.items + 1) }
+        ensures first { self.new.first ≡ self.old.first }
+    {
         self.line.push(row)?;
         Ok(())
     }
+
+    /// The row of a position out of line, which is empty where none is kept.
+    fn elsewhere(&self, lv: u32) -> Row
+        ensures { result ≡ unwrap_or (get nat_cmp self.now.others lv) empty }
+    {
+        other(&self.others, lv).unwrap_or(Row::empty())
+    }
+}
+
+/// One more, or one fewer.
+pub fn stepped(count: u32, more: bool) -> u32
+    requires { MayStep count more }
+    ensures { result ≡ stepped count more }
+{
+    if more { count + 1 } else { count - 1 }
 }
 
 /// The row of a position among rows in line, which begin at a position.
