@@ -129,6 +129,7 @@ impl Rows {
     }
 
     /// Sees to it that a position out of line has a row.
+    #[inline(never)]
     fn begin_out_of_line(&mut self, lv: u32) -> Result<(), NoMem>
         requires { in_line self.old.first self.old.line.items lv ≡ None }
         ensures begun { OnOk result (IsSome (kept_at self.new lv)) }

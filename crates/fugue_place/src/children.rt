@@ -154,6 +154,15 @@ fn number_of(names: &mut IndexSet<Name>, likely: u32, agent: &Name) -> Result<u3
     if is_at(names, likely, agent) {
         return Ok(likely);
     }
+    find_number(names, agent)
+}
+
+/// The number of an agent by its name, which gets one where it has none.
+#[inline(never)]
+fn find_number(names: &mut IndexSet<Name>, agent: &Name) -> Result<u32, NoMem>
+    ensures kept { (more : List (List ℕ)) × (names.new.keys ≡ names.old.keys ++ more) }
+    ensures number { IfOk result (λ n. slice_get names.new.keys n ≡ Some agent.now) }
+{
     if names.len() >= MOST as usize {
         return Err(NoMem);
     }
