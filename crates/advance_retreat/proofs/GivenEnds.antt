@@ -1,5 +1,5 @@
 -- The last character of a cursor's run went over to the deleted ones behind it.
-use Rattle.std.proofs.Common.{◌≡◌, ℕ, ◌+◌, ◌-◌, ◌<◌, ◌≤◌, ◌⊎◌, inl, inr, Bool, true, false, List, ◌∷◌, ◌++◌, map, length, Contains, Option, Some, IfSome, nat_lt, refl, sym, ap, ◌∙◌, subst, arith}
+use Rattle.std.proofs.Common.{◌≡◌, ℕ, ◌+◌, ◌-◌, ◌<◌, ◌≤◌, ◌^◌, ◌⊎◌, inl, inr, Bool, true, false, List, ◌∷◌, ◌++◌, map, length, Contains, Option, Some, None, IfSome, IfNone, nat_lt, refl, sym, ap, ◌∙◌, subst, arith}
 use Rattle.std.proofs.lemmas.List.Elements.{Contains-append_right}
 use Rattle.ew_model.specs.declared.node.Node.{Node}
 use Rattle.walker_record.specs.Stretches.{Stretch, node_on, prepared_of, effect_of}
@@ -9,7 +9,7 @@ use Rattle.advance_retreat.specs.declared.change.Change.TheVariants.{Strike}
 use Rattle.advance_retreat.specs.declared.cursor.Cursor.{Cursor}
 use Rattle.advance_retreat.specs.declared.cursor.Struck.{Struck}
 use Rattle.advance_retreat.specs.declared.labels.Labels.{Labels}
-use Rattle.advance_retreat.specs.Cursors.{IsCursor, MayBeCursor, StandsBehind, GaveEnd, AreKept, last_of, shorter, struck_with, struck_long}
+use Rattle.advance_retreat.specs.Cursors.{IsCursor, MayBeCursor, StandsBehind, GaveEnd, AreKept, last_of, shorter, struck_with, struck_long, with_end, settled}
 use Rattle.advance_retreat.specs.Kept.{knows, changed_at}
 use Rattle.advance_retreat.specs.Laid.{AreLabelled, AreCounted, chars_in}
 use Rattle.advance_retreat.specs.Loose.{loose_behind, loose_in}
@@ -20,7 +20,7 @@ use Rattle.advance_retreat.proofs.LooseEnds.{alone_loose, alone_told, joined_loo
 use Rattle.advance_retreat.proofs.Moves.{is_first, is_second}
 use Rattle.advance_retreat.proofs.PartedRuns.{lower_of}
 use Rattle.advance_retreat.proofs.RunChars.{node_on_none, visible-chars, shown-chars}
-use Rattle.advance_retreat.proofs.Settled.{kept_same}
+use Rattle.advance_retreat.proofs.Settled.{end_rising, end_same, settled_rising}
 use Rattle.advance_retreat.proofs.Splits.{runs-append}
 
 -- WHAT A RUN COUNTS
@@ -54,18 +54,55 @@ pub record Gives (old new : List (ℕ × Stretch)) (t u : Labels) (visible shown
   pub gave : GaveEnd old new c s
   pub chars : chars_in new ≡ map (changed_at (last_of c.run) Strike) (chars_in old)
 
-pub gives : (old new : List (ℕ × Stretch)) (t u : Labels) (visible shown : ℕ) (at : Option Cursor) → AreCounted old t visible shown → MayBeCursor old at → (c : Cursor) → at ≡ Some c → 1 < c.run.len → AreLabelled new u → IsRising old → IsRising new
-    → (found : Option Struck) → IfSome found (GaveEnd old new c) → IfSome found (λ _. chars_in new ≡ map (changed_at (last_of c.run) Strike) (chars_in old)) → (s : Struck) → found ≡ Some s → Gives old new t u visible shown c s
-gives old new t u visible shown at counted cursor c here long laid up rises found gave chars s is = record {
-  counted = counted;
-  cursor = subst (MayBeCursor old) here cursor;
-  long = long;
-  laid = laid;
-  up = up;
-  rises = rises;
-  gave = subst (λ (o : Option Struck). IfSome o (GaveEnd old new c)) is gave;
-  chars = subst (λ (o : Option Struck). IfSome o (λ _. chars_in new ≡ map (changed_at (last_of c.run) Strike) (chars_in old))) is chars;
-}
+-- of kept runs
+module _ (ps qs : List (ℕ × Stretch)) (t u : Labels) (visible shown : ℕ) (at : Option Cursor) (pending : Bool) (kept : AreKept ps t visible shown at pending) (c : Cursor) (here : at ≡ Some c) where
+  abbrev before_it : List (ℕ × Stretch)
+  before_it = settled ps (Some c)
+
+  abbrev after_it : Struck → List (ℕ × Stretch)
+  after_it s = with_end qs c.label (shorter c.run) (Some s)
+
+  pub gives : 1 < c.run.len → IsRising ps → IsRising qs → (found : Option Struck) → IfSome found (λ s. AreLabelled (after_it s) u) → IfSome found (λ s. GaveEnd before_it (after_it s) c s)
+      → IfSome found (λ s. chars_in (after_it s) ≡ map (changed_at (last_of c.run) Strike) (chars_in before_it)) → (s : Struck) → found ≡ Some s → Gives before_it (after_it s) t u visible shown c s
+  gives long up rises found laid gave chars s is = record {
+    counted = subst (λ (o : Option Cursor). AreCounted (settled ps o) t visible shown) here kept.counted;
+    cursor = subst (λ (o : Option Cursor). MayBeCursor (settled ps o) o) here kept.cursor;
+    long = long;
+    laid = subst (λ (o : Option Struck). IfSome o (λ s. AreLabelled (after_it s) u)) is laid;
+    up = settled_rising ps (Some c) up;
+    rises = end_rising c.label (shorter c.run) qs (Some s) rises;
+    gave = subst (λ (o : Option Struck). IfSome o (λ s. GaveEnd before_it (after_it s) c s)) is gave;
+    chars = subst (λ (o : Option Struck). IfSome o (λ s. chars_in (after_it s) ≡ map (changed_at (last_of c.run) Strike) (chars_in before_it))) is chars;
+  }
+
+pub some_each : (o : Option Struck) (P : Struck → Type 0) → ((s : Struck) → P s) → IfSome o P
+some_each None P each = tt
+some_each (Some s) P each = each s
+
+pub none_then : (o : Option Struck) (P Q : Type 0) → (P → Q) → IfNone o P → IfNone o Q
+none_then None P Q then h = then h
+none_then (Some s) P Q then h = tt
+
+-- runs that have both under their labels already are the same
+module _ (old new : List (ℕ × Stretch)) (c : Cursor) (long : 1 < c.run.len) (rises : IsRising new) where
+  abbrev ended : Struck → List (ℕ × Stretch)
+  ended s = with_end new c.label (shorter c.run) (Some s)
+
+  ended_same : (s : Struck) → GaveEnd old new c s → ended s ≡ new
+  ended_same s gave =
+      let held = subst (λ (ps : List (ℕ × Stretch)). Contains ps (c.label, shorter c.run)) (sym gave.now)
+      (Contains-append_right gave.front ((c.label, shorter c.run) ∷ (s.label, s.run) ∷ gave.back) (c.label, shorter c.run) (is_first (c.label, shorter c.run) ((s.label, s.run) ∷ gave.back))) in
+      let some : s.run.len ≡ struck_long c.struck + 1 = ap (λ (r : Stretch). r.len) gave.struck in
+      end_same c.label (shorter c.run) new (Some s) rises held
+      (gave.front, gave.back, gave.now, ap (λ (r : Stretch). r.from) gave.struck, omega (arith, some), ap (λ (r : Stretch). r.prepared) gave.struck, ap (λ (r : Stretch). r.effect) gave.struck)
+
+  pub some_ended : (o : Option Struck) → IfSome o (GaveEnd old new c) → (P : Struck → List (ℕ × Stretch) → Type 0) → IfSome o (λ s. P s new) → IfSome o (λ s. P s (ended s))
+  some_ended None gave P p = tt
+  some_ended (Some s) gave P p = subst (P s) (sym (ended_same s gave)) p
+
+  pub some_told : (o : Option Struck) → IfSome o (GaveEnd old new c) → (P : Type 0) → IfSome o (λ s. P → ended s ≡ new)
+  some_told None gave P = tt
+  some_told (Some s) gave P = λ p. ended_same s gave
 
 module _ (old new : List (ℕ × Stretch)) (t u : Labels) (visible shown : ℕ) (c : Cursor) (s : Struck) (so : Gives old new t u visible shown c s) where
   counted : AreCounted old t visible shown
@@ -198,8 +235,18 @@ module _ (old new : List (ℕ × Stretch)) (t u : Labels) (visible shown : ℕ) 
     few = let few = counted.few in omega (arith, few, same_long);
   }
 
-  pub kept_less : (d : Cursor) → d.label ≡ c.label → d.run ≡ shorter c.run → d.before ≡ c.before → d.index + 1 ≡ c.index → d.struck ≡ Some s → (pending : Bool) → AreKept new u (visible - 1) (shown - 1) (Some d) pending
-  kept_less d label run before index struck pending = kept_same new u (visible - 1) (shown - 1) (Some d) pending so.rises less_counted (cursor_behind d label run before index struck)
+  -- the runs and what is pending, with the cursor that comes after
+  module _ (ps : List (ℕ × Stretch)) (end : new ≡ with_end ps c.label (shorter c.run) (Some s)) (d : Cursor) (label : d.label ≡ c.label) (run : d.run ≡ shorter c.run) (struck : d.struck ≡ Some s) where
+    pub settles : settled ps (Some d) ≡ new
+    settles = (λ i. with_end ps (label i) (run i) (struck i)) ∙ sym end
+
+    pub kept_less : d.before ≡ c.before → d.index + 1 ≡ c.index → (pending : Bool) → (pending ≡ false → new ≡ ps) → length (chars_in ps) ≤ 2 ^ 25 → AreKept ps u (visible - 1) (shown - 1) (Some d) pending
+    kept_less before index pending told few = record {
+      counted = subst (λ (xs : List (ℕ × Stretch)). AreCounted xs u (visible - 1) (shown - 1)) (sym settles) less_counted;
+      cursor = subst (λ (xs : List (ℕ × Stretch)). IsCursor xs d) (sym settles) (cursor_behind d label run before index struck);
+      told = λ e. settles ∙ told e;
+      few = few;
+    }
 
   -- RUNS THAT STAND APART
   -- none was struck before where it went behind no others

@@ -49,6 +49,7 @@ pub mod Nodes
 pub mod OpenedChars
 pub mod PartedRuns
 pub mod Parting
+pub mod Pending
 pub mod Places
 pub mod Putting
 pub mod Recorded

@@ -1,15 +1,17 @@
 -- Runs of which the cursor's is as the cursor has it.
 use Rattle.std.proofs.Common.{◌≡◌, ℕ, ◌<◌, ◌≤◌, ◌^◌, suc, Bool, true, false, List, [], ◌∷◌, length, Contains, Option, Some, None, nat_eq, if◌then◌else◌, refl, sym, ap, ◌∙◌, subst, eq-eqb}
-use Rattle.std.proofs.lemmas.Bool.{eqb-true}
+use Rattle.std.proofs.lemmas.Bool.{eqb-true, ne_eqb}
+use Rattle.std.proofs.lemmas.List.Elements.{Contains-append_right}
 use Rattle.walker_record.specs.Stretches.{Stretch}
 use Rattle.order_tree.specs.Pairs.{IsRising, RisesFrom, labels, changed}
 use Rattle.advance_retreat.specs.declared.cursor.Cursor.{Cursor}
+use Rattle.advance_retreat.specs.declared.cursor.Struck.{Struck}
 use Rattle.advance_retreat.specs.declared.labels.Labels.{Labels}
-use Rattle.advance_retreat.specs.Cursors.{IsCursor, MayBeCursor, AreKept, settled}
-use Rattle.advance_retreat.specs.Kept.{visible_in, shown_in}
+use Rattle.advance_retreat.specs.Cursors.{StandsBehind, IsCursor, MayBeCursor, SettleSame, AreKept, with_end, settled}
 use Rattle.advance_retreat.specs.Laid.{AreLabelled, AreCounted, chars_in}
 use Rattle.advance_retreat.proofs.ChangedPairs.{changed_is}
 use Rattle.advance_retreat.proofs.KnownRuns.{held_label}
+use Rattle.advance_retreat.proofs.Moves.{is_second}
 use Rattle.advance_retreat.proofs.PartedRuns.{parted}
 
 module _ (label : ℕ) (run : Stretch) where
@@ -42,47 +44,101 @@ module _ (label : ℕ) (run : Stretch) where
       by true e = ap (λ (b : Bool). pick (label, was) b ∷ changed (changed ps label was) label run) (eq-eqb label label refl)
       by false e = ap (λ (b : Bool). pick p b ∷ changed (changed ps label was) label run) e
 
+  -- runs at two labels come in any order
+  changed_swap : (ps : List (ℕ × Stretch)) (own : ℕ) (other : Stretch) → (label ≡ own → ⊥) → changed (changed ps own other) label run ≡ changed (changed ps label run) own other
+  changed_swap [] own other apart = refl
+  changed_swap (p ∷ ps) own other apart = let first = by (nat_eq p.0 label) (nat_eq p.0 own) refl refl in let rest = changed_swap ps own other apart in λ i. first i ∷ rest i
+    where
+      second : ℕ × Stretch → Bool → ℕ × Stretch
+      second q b = if b then (own, other) else q
+
+      by : (a b : Bool) → nat_eq p.0 label ≡ a → nat_eq p.0 own ≡ b → pick (second p b) (nat_eq (second p b).0 label) ≡ second (pick p a) (nat_eq (pick p a).0 own)
+      by true true e f = absurd (apart (sym (eqb-true p.0 label e) ∙ eqb-true p.0 own f))
+      by true false e f = ap (pick p) e ∙ sym (ap (second (label, run)) (ne_eqb label own apart))
+      by false true e f = ap (pick (own, other)) (ne_eqb own label (λ same. apart (sym same))) ∙ sym (ap (second p) f)
+      by false false e f = ap (pick p) e ∙ sym (ap (second p) f)
+
+  changed_long : (ps : List (ℕ × Stretch)) → length (changed ps label run) ≡ length ps
+  changed_long [] = refl
+  changed_long (p ∷ ps) = ap suc (changed_long ps)
+
   -- a run that stands there already changes none
   pub changed_same : (ps : List (ℕ × Stretch)) → IsRising ps → Contains ps (label, run) → changed ps label run ≡ ps
   changed_same ps rising held = let at = parted ps label run rising held in changed_is label run ps run at ∙ sym at.is
 
+-- A RUN, AND WHAT WAS DELETED FROM ITS END
+module _ (label : ℕ) (run : Stretch) where
+  pub end_rising : (ps : List (ℕ × Stretch)) (struck : Option Struck) → IsRising ps → IsRising (with_end ps label run struck)
+  end_rising ps None rising = changed_from label run 0 ps rising
+  end_rising ps (Some s) rising = changed_from label run 0 (changed ps s.label s.run) (changed_from s.label s.run 0 ps rising)
+
+  end_long : (ps : List (ℕ × Stretch)) (struck : Option Struck) → length (with_end ps label run struck) ≡ length ps
+  end_long ps None = changed_long label run ps
+  end_long ps (Some s) = changed_long label run (changed ps s.label s.run) ∙ changed_long s.label s.run ps
+
+  end_labels : (ps : List (ℕ × Stretch)) (struck : Option Struck) → labels (with_end ps label run struck) ≡ labels ps
+  end_labels ps None = changed_labels label run ps
+  end_labels ps (Some s) = changed_labels label run (changed ps s.label s.run) ∙ changed_labels s.label s.run ps
+
+  pub behind_held : (ps : List (ℕ × Stretch)) (s : Struck) → StandsBehind ps label run (Some s) → Contains ps (s.label, s.run)
+  behind_held ps s stands =
+      subst (λ (xs : List (ℕ × Stretch)). Contains xs (s.label, s.run)) (sym stands.2)
+      (Contains-append_right stands.0 ((label, run) ∷ (s.label, s.run) ∷ stands.1) (s.label, s.run) (is_second (s.label, s.run) (label, run) stands.1))
+
+  pub end_same : (ps : List (ℕ × Stretch)) (struck : Option Struck) → IsRising ps → Contains ps (label, run) → StandsBehind ps label run struck → with_end ps label run struck ≡ ps
+  end_same ps None rising held stands = changed_same label run ps rising held
+  end_same ps (Some s) rising held stands = ap (λ (xs : List (ℕ × Stretch)). changed xs label run) (changed_same s.label s.run ps rising (behind_held ps s stands)) ∙ changed_same label run ps rising held
+
+-- others in the place of both
+pub end_again : (ps : List (ℕ × Stretch)) (label own : ℕ) (run longer struck shorter : Stretch) → (label ≡ own → ⊥)
+    → changed (changed (changed (changed ps own struck) label run) own longer) label shorter ≡ changed (changed ps own longer) label shorter
+end_again ps label own run longer struck shorter apart =
+    ap (λ (xs : List (ℕ × Stretch)). changed xs label shorter) (sym (changed_swap label run (changed ps own struck) own longer apart))
+    ∙ changed_twice label shorter (changed (changed ps own struck) own longer) run
+    ∙ ap (λ (xs : List (ℕ × Stretch)). changed xs label shorter) (changed_twice own longer ps struck)
+
 pub settled_rising : (ps : List (ℕ × Stretch)) (at : Option Cursor) → IsRising ps → IsRising (settled ps at)
 settled_rising ps None rising = rising
-settled_rising ps (Some c) rising = changed_from c.label c.run 0 ps rising
+settled_rising ps (Some c) rising = end_rising c.label c.run ps c.struck rising
 
 pub settled_long : (ps : List (ℕ × Stretch)) (at : Option Cursor) → length (settled ps at) ≡ length ps
 settled_long ps None = refl
-settled_long ps (Some c) = long ps
-  where
-    long : (qs : List (ℕ × Stretch)) → length (changed qs c.label c.run) ≡ length qs
-    long [] = refl
-    long (q ∷ qs) = ap suc (long qs)
+settled_long ps (Some c) = end_long c.label c.run ps c.struck
 
 -- a cursor that is among them leaves them the same
 pub settled_same : (ps : List (ℕ × Stretch)) (at : Option Cursor) → IsRising ps → MayBeCursor ps at → settled ps at ≡ ps
 settled_same ps None rising here = refl
-settled_same ps (Some c) rising here = changed_same c.label c.run ps rising here.held
+settled_same ps (Some c) rising here = end_same c.label c.run ps c.struck rising here.held here.behind
 
-pub settled_label : (ps : List (ℕ × Stretch)) (c : Cursor) → IsCursor (settled ps (Some c)) c → Contains (labels ps) c.label
-settled_label ps c here = subst (λ (ns : List ℕ). Contains ns c.label) (changed_labels c.label c.run ps) (held_label (settled ps (Some c)) c.label c.run here.held)
+-- a label that stands among the settled runs stands among the others
+pub settled_label : (ps : List (ℕ × Stretch)) (c : Cursor) (label : ℕ) (run : Stretch) → Contains (settled ps (Some c)) (label, run) → Contains (labels ps) label
+settled_label ps c label run held = subst (λ (ns : List ℕ). Contains ns label) (end_labels c.label c.run ps c.struck) (held_label (settled ps (Some c)) label run held)
+
+-- settled ones settle the same again
+pub settle_again : (ps qs : List (ℕ × Stretch)) (u : Labels) (c : Cursor) (pending : Bool) → IsCursor (settled ps (Some c)) c → IsRising qs → qs ≡ settled ps (Some c) → AreLabelled qs u → SettleSame ps qs u c pending
+settle_again ps qs u c pending here rising is laid =
+    let same = settled_same qs (Some c) rising (subst (λ (xs : List (ℕ × Stretch)). IsCursor xs c) (sym is) here) in
+    record { same = same ∙ is; laid = subst (λ (xs : List (ℕ × Stretch)). AreLabelled xs u) (sym same) laid; told = λ e. same }
 
 -- so are kept runs that the cursor is among
-pub kept_same : (ps : List (ℕ × Stretch)) (t : Labels) (visible shown : ℕ) (at : Option Cursor) (pending : Bool) → IsRising ps → AreCounted ps t visible shown → MayBeCursor ps at → AreKept ps t visible shown at pending
+kept_same : (ps : List (ℕ × Stretch)) (t : Labels) (visible shown : ℕ) (at : Option Cursor) (pending : Bool) → IsRising ps → AreCounted ps t visible shown → MayBeCursor ps at → AreKept ps t visible shown at pending
 kept_same ps t visible shown at pending rising counted here =
     let same = settled_same ps at rising here in
     record {
       counted = subst (λ (qs : List (ℕ × Stretch)). AreCounted qs t visible shown) (sym same) counted;
       cursor = subst (λ (qs : List (ℕ × Stretch)). MayBeCursor qs at) (sym same) here;
       told = λ e. same;
+      few = counted.few;
     }
 
 -- so are other runs, with another cursor, that settle as the ones before
 pub kept_again : (ps qs : List (ℕ × Stretch)) (t u : Labels) (visible shown : ℕ) (at to : Option Cursor) (pending now : Bool) → AreKept ps t visible shown at pending
-    → settled qs to ≡ settled ps at → u ≡ t → MayBeCursor (settled ps at) to → (now ≡ false → settled ps at ≡ qs) → AreKept qs u visible shown to now
-kept_again ps qs t u visible shown at to pending now kept same table here told = record {
+    → settled qs to ≡ settled ps at → u ≡ t → MayBeCursor (settled ps at) to → (now ≡ false → settled ps at ≡ qs) → length (chars_in qs) ≤ 2 ^ 25 → AreKept qs u visible shown to now
+kept_again ps qs t u visible shown at to pending now kept same table here told few = record {
   counted = subst (λ (xs : List (ℕ × Stretch)). AreCounted xs u visible shown) (sym same) (subst (λ (x : Labels). AreCounted (settled ps at) x visible shown) (sym table) kept.counted);
   cursor = subst (λ (xs : List (ℕ × Stretch)). MayBeCursor xs to) (sym same) here;
   told = λ e. same ∙ told e;
+  few = few;
 }
 
 -- once settled, they settle as before
@@ -90,7 +146,7 @@ module _ (ps qs : List (ℕ × Stretch)) (t u : Labels) (visible shown : ℕ) (a
   pub now_counted : AreCounted qs u visible shown
   now_counted = subst (λ (xs : List (ℕ × Stretch)). AreCounted xs u visible shown) (sym is) (subst (λ (x : Labels). AreCounted (settled ps at) x visible shown) (sym table) kept.counted)
 
-  pub now_cursor : MayBeCursor qs at
+  now_cursor : MayBeCursor qs at
   now_cursor = subst (λ (xs : List (ℕ × Stretch)). MayBeCursor xs at) (sym is) kept.cursor
 
   module _ (rising : IsRising qs) where
@@ -99,19 +155,3 @@ module _ (ps qs : List (ℕ × Stretch)) (t u : Labels) (visible shown : ℕ) (a
 
     pub now_kept : (now : Bool) → AreKept qs u visible shown at now
     now_kept now = kept_same qs u visible shown at now rising now_counted now_cursor
-
-    -- also with other labels of the same
-    module _ (rs : List (ℕ × Stretch)) (w : Labels) (unchanged : rs ≡ qs) (laid : AreLabelled rs w) where
-      pub still_same : settled rs at ≡ settled ps at
-      still_same = ap (λ (xs : List (ℕ × Stretch)). settled xs at) unchanged ∙ now_same
-
-      pub still_kept : (now : Bool) → AreKept rs w visible shown at now
-      still_kept now =
-          kept_same rs w visible shown at now (subst (λ (xs : List (ℕ × Stretch)). IsRising xs) (sym unchanged) rising)
-          (record {
-            labelled = laid;
-            visible_is = now_counted.visible_is ∙ ap (λ (xs : List (ℕ × Stretch)). visible_in (chars_in xs)) (sym unchanged);
-            shown_is = now_counted.shown_is ∙ ap (λ (xs : List (ℕ × Stretch)). shown_in (chars_in xs)) (sym unchanged);
-            few = subst (λ (xs : List (ℕ × Stretch)). length (chars_in xs) ≤ 2 ^ 25) (sym unchanged) now_counted.few;
-          })
-          (subst (λ (xs : List (ℕ × Stretch)). MayBeCursor xs at) (sym unchanged) now_cursor)

@@ -1,6 +1,6 @@
 -- A run whose last character is deleted, and goes over to the deleted ones behind it.
 use Rattle.std.proofs.Common.{◌≡◌, ℕ, suc, ◌+◌, ◌-◌, ◌<◌, Bool, false, List, [], ◌∷◌, ◌++◌, Option, Some, None, length, map, Contains, if◌then◌else◌, refl, sym, ap, ◌∙◌, subst, arith, append_assoc, inl, inr}
-use Rattle.std.proofs.lemmas.List.{length-map, map-append}
+use Rattle.std.proofs.lemmas.List.{map-append}
 use Rattle.std.proofs.lemmas.List.Elements.{All-cons, All-tail, All-contains, Contains-append_left, Contains-append_right}
 use Rattle.ew_model.specs.declared.node.Node.{Node}
 use Rattle.ew_model.specs.declared.node.Node.TheVariants.{Root}
@@ -12,23 +12,23 @@ use Rattle.advance_retreat.specs.declared.change.Change.TheVariants.{Strike}
 use Rattle.advance_retreat.specs.declared.cursor.Cursor.{Cursor}
 use Rattle.advance_retreat.specs.declared.cursor.Struck.{Struck}
 use Rattle.advance_retreat.specs.declared.labels.Labels.{Labels}
-use Rattle.advance_retreat.specs.Cursors.{StandsBehind, IsCursor, GaveEnd, last_of, shorter, struck_with, struck_long}
+use Rattle.advance_retreat.specs.Cursors.{StandsBehind, IsCursor, GaveEnd, last_of, shorter, struck_with, struck_long, with_end}
 use Rattle.advance_retreat.specs.Kept.{changed_at, changed as after_change}
 use Rattle.advance_retreat.specs.Labelled.{label_of, GoesOver}
 use Rattle.advance_retreat.specs.Laid.{Stands, AreLabelled, record_of, records_of, chars_in}
 use Rattle.advance_retreat.proofs.Moves.{is_first, is_second}
 use Rattle.advance_retreat.proofs.PartedRuns.{Parted, parted}
 use Rattle.advance_retreat.proofs.ChangedPairs.{changed_is, moves_changed}
-use Rattle.advance_retreat.proofs.ChangedAt.{changed_kept}
 use Rattle.advance_retreat.proofs.ChangedRuns.{changed_laid}
 use Rattle.advance_retreat.proofs.CutPairs.{cut_is}
 use Rattle.advance_retreat.proofs.KnownRuns.{held_label}
-use Rattle.advance_retreat.proofs.AlteredChars.{altered_long, same_long}
+use Rattle.advance_retreat.proofs.AlteredChars.{same_long}
 use Rattle.advance_retreat.proofs.Places.{one_label, not_root_on, on_on, same_steps}
 use Rattle.advance_retreat.proofs.CutChars.{parts_records}
 use Rattle.advance_retreat.proofs.Splits.{none_by}
 use Rattle.advance_retreat.proofs.CharPlaces.{none_in, none_of}
 use Rattle.advance_retreat.proofs.Replaced.{none_changed}
+use Rattle.advance_retreat.proofs.Settled.{behind_held, end_again}
 use Rattle.advance_retreat.proofs.ShiftedEnds.{shifted_laid}
 use Rattle.advance_retreat.proofs.RunChars.{one, chars-append}
 
@@ -239,22 +239,11 @@ module _ (ps : List (ℕ × Stretch)) (t : Labels) (c : Cursor) (s : Struck) (v 
   rises : IsRising (pair_of front back c.label s.label c.run s.run)
   rises = subst (λ (xs : List (ℕ × Stretch)). IsRising xs) stood rising
 
-  struck_held : Contains ps (s.label, s.run)
-  struck_held =
-      subst (λ (xs : List (ℕ × Stretch)). Contains xs (s.label, s.run)) (sym stood)
-      (Contains-append_right front ((c.label, c.run) ∷ (s.label, s.run) ∷ back) (s.label, s.run) (is_second (s.label, s.run) (c.label, c.run) back))
-
-  pub struck_label : Contains (labels ps) s.label
-  struck_label = held_label ps s.label s.run struck_held
-
-  pub mid_long : length (chars_in mid) ≡ length (chars_in ps) + 1
-  mid_long = let sum = altered_long ps rising s.label s.run longer struck_held in omega (arith, sum)
+  pub struck_held : Contains ps (s.label, s.run)
+  struck_held = behind_held c.label c.run ps s stands
 
   apart : c.label ≡ s.label → ⊥
   apart e = let less = first_less front back c.label s.label c.run s.run rises in omega (arith, e, less)
-
-  pub mid_label : Contains (labels mid) c.label
-  mid_label = held_label mid c.label c.run (changed_kept s.label longer ps c.label c.run cursor.held apart)
 
   both_now : qs ≡ pair_of front back c.label s.label (shorter c.run) longer
   both_now =
@@ -267,17 +256,14 @@ module _ (ps : List (ℕ × Stretch)) (t : Labels) (c : Cursor) (s : Struck) (v 
       ∙ ap (λ (p : ℕ). record { from = last_of c.run; len = s.run.len + 1; prepared = p; effect = s.run.effect }) stands.5
       ∙ ap (λ (e : Bool). record { from = last_of c.run; len = s.run.len + 1; prepared = 2; effect = e }) stands.6
 
-  pub shifted_chars : chars_in qs ≡ map (changed_at (last_of c.run) Strike) (chars_in ps)
+  shifted_chars : chars_in qs ≡ map (changed_at (last_of c.run) Strike) (chars_in ps)
   shifted_chars =
       let at = at_first front back c.label s.label c.run s.run rises in
       let old : Parted ps c.label c.run = record { front = front; back = (s.label, s.run) ∷ back; is = stood; below = at.below; above = at.above } in
       ap chars_in (both_now ∙ ap (λ (r : Stretch). pair_of front back c.label s.label (shorter c.run) r) longer_is)
       ∙ struck_chars c.run cursor.some ps t c.label laid old cursor.prepared front back s.label s.run.len refl (ap (λ (xs : List Stretch). xs ++ chars_in back) (rest_is c.run cursor.some s.run stands.3 stands.5 stands.6))
 
-  pub shifted_long : length (chars_in qs) ≡ length (chars_in ps)
-  shifted_long = ap length shifted_chars ∙ length-map (chars_in ps) (changed_at (last_of c.run) Strike)
-
-  pub shifted_gave : GaveEnd ps qs c (record { label = s.label; run = longer })
+  shifted_gave : GaveEnd ps qs c (record { label = s.label; run = longer })
   shifted_gave = record {
     front = front;
     back = back;
@@ -286,7 +272,7 @@ module _ (ps : List (ℕ × Stretch)) (t : Labels) (c : Cursor) (s : Struck) (v 
     struck = longer_is ∙ ap (λ (o : Option Struck). struck_with (last_of c.run) (struck_long o)) (sym behind);
   }
 
-  pub shifted_labelled : (u : Labels) → GoesOver t u s.run.from v s.label → AreLabelled qs u
+  shifted_labelled : (u : Labels) → GoesOver t u s.run.from v s.label → AreLabelled qs u
   shifted_labelled u goes =
       shifted_laid ps t u c.label s.label c.run s.run longer laid rising cursor.held struck_held apart long stands.4 stands.3 node refl
       (subst (λ (w : Node). GoesOver t u s.run.from w s.label) node goes)
@@ -300,3 +286,20 @@ module _ (ps : List (ℕ × Stretch)) (t : Labels) (c : Cursor) (s : Struck) (v 
 
   pub shifted_root : v ≡ Root → ⊥
   shifted_root e = not_root_on c.run.from (c.run.len - 1) (laid.rooted c.label c.run cursor.held) (sym node ∙ e)
+
+  -- the same where the runs aren't told of the cursor's own, nor of those behind it
+  module _ (ts : List (ℕ × Stretch)) (is : ps ≡ with_end ts c.label c.run (Some s)) where
+    abbrev left : List (ℕ × Stretch)
+    left = with_end ts c.label (shorter c.run) (Some (record { label = s.label; run = longer }))
+
+    left_is : qs ≡ left
+    left_is = ap (λ (xs : List (ℕ × Stretch)). changed (changed xs s.label longer) c.label (shorter c.run)) is ∙ end_again ts c.label s.label c.run longer s.run (shorter c.run) apart
+
+    pub left_chars : chars_in left ≡ map (changed_at (last_of c.run) Strike) (chars_in ps)
+    left_chars = ap chars_in (sym left_is) ∙ shifted_chars
+
+    pub left_gave : GaveEnd ps left c (record { label = s.label; run = longer })
+    left_gave = subst (λ (xs : List (ℕ × Stretch)). GaveEnd ps xs c (record { label = s.label; run = longer })) left_is shifted_gave
+
+    pub left_labelled : (u : Labels) → GoesOver t u s.run.from v s.label → AreLabelled left u
+    left_labelled u goes = subst (λ (xs : List (ℕ × Stretch)). AreLabelled xs u) left_is (shifted_labelled u goes)

@@ -1,12 +1,12 @@
 -- The run at whose end characters are typed or deleted one after another.
-use Rattle.std.specs.Prelude.{◌≡◌, ◌⊎◌, ℕ, ◌+◌, ◌-◌, ◌<◌, Bool, true, false, List, ◌++◌, ◌∷◌, Contains, Option, Some, None}
+use Rattle.std.specs.Prelude.{◌≡◌, ◌⊎◌, ℕ, ◌+◌, ◌-◌, ◌<◌, ◌≤◌, ◌^◌, Bool, true, false, List, ◌++◌, ◌∷◌, length, Contains, Option, Some, None}
 use Rattle.ew_model.specs.declared.node.Node.{Node}
 use Rattle.walker_record.specs.Stretches.{Stretch, node_on, is_continued, prepared_of, effect_of, first_part}
 use Rattle.order_tree.specs.Pairs.{lower, total, changed}
 use Rattle.advance_retreat.specs.declared.cursor.Cursor.{Cursor}
 use Rattle.advance_retreat.specs.declared.cursor.Struck.{Struck}
 use Rattle.advance_retreat.specs.declared.labels.Labels.{Labels}
-use Rattle.advance_retreat.specs.Laid.{AreCounted}
+use Rattle.advance_retreat.specs.Laid.{AreLabelled, AreCounted, chars_in}
 
 -- the node of the run's last character
 abbrev pub last_of : Stretch → Node
@@ -64,13 +64,25 @@ pub record GaveEnd (old new : List (ℕ × Stretch)) (c : Cursor) (s : Struck) :
   pub now : new ≡ front ++ (c.label, shorter c.run) ∷ (s.label, s.run) ∷ back
   pub struck : s.run ≡ struck_with (last_of c.run) (struck_long c.struck)
 
--- the runs, but at the cursor's label the run that the cursor has
+-- the runs, but at the label this run, and at that of what was deleted from its end the run of those
+abbrev pub with_end : List (ℕ × Stretch) → ℕ → Stretch → Option Struck → List (ℕ × Stretch)
+with_end ps label run None = changed ps label run
+with_end ps label run (Some s) = changed (changed ps s.label s.run) label run
+
+-- the runs, but at the cursor's label the run that the cursor has, and what was deleted from its end as the cursor has that
 abbrev pub settled : List (ℕ × Stretch) → Option Cursor → List (ℕ × Stretch)
 settled ps None = ps
-settled ps (Some c) = changed ps c.label c.run
+settled ps (Some c) = with_end ps c.label c.run c.struck
 
--- The settled runs are counted, and the cursor stands among them. Where nothing that was typed at it is pending, they are the runs themselves.
+-- with the cursor the runs settle to the same as before, under these labels, and where nothing is pending they are that already
+pub record SettleSame (old new : List (ℕ × Stretch)) (t : Labels) (c : Cursor) (pending : Bool) : Type 0 where
+  pub same : settled new (Some c) ≡ settled old (Some c)
+  pub laid : AreLabelled (settled new (Some c)) t
+  pub told : pending ≡ false → settled new (Some c) ≡ new
+
+-- The settled runs are counted, and the cursor stands among them. Where nothing that was typed or deleted at it is pending, they are the runs themselves. Those have at most 2^25 characters, too.
 pub record AreKept (ps : List (ℕ × Stretch)) (t : Labels) (visible shown : ℕ) (at : Option Cursor) (pending : Bool) : Type 0 where
   pub counted : AreCounted (settled ps at) t visible shown
   pub cursor : MayBeCursor (settled ps at) at
   pub told : pending ≡ false → settled ps at ≡ ps
+  pub few : length (chars_in ps) ≤ 2 ^ 25

@@ -7,19 +7,20 @@ ghost use Rattle.ew_model.specs.declared.node.Node.TheVariants as nodes;
 ghost use Rattle.fugue_place.specs.declared.neighbour.Place.TheVariants as places;
 ghost use Rattle.walker_record.specs.Stretches.{Stretch, is_continued, prepared_of, effect_of};
 ghost use Rattle.fugue_place.specs.Attachments.{is_attached, is_there, has_id};
-ghost use Rattle.order_tree.specs.Pairs.{IsPlace, lower, total};
+ghost use Rattle.order_tree.specs.Pairs.{IsPlace, changed, lower, total};
 ghost use Rattle.advance_retreat.specs.declared.target.Target.{Target};
-ghost use Rattle.advance_retreat.specs.Cursors.{MayBeCursor, last_of, settled};
+ghost use Rattle.advance_retreat.specs.declared.change.Change.TheVariants as changes;
+ghost use Rattle.advance_retreat.specs.Cursors.{IsCursor, MayBeCursor, GaveEnd, SettleSame, last_of, shorter, with_end, settled};
 ghost use Rattle.advance_retreat.specs.Kept.{is_of, knows, visible_in, shown_in, base_records, changed_at, HasRoom};
 ghost use Rattle.advance_retreat.specs.Entering.{attached_by, run_of, IsNewChild};
-ghost use Rattle.advance_retreat.specs.Laid.{chars_in, records_in};
+ghost use Rattle.advance_retreat.specs.Laid.{AreLabelled, chars_in, records_in};
 ghost use Rattle.advance_retreat.specs.Loose.{loose_in, is_told};
 ghost use Rattle.advance_retreat.specs.Replacing.{ArePart, changed_in};
 ghost use Rattle.advance_retreat.specs.Rights.{counted};
 ghost use Rattle.advance_retreat.specs.Spots.{has_counted_right, IsHold, IsDeletion, Comes};
 
 use crate::change::{Change, Positions};
-use crate::cursor::Cursor;
+use crate::cursor::{Cursor, Struck};
 use crate::rights::Rights;
 use crate::runs::{Child, Found, Known, Runs};
 use crate::spot::{Hold, has_known_right};
@@ -40,7 +41,7 @@ pub struct Characters {
     visible: u32,
     shown: u32,
     cursor: Option<Cursor>,
-    /// Whether characters were typed at the cursor that the runs lack.
+    /// Whether characters were typed or deleted at the cursor that the runs don't tell of.
     pending: bool,
 }
 
@@ -313,9 +314,8 @@ impl Characters {
         if !cursor.gives_up(node, change) {
             return Ok(None);
         }
-        settle(&mut self.runs, &self.cursor, &mut self.pending, visits);
         let _runs = self.runs.count();
-        let Some(struck) = self.runs.delete_last(&cursor, visits)? else {
+        let Some(struck) = strike_last(&mut self.runs, &cursor, &mut self.pending, visits)? else {
             return Ok(None);
         };
         let _runs = self.runs.count();
@@ -403,7 +403,7 @@ impl Characters {
         ensures loose { OnErr result ((among : Nodes → Bool) → loose_in among self.new.runs ≤ loose_in among self.old.runs + 2) }
     {
         let mut visits: Steps<L> = Steps::new(blank);
-        match self.type_behind(siblings, child, place)? {
+        match self.type_behind(siblings, child, place, &mut visits)? {
             Some(at) => Ok(at),
             None => self.insert_found(siblings, child, place, &mut visits),
         }
@@ -411,11 +411,12 @@ impl Characters {
 
     /// Attaches a new child, and puts its character at the end of the cursor's run, where it goes on with that. The runs get it
     /// later. Answers its index in the text. Else nothing has changed.
-    fn type_behind(
+    fn type_behind<L: Ledger>(
         &mut self,
         siblings: &mut Siblings,
         child: &Child,
         place: Place,
+        visits: &mut Steps<L>,
     ) -> Result<Option<u32>, NoMem>
         requires new { IsNewChild self.old.records siblings.old child.now }
         ensures comes { IfOk result (λ o. IfSome o (Comes self.old.records self.new.records place child.now.lv)) }
@@ -432,6 +433,7 @@ impl Characters {
         };
         let at = cursor.shown();
         child.attach(siblings)?;
+        settle_struck(&mut self.runs, &cursor, &mut self.pending, visits);
         self.visible += 1;
         self.shown += 1;
         self.cursor = Some(cursor.typed(child));
@@ -464,7 +466,7 @@ impl Characters {
     }
 }
 
-/// Gives the runs what was typed at the cursor.
+/// Gives the runs what was typed or deleted at the cursor.
 fn settle<L: Ledger>(
     runs: &mut Runs,
     cursor: &Option<Cursor>,
@@ -472,6 +474,7 @@ fn settle<L: Ledger>(
     visits: &mut Steps<L>,
 )
     requires few { length (chars_in (settled runs.old.tree.pairs cursor.now)) ≤ 2 ^ 25 }
+    requires own { length (chars_in runs.old.tree.pairs) ≤ 2 ^ 25 }
     requires cursor { MayBeCursor (settled runs.old.tree.pairs cursor.now) cursor.now }
     requires told { pending.old ≡ false → settled runs.old.tree.pairs cursor.now ≡ runs.old.tree.pairs }
     ensures pairs { runs.new.tree.pairs ≡ settled runs.old.tree.pairs cursor.now }
@@ -487,6 +490,67 @@ fn settle<L: Ledger>(
     }
 }
 
+/// Gives the runs what is pending, where characters were deleted from the end of the cursor's run: the cursor lets go of these
+/// when one is typed there.
+fn settle_struck<L: Ledger>(
+    runs: &mut Runs,
+    cursor: &Cursor,
+    pending: &mut bool,
+    visits: &mut Steps<L>,
+)
+    requires few { length (chars_in (settled runs.old.tree.pairs (Some cursor.now))) ≤ 2 ^ 25 }
+    requires own { length (chars_in runs.old.tree.pairs) ≤ 2 ^ 25 }
+    requires cursor { IsCursor (settled runs.old.tree.pairs (Some cursor.now)) cursor.now }
+    requires told { pending.old ≡ false → settled runs.old.tree.pairs (Some cursor.now) ≡ runs.old.tree.pairs }
+    ensures end { changed runs.new.tree.pairs cursor.now.label cursor.now.run ≡ settled runs.old.tree.pairs (Some cursor.now) }
+    ensures own { length (chars_in runs.new.tree.pairs) ≤ 2 ^ 25 }
+    ensures labels { runs.new.labels ≡ runs.old.labels }
+{
+    if cursor.struck.is_some() {
+        settle(runs, &Some(*cursor), pending, visits);
+        let _runs = runs.count();
+    }
+}
+
+/// Deletes the last character of a cursor's run, which has others: it goes over to the struck ones behind it, and that is
+/// pending. The first of these becomes a run of its own among the runs, which get what is pending before. Answers the struck
+/// ones, or None where the character has to be deleted in another way.
+fn strike_last<L: Ledger>(
+    runs: &mut Runs,
+    cursor: &Cursor,
+    pending: &mut bool,
+    visits: &mut Steps<L>,
+) -> Result<Option<Struck>, NoMem>
+    requires laid { AreLabelled (settled runs.old.tree.pairs (Some cursor.now)) runs.old.labels }
+    requires cursor { IsCursor (settled runs.old.tree.pairs (Some cursor.now)) cursor.now }
+    requires long { 1 < cursor.now.run.len }
+    requires few { length (chars_in (settled runs.old.tree.pairs (Some cursor.now))) ≤ 2 ^ 25 }
+    requires own { length (chars_in runs.old.tree.pairs) ≤ 2 ^ 25 }
+    requires told { pending.old ≡ false → settled runs.old.tree.pairs (Some cursor.now) ≡ runs.old.tree.pairs }
+    ensures laid { IfOk result (λ o. IfSome o (λ s. AreLabelled (with_end runs.new.tree.pairs cursor.now.label (shorter cursor.now.run) (Some s)) runs.new.labels)) }
+    ensures chars { IfOk result (λ o. IfSome o (λ s. chars_in (with_end runs.new.tree.pairs cursor.now.label (shorter cursor.now.run) (Some s)) ≡ map (changed_at (last_of cursor.now.run) changes.Strike) (chars_in (settled runs.old.tree.pairs (Some cursor.now))))) }
+    ensures gave { IfOk result (λ o. IfSome o (λ s. GaveEnd (settled runs.old.tree.pairs (Some cursor.now)) (with_end runs.new.tree.pairs cursor.now.label (shorter cursor.now.run) (Some s)) cursor.now s)) }
+    ensures told { IfOk result (λ o. IfSome o (λ s. pending.new ≡ false → with_end runs.new.tree.pairs cursor.now.label (shorter cursor.now.run) (Some s) ≡ runs.new.tree.pairs)) }
+    ensures none { IfOk result (λ o. IfNone o (SettleSame runs.old.tree.pairs runs.new.tree.pairs runs.new.labels cursor.now pending.new)) }
+    ensures err { OnErr result (SettleSame runs.old.tree.pairs runs.new.tree.pairs runs.new.labels cursor.now pending.new) }
+    ensures own { length (chars_in runs.new.tree.pairs) ≤ 2 ^ 25 }
+{
+    match cursor.struck {
+        Some(struck) => {
+            let struck = runs.shift_end(cursor, struck)?;
+            *pending = true;
+            Ok(Some(struck))
+        }
+        None => {
+            settle(runs, &Some(*cursor), pending, visits);
+            let _was = runs.count();
+            let struck = runs.cut_end(cursor, visits)?;
+            let _runs = runs.count();
+            Ok(struck)
+        }
+    }
+}
+
 /// The visible character with this index: the cursor's, or else one that is searched for, and the cursor comes to it where it is
 /// the last of its run and in the text. Else there is none.
 fn find<L: Ledger>(
@@ -499,12 +563,14 @@ fn find<L: Ledger>(
     requires within { at < total prepared_of (settled runs.old.tree.pairs cursor.old) }
     requires index { at + 1 < 2 ^ 32 }
     requires few { length (chars_in (settled runs.old.tree.pairs cursor.old)) ≤ 2 ^ 25 }
+    requires own { length (chars_in runs.old.tree.pairs) ≤ 2 ^ 25 }
     requires cursor { MayBeCursor (settled runs.old.tree.pairs cursor.old) cursor.old }
     requires told { pending.old ≡ false → settled runs.old.tree.pairs cursor.old ≡ runs.old.tree.pairs }
     ensures same { settled runs.new.tree.pairs cursor.new ≡ settled runs.old.tree.pairs cursor.old }
     ensures labels { runs.new.labels ≡ runs.old.labels }
     ensures cursor { MayBeCursor (settled runs.old.tree.pairs cursor.old) cursor.new }
     ensures told { pending.new ≡ false → settled runs.old.tree.pairs cursor.old ≡ runs.new.tree.pairs }
+    ensures own { length (chars_in runs.new.tree.pairs) ≤ 2 ^ 25 }
     ensures place { IsPlace prepared_of (settled runs.old.tree.pairs cursor.old) at result.spot.label result.spot.offset }
     ensures held { Contains (settled runs.old.tree.pairs cursor.old) (result.spot.label, result.run) }
     ensures inside { result.spot.offset < result.run.len }

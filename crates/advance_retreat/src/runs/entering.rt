@@ -1,11 +1,12 @@
 //! Characters of new children that come in.
 
-ghost use Rattle.std.specs.Prelude.{◌≡◌, ◌+◌, ◌<◌, ◌≤◌, ◌^◌, Bool, true, [], ◌∷◌, ◌++◌, IfOk, IfSome, OnOk, OnErr, length, Contains};
+ghost use Rattle.std.specs.Prelude.{◌≡◌, ◌+◌, ◌<◌, ◌≤◌, ◌^◌, Bool, true, [], ◌∷◌, ◌++◌, IfOk, IfSome, Some, OnOk, OnErr, length, Contains};
 ghost use Rattle.ew_model.specs.declared.node.Node.{Node as Nodes};
 ghost use Rattle.ew_model.specs.declared.node.Node.TheVariants as nodes;
 ghost use Rattle.walker_record.specs.Stretches.{effect_of, is_continued, joined_of};
 ghost use Rattle.fugue_place.specs.declared.neighbour.Place.TheVariants as place;
-ghost use Rattle.order_tree.specs.Pairs.{HasRoom, labels, changed, total, lower, up_to, runs};
+ghost use Rattle.order_tree.specs.Pairs.{HasRoom, changed, total, lower, up_to, runs};
+ghost use Rattle.advance_retreat.specs.Cursors.{IsCursor, settled};
 ghost use Rattle.advance_retreat.specs.Entering.{run_of, attached_by, IsNewChild, EntersAt};
 ghost use Rattle.advance_retreat.specs.Laid.{Stands, AreLabelled, chars_in};
 ghost use Rattle.advance_retreat.specs.Loose.{loose_in, loose_parted};
@@ -57,13 +58,18 @@ impl Runs {
         Ok(self.shown_before(own, visits))
     }
 
-    /// Has a cursor's run stand under its label as the cursor has it.
+    /// Has a cursor's run stand under its label as the cursor has it, and so what was deleted from its end.
     pub fn take_in<L: Ledger>(&mut self, cursor: &Cursor, visits: &mut Steps<L>)
-        requires held { Contains (labels self.old.tree.pairs) cursor.now.label }
-        requires few { length (chars_in (changed self.old.tree.pairs cursor.now.label cursor.now.run)) < 2 ^ 32 }
-        ensures pairs { self.new.tree.pairs ≡ changed self.old.tree.pairs cursor.now.label cursor.now.run }
+        requires at { IsCursor (settled self.old.tree.pairs (Some cursor.now)) cursor.now }
+        requires few { length (chars_in (settled self.old.tree.pairs (Some cursor.now))) ≤ 2 ^ 25 }
+        requires own { length (chars_in self.old.tree.pairs) ≤ 2 ^ 25 }
+        ensures pairs { self.new.tree.pairs ≡ settled self.old.tree.pairs (Some cursor.now) }
         ensures labels { self.new.labels ≡ self.old.labels }
     {
+        let _runs = self.tree.runs();
+        if let Some(struck) = &cursor.struck {
+            self.tree.change(struck.label, struck.run, visits);
+        }
         self.tree.change(cursor.label, cursor.run, visits);
     }
 

@@ -1,11 +1,11 @@
 //! Characters that are deleted from the end of a run, or from its front, and go over to others that were.
 
-ghost use Rattle.std.specs.Prelude.{◌≡◌, ◌+◌, ◌≤◌, ◌<◌, ◌^◌, Bool, true, IfSome, IfNone, IfOk, OnOk, OnErr, IsTrue, None, length, map, Contains};
+ghost use Rattle.std.specs.Prelude.{◌≡◌, ◌+◌, ◌≤◌, ◌<◌, ◌^◌, Bool, true, IfSome, IfNone, IfOk, OnOk, OnErr, IsTrue, Some, None, length, map, Contains};
 ghost use Rattle.ew_model.specs.declared.node.Node.{Node as Nodes};
 ghost use Rattle.ew_model.specs.declared.node.Node.TheVariants as nodes;
 ghost use Rattle.order_tree.specs.Pairs.{runs};
 ghost use Rattle.advance_retreat.specs.declared.change.Change.TheVariants as changes;
-ghost use Rattle.advance_retreat.specs.Cursors.{IsCursor, GaveEnd, StandsAhead, last_of, struck_with};
+ghost use Rattle.advance_retreat.specs.Cursors.{IsCursor, GaveEnd, StandsAhead, last_of, shorter, struck_with, with_end, settled};
 ghost use Rattle.advance_retreat.specs.Kept.{is_inserted, knows, changed_at};
 ghost use Rattle.advance_retreat.specs.Labelled.{label_of, GoesOver};
 ghost use Rattle.advance_retreat.specs.Laid.{AreLabelled, chars_in};
@@ -24,46 +24,20 @@ use std::sync::ledger::Ledger;
 use walker_record::Record;
 
 impl Runs {
-    /// Deletes the last character of a cursor's run, which has others: it goes over to the struck ones behind it. Answers those,
-    /// or None where it has to be deleted in another way, since no label is free or there are 2^32 - 1 runs. After an error for
-    /// want of memory, and after None, nothing has changed.
-    pub fn delete_last<L: Ledger>(
-        &mut self,
-        cursor: &Cursor,
-        visits: &mut Steps<L>,
-    ) -> Result<Option<Struck>, NoMem>
-        requires laid { AreLabelled self.old.tree.pairs self.old.labels }
-        requires at { IsCursor self.old.tree.pairs cursor.now }
-        requires long { 1 < cursor.now.run.len }
-        requires few { length (chars_in self.old.tree.pairs) ≤ 2 ^ 25 }
-        ensures laid { AreLabelled self.new.tree.pairs self.new.labels }
-        ensures chars { IfOk result (λ o. IfSome o (λ _. chars_in self.new.tree.pairs ≡ map (changed_at (last_of cursor.now.run) changes.Strike) (chars_in self.old.tree.pairs))) }
-        ensures gave { IfOk result (λ o. IfSome o (GaveEnd self.old.tree.pairs self.new.tree.pairs cursor.now)) }
-        ensures none { IfOk result (λ o. IfNone o (self.new.tree ≡ self.old.tree)) }
-        ensures err { OnErr result (self.new.tree ≡ self.old.tree) }
-    {
-        match cursor.struck {
-            Some(struck) => Ok(Some(self.shift_end(cursor, struck, visits)?)),
-            None => self.cut_end(cursor, visits),
-        }
-    }
-
-    /// Has the last character of a cursor's run go over to the struck ones right behind it.
-    fn shift_end<L: Ledger>(
-        &mut self,
-        cursor: &Cursor,
-        struck: Struck,
-        visits: &mut Steps<L>,
-    ) -> Result<Struck, NoMem>
-        requires laid { AreLabelled self.old.tree.pairs self.old.labels }
-        requires at { IsCursor self.old.tree.pairs cursor.now }
+    /// Has the last character of a cursor's run, which has others, go over to the struck ones right behind it. Only the labels
+    /// are told of that: the runs get the struck ones and the shorter run later. After an error for want of memory nothing has
+    /// changed.
+    pub fn shift_end(&mut self, cursor: &Cursor, struck: Struck) -> Result<Struck, NoMem>
+        requires laid { AreLabelled (settled self.old.tree.pairs (Some cursor.now)) self.old.labels }
+        requires at { IsCursor (settled self.old.tree.pairs (Some cursor.now)) cursor.now }
         requires behind { cursor.now.struck ≡ Some struck }
         requires long { 1 < cursor.now.run.len }
-        requires few { length (chars_in self.old.tree.pairs) ≤ 2 ^ 25 }
-        ensures laid { AreLabelled self.new.tree.pairs self.new.labels }
-        ensures chars { IfOk result (λ _. chars_in self.new.tree.pairs ≡ map (changed_at (last_of cursor.now.run) changes.Strike) (chars_in self.old.tree.pairs)) }
-        ensures gave { IfOk result (GaveEnd self.old.tree.pairs self.new.tree.pairs cursor.now) }
-        ensures err { OnErr result (self.new.tree ≡ self.old.tree) }
+        requires few { length (chars_in (settled self.old.tree.pairs (Some cursor.now))) ≤ 2 ^ 25 }
+        ensures same { self.new.tree ≡ self.old.tree }
+        ensures laid { IfOk result (λ s. AreLabelled (with_end self.new.tree.pairs cursor.now.label (shorter cursor.now.run) (Some s)) self.new.labels) }
+        ensures chars { IfOk result (λ s. chars_in (with_end self.new.tree.pairs cursor.now.label (shorter cursor.now.run) (Some s)) ≡ map (changed_at (last_of cursor.now.run) changes.Strike) (chars_in (settled self.old.tree.pairs (Some cursor.now)))) }
+        ensures gave { IfOk result (λ s. GaveEnd (settled self.old.tree.pairs (Some cursor.now)) (with_end self.new.tree.pairs cursor.now.label (shorter cursor.now.run) (Some s)) cursor.now s) }
+        ensures err { OnErr result (AreLabelled (settled self.new.tree.pairs (Some cursor.now)) self.new.labels) }
     {
         let _runs = self.tree.runs();
         let node = cursor.last_node();
@@ -73,16 +47,16 @@ impl Runs {
             len: struck.run.len + 1,
             ..struck.run
         };
-        self.tree.change(struck.label, run, visits);
-        self.tree.change(cursor.label, cursor.shorter(), visits);
         Ok(Struck {
             label: struck.label,
             run,
         })
     }
 
-    /// Makes a struck run of the last character of a cursor's run, where a label is free behind it.
-    fn cut_end<L: Ledger>(
+    /// Makes a struck run of the last character of a cursor's run, which has others. Answers that run, or None where the
+    /// character has to be deleted in another way, since no label is free behind it or there are 2^32 - 1 runs. After an error
+    /// for want of memory, and after None, nothing has changed.
+    pub fn cut_end<L: Ledger>(
         &mut self,
         cursor: &Cursor,
         visits: &mut Steps<L>,

@@ -45,12 +45,9 @@ invariant_of-self-2 g c =
     let counts : Recounted (chars_in c.settle.new.runs.tree.pairs) (chars_in c.change.new.self.tree.pairs) c.in-Some.altered =
     subst (λ (o : Option Altered). IfSome o (Recounted (chars_in c.settle.new.runs.tree.pairs) (chars_in c.change.new.self.tree.pairs))) c.in-Some.is c.in_ok-altered.ensures.recounted in
     let inside = c.self.inside in
-    record {
-      counted = counted_again c.settle.new.runs.tree.pairs c.settle.new.runs.labels inside.visible inside.shown (now_counted inside.runs.tree.pairs c.settle.new.runs.tree.pairs inside.runs.labels c.settle.new.runs.labels inside.visible inside.shown inside.cursor inside.pending c.self.invariant c.settle.ensures.pairs c.settle.ensures.labels) c.change.new.self.tree.pairs c.in-Some.altered counts c.change.new.self.labels
-          c.visible-self-inside.result c.shown-self-inside.result c.change.ensures.laid c.visible-self-inside.ensures c.shown-self-inside.ensures;
-      cursor = tt;
-      told = λ e. refl;
-    }
+    let counted = counted_again c.settle.new.runs.tree.pairs c.settle.new.runs.labels inside.visible inside.shown (now_counted inside.runs.tree.pairs c.settle.new.runs.tree.pairs inside.runs.labels c.settle.new.runs.labels inside.visible inside.shown inside.cursor inside.pending c.self.invariant c.settle.ensures.pairs c.settle.ensures.labels) c.change.new.self.tree.pairs c.in-Some.altered counts c.change.new.self.labels
+    c.visible-self-inside.result c.shown-self-inside.result c.change.ensures.laid c.visible-self-inside.ensures c.shown-self-inside.ensures in
+    record { counted = counted; cursor = tt; told = λ e. refl; few = counted.few }
 
 pub returns-in_default-clause-was : goal.returns-in_default-clause-was
 returns-in_default-clause-was g c =

@@ -34,12 +34,9 @@ shown-self-inside-requires-clause-few g c =
 pub invariant_of-self-2 : goal.invariant_of-self-2
 invariant_of-self-2 g c =
     let inside = c.self.inside in
-    record {
-      counted = counted_again c.settle.new.runs.tree.pairs c.settle.new.runs.labels inside.visible inside.shown (now_counted inside.runs.tree.pairs c.settle.new.runs.tree.pairs inside.runs.labels c.settle.new.runs.labels inside.visible inside.shown inside.cursor inside.pending c.self.invariant c.settle.ensures.pairs c.settle.ensures.labels) c.change_run.new.self.tree.pairs c.in_ok-recast.recast.altered c.in_ok-recast.ensures.recounted c.change_run.new.self.labels
-          c.visible-self-inside.result c.shown-self-inside.result c.change_run.ensures.laid c.visible-self-inside.ensures c.shown-self-inside.ensures;
-      cursor = tt;
-      told = λ e. refl;
-    }
+    let counted = counted_again c.settle.new.runs.tree.pairs c.settle.new.runs.labels inside.visible inside.shown (now_counted inside.runs.tree.pairs c.settle.new.runs.tree.pairs inside.runs.labels c.settle.new.runs.labels inside.visible inside.shown inside.cursor inside.pending c.self.invariant c.settle.ensures.pairs c.settle.ensures.labels) c.change_run.new.self.tree.pairs c.in_ok-recast.recast.altered c.in_ok-recast.ensures.recounted c.change_run.new.self.labels
+    c.visible-self-inside.result c.shown-self-inside.result c.change_run.ensures.laid c.visible-self-inside.ensures c.shown-self-inside.ensures in
+    record { counted = counted; cursor = tt; told = λ e. refl; few = counted.few }
 
 pub returns-clause-was : goal.returns-clause-was
 returns-clause-was g c = λ n low high.

@@ -48,9 +48,9 @@ deletion-requires-clause-before g c =
 pub invariant_of-self : goal.invariant_of-self
 invariant_of-self g c =
     let inside = c.self.inside in
-    now_kept c.find-found.new.runs.tree.pairs c.settle.new.runs.tree.pairs c.find-found.new.runs.labels c.settle.new.runs.labels inside.visible inside.shown c.find-found.new.cursor c.find-found.new.pending (kept_again inside.runs.tree.pairs c.find-found.new.runs.tree.pairs inside.runs.labels c.find-found.new.runs.labels inside.visible inside.shown inside.cursor c.find-found.new.cursor inside.pending c.find-found.new.pending c.self.invariant c.find-found.ensures.same c.find-found.ensures.labels c.find-found.ensures.cursor c.find-found.ensures.told) c.settle.ensures.pairs c.settle.ensures.labels c.count-runs.ensures.rising c.settle.new.pending
+    now_kept c.find-found.new.runs.tree.pairs c.settle.new.runs.tree.pairs c.find-found.new.runs.labels c.settle.new.runs.labels inside.visible inside.shown c.find-found.new.cursor c.find-found.new.pending (kept_again inside.runs.tree.pairs c.find-found.new.runs.tree.pairs inside.runs.labels c.find-found.new.runs.labels inside.visible inside.shown inside.cursor c.find-found.new.cursor inside.pending c.find-found.new.pending c.self.invariant c.find-found.ensures.same c.find-found.ensures.labels c.find-found.ensures.cursor c.find-found.ensures.told c.find-found.ensures.own) c.settle.ensures.pairs c.settle.ensures.labels c.count-runs.ensures.rising c.settle.new.pending
 
 pub returns-clause-same : goal.returns-clause-same
 returns-clause-same g c =
     let inside = c.self.inside in
-    ap in_runs (now_same c.find-found.new.runs.tree.pairs c.settle.new.runs.tree.pairs c.find-found.new.runs.labels c.settle.new.runs.labels inside.visible inside.shown c.find-found.new.cursor c.find-found.new.pending (kept_again inside.runs.tree.pairs c.find-found.new.runs.tree.pairs inside.runs.labels c.find-found.new.runs.labels inside.visible inside.shown inside.cursor c.find-found.new.cursor inside.pending c.find-found.new.pending c.self.invariant c.find-found.ensures.same c.find-found.ensures.labels c.find-found.ensures.cursor c.find-found.ensures.told) c.settle.ensures.pairs c.settle.ensures.labels c.count-runs.ensures.rising ∙ c.find-found.ensures.same) ∙ c.self.view_is
+    ap in_runs (now_same c.find-found.new.runs.tree.pairs c.settle.new.runs.tree.pairs c.find-found.new.runs.labels c.settle.new.runs.labels inside.visible inside.shown c.find-found.new.cursor c.find-found.new.pending (kept_again inside.runs.tree.pairs c.find-found.new.runs.tree.pairs inside.runs.labels c.find-found.new.runs.labels inside.visible inside.shown inside.cursor c.find-found.new.cursor inside.pending c.find-found.new.pending c.self.invariant c.find-found.ensures.same c.find-found.ensures.labels c.find-found.ensures.cursor c.find-found.ensures.told c.find-found.ensures.own) c.settle.ensures.pairs c.settle.ensures.labels c.count-runs.ensures.rising ∙ c.find-found.ensures.same) ∙ c.self.view_is

@@ -64,7 +64,7 @@ returns-clause-hold g c =
 pub invariant_of-self : goal.invariant_of-self
 invariant_of-self g c =
     let inside = c.self.inside in
-    kept_again inside.runs.tree.pairs c.find-found.new.runs.tree.pairs inside.runs.labels c.find-found.new.runs.labels inside.visible inside.shown inside.cursor c.find-found.new.cursor inside.pending c.find-found.new.pending c.self.invariant c.find-found.ensures.same c.find-found.ensures.labels c.find-found.ensures.cursor c.find-found.ensures.told
+    kept_again inside.runs.tree.pairs c.find-found.new.runs.tree.pairs inside.runs.labels c.find-found.new.runs.labels inside.visible inside.shown inside.cursor c.find-found.new.cursor inside.pending c.find-found.new.pending c.self.invariant c.find-found.ensures.same c.find-found.ensures.labels c.find-found.ensures.cursor c.find-found.ensures.told c.find-found.ensures.own
 
 pub returns-then-not-has_known_right-clause-same : goal.returns-then-not-has_known_right-clause-same
 returns-then-not-has_known_right-clause-same g c = ap in_runs c.find-found.ensures.same ∙ c.self.view_is
@@ -73,10 +73,10 @@ pub invariant_of-self-2 : goal.invariant_of-self-2
 invariant_of-self-2 g c =
     let inside = c.self.inside in
     let rises = subst (λ (qs : List (ℕ × Stretch)). IsRising qs) (sym c.settle.ensures.pairs) (settled_rising c.find-found.new.runs.tree.pairs c.find-found.new.cursor c.count-runs.ensures.rising) in
-    now_kept c.find-found.new.runs.tree.pairs c.settle.new.runs.tree.pairs c.find-found.new.runs.labels c.settle.new.runs.labels inside.visible inside.shown c.find-found.new.cursor c.find-found.new.pending (kept_again inside.runs.tree.pairs c.find-found.new.runs.tree.pairs inside.runs.labels c.find-found.new.runs.labels inside.visible inside.shown inside.cursor c.find-found.new.cursor inside.pending c.find-found.new.pending c.self.invariant c.find-found.ensures.same c.find-found.ensures.labels c.find-found.ensures.cursor c.find-found.ensures.told) c.settle.ensures.pairs c.settle.ensures.labels rises c.settle.new.pending
+    now_kept c.find-found.new.runs.tree.pairs c.settle.new.runs.tree.pairs c.find-found.new.runs.labels c.settle.new.runs.labels inside.visible inside.shown c.find-found.new.cursor c.find-found.new.pending (kept_again inside.runs.tree.pairs c.find-found.new.runs.tree.pairs inside.runs.labels c.find-found.new.runs.labels inside.visible inside.shown inside.cursor c.find-found.new.cursor inside.pending c.find-found.new.pending c.self.invariant c.find-found.ensures.same c.find-found.ensures.labels c.find-found.ensures.cursor c.find-found.ensures.told c.find-found.ensures.own) c.settle.ensures.pairs c.settle.ensures.labels rises c.settle.new.pending
 
 pub returns-clause-same : goal.returns-clause-same
 returns-clause-same g c =
     let inside = c.self.inside in
     let rises = subst (λ (qs : List (ℕ × Stretch)). IsRising qs) (sym c.settle.ensures.pairs) (settled_rising c.find-found.new.runs.tree.pairs c.find-found.new.cursor c.count-runs.ensures.rising) in
-    ap in_runs (now_same c.find-found.new.runs.tree.pairs c.settle.new.runs.tree.pairs c.find-found.new.runs.labels c.settle.new.runs.labels inside.visible inside.shown c.find-found.new.cursor c.find-found.new.pending (kept_again inside.runs.tree.pairs c.find-found.new.runs.tree.pairs inside.runs.labels c.find-found.new.runs.labels inside.visible inside.shown inside.cursor c.find-found.new.cursor inside.pending c.find-found.new.pending c.self.invariant c.find-found.ensures.same c.find-found.ensures.labels c.find-found.ensures.cursor c.find-found.ensures.told) c.settle.ensures.pairs c.settle.ensures.labels rises ∙ c.find-found.ensures.same) ∙ c.self.view_is
+    ap in_runs (now_same c.find-found.new.runs.tree.pairs c.settle.new.runs.tree.pairs c.find-found.new.runs.labels c.settle.new.runs.labels inside.visible inside.shown c.find-found.new.cursor c.find-found.new.pending (kept_again inside.runs.tree.pairs c.find-found.new.runs.tree.pairs inside.runs.labels c.find-found.new.runs.labels inside.visible inside.shown inside.cursor c.find-found.new.cursor inside.pending c.find-found.new.pending c.self.invariant c.find-found.ensures.same c.find-found.ensures.labels c.find-found.ensures.cursor c.find-found.ensures.told c.find-found.ensures.own) c.settle.ensures.pairs c.settle.ensures.labels rises ∙ c.find-found.ensures.same) ∙ c.self.view_is
