@@ -1,13 +1,13 @@
--- Runs to which the cursor's own, and what was deleted from its end, are still to be told.
-use Rattle.std.proofs.Common.{◌≡◌, ℕ, zero, suc, ◌<◌, ◌≤◌, ◌^◌, List, [], ◌∷◌, length, Contains, Option, Some, slice_index_or, sym, ap, subst, arith}
+-- Runs to which the cursor's own, and what was deleted from its end, are still to be told, and characters found among them.
+use Rattle.std.proofs.Common.{◌≡◌, ℕ, zero, suc, ◌+◌, ◌<◌, ◌≤◌, ◌^◌, List, [], ◌∷◌, length, Contains, Option, Some, slice_index_or, sym, ap, subst, arith}
 use Rattle.std.proofs.lemmas.List.Elements.{Contains-append_right}
-use Rattle.walker_record.specs.Stretches.{Stretch}
-use Rattle.order_tree.specs.Pairs.{IsRising, labels, changed}
+use Rattle.walker_record.specs.Stretches.{Stretch, effect_of}
+use Rattle.order_tree.specs.Pairs.{IsRising, labels, lower, total, changed}
 use Rattle.advance_retreat.specs.declared.cursor.Cursor.{Cursor}
 use Rattle.advance_retreat.specs.declared.cursor.Struck.{Struck}
 use Rattle.advance_retreat.specs.Cursors.{StandsBehind, IsCursor, settled}
 use Rattle.advance_retreat.specs.Laid.{chars_in}
-use Rattle.advance_retreat.proofs.AlteredChars.{altered_long, long_total}
+use Rattle.advance_retreat.proofs.AlteredChars.{altered_long, effect_most, long_total}
 use Rattle.advance_retreat.proofs.Settled.{behind_held, changed_labels, settled_label, settled_rising}
 use Rattle.advance_retreat.proofs.VisiblePlaces.{run_below}
 
@@ -42,3 +42,12 @@ module _ (ps : List (ℕ × Stretch)) (rising : IsRising ps) (c : Cursor) (at : 
         let all = long_total (settled ps (Some c)) in
         let part = run_below (λ (r : Stretch). r.len) (settled ps (Some c)) s.label s.run (settled_rising ps (Some c) rising) held in
         omega (arith, sum, all, part, few, own)
+
+-- so many of the text are ahead of a run, and of its own ahead of one, together fewer than all characters
+pub found_few : (ps : List (ℕ × Stretch)) (label offset : ℕ) (run : Stretch) → IsRising ps → Contains ps (label, run) → offset < run.len → total effect_of (lower ps label) + offset < length (chars_in ps)
+found_few ps label offset run rising held inside =
+    let below = run_below (λ (r : Stretch). r.len) ps label run rising held in
+    let all = long_total ps in
+    let low = long_total (lower ps label) in
+    let shown = effect_most (lower ps label) in
+    omega (arith, inside, below, all, low, shown)

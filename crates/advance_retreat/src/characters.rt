@@ -253,6 +253,7 @@ impl Characters {
         ensures same { self.new ≡ self.old }
     {
         let mut visits: Steps<L> = Steps::new(blank);
+        let _runs = self.runs.count();
         let found = find(
             &mut self.runs,
             &mut self.cursor,
@@ -260,11 +261,9 @@ impl Characters {
             at,
             &mut visits,
         );
-        settle(&mut self.runs, &self.cursor, &mut self.pending, &mut visits);
-        let _runs = self.runs.count();
         Deletion {
             node: found.node(),
-            op: self.runs.deletion(&found),
+            op: found.deletion(),
         }
     }
 

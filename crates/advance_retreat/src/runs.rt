@@ -1,9 +1,9 @@
 //! The runs of a state: a counted tree of them, and the label of each by its first node.
 
-ghost use Rattle.std.specs.Prelude.{◌≡◌, ◌<◌, ◌≤◌, [], None, IfOk, length};
+ghost use Rattle.std.specs.Prelude.{◌≡◌, ◌+◌, ◌<◌, ◌≤◌, ◌^◌, [], None, IfOk, length};
 ghost use Rattle.ew_model.specs.declared.node.Node.{Node as Nodes};
 ghost use Rattle.walker_record.specs.Stretches.{node_on};
-ghost use Rattle.advance_retreat.specs.Kept.{base_records};
+ghost use Rattle.advance_retreat.specs.Kept.{base_records, deletion_by};
 ghost use Rattle.advance_retreat.specs.Labelled.{label_of};
 ghost use Rattle.advance_retreat.specs.Laid.{AreLabelled, chars_in};
 
@@ -24,6 +24,7 @@ pub use child::Child;
 use ew_model::NoMem;
 use ew_model::node::Node;
 use ew_model::steps::Steps;
+use ew_model::text_op::TextOp;
 use order_tree::OrderTree;
 use std::alloc::Global;
 use std::sync::ledger::Ledger;
@@ -58,6 +59,20 @@ impl Found {
         ensures { result ≡ node_on self.now.run.from self.now.spot.offset }
     {
         node_at(&self.run, self.spot.offset)
+    }
+
+    /// What its deletion does to the text.
+    pub fn deletion(&self) -> TextOp
+        requires { self.now.before + self.now.spot.offset < 2 ^ 32 }
+        ensures { result ≡ deletion_by self.now.run.effect (self.now.before + self.now.spot.offset) }
+    {
+        if self.run.effect {
+            TextOp::Del {
+                at: self.before + self.spot.offset,
+            }
+        } else {
+            TextOp::Nothing
+        }
     }
 }
 

@@ -3,7 +3,6 @@
 ghost use Rattle.std.specs.Prelude.{◌≡◌, ◌<◌, ◌+◌, ℕ, IfSome, IfNone, ◌++◌, length, drop, Contains};
 ghost use Rattle.walker_record.specs.Stretches.{prepared_of, effect_of};
 ghost use Rattle.order_tree.specs.Pairs.{IsRising, total, labels, lower, greater, IsPlace};
-ghost use Rattle.advance_retreat.specs.Kept.{deletion_by};
 ghost use Rattle.advance_retreat.specs.Laid.{Stands, IsOffset, AreLabelled, records_of, chars_in};
 ghost use Rattle.advance_retreat.specs.Spots.{first_known};
 
@@ -11,7 +10,6 @@ use crate::offsets::{node_behind, offset_in};
 use crate::runs::{Found, Runs, Spot};
 use ew_model::node::Node;
 use ew_model::steps::Steps;
-use ew_model::text_op::TextOp;
 use std::sync::ledger::Ledger;
 use walker_record::Record;
 
@@ -101,22 +99,6 @@ impl Runs {
             run: *visible.run,
             before: visible.before,
         }
-    }
-
-    /// What the deletion of a character does to the text.
-    pub fn deletion(&self, found: &Found) -> TextOp
-        requires held { Contains self.now.tree.pairs (found.now.spot.label, found.now.run) }
-        requires inside { found.now.spot.offset < found.now.run.len }
-        requires before { found.now.before ≡ total effect_of (lower self.now.tree.pairs found.now.spot.label) }
-        ensures { result ≡ deletion_by found.now.run.effect (total effect_of (lower self.now.tree.pairs found.now.spot.label) + found.now.spot.offset) }
-    {
-        let _runs = self.tree.runs();
-        if found.run.effect {
-            return TextOp::Del {
-                at: found.before + found.spot.offset,
-            };
-        }
-        TextOp::Nothing
     }
 
     /// The first node behind a label's run that is inserted in what is prepared.
