@@ -24,7 +24,7 @@ module _ {R : Type 0} where
           (q ∷ rest.0, rest.1, ap (λ (ys : List (ℕ × R)). q ∷ ys) rest.2)
 
   -- where the parts are known
-  abbrev parted_by : (ps front back : List (ℕ × R)) (label : ℕ) (run : R) → IsRising ps → ps ≡ front ++ (label, run) ∷ back → Parted ps label run
+  abbrev pub parted_by : (ps front back : List (ℕ × R)) (label : ℕ) (run : R) → IsRising ps → ps ≡ front ++ (label, run) ∷ back → Parted ps label run
   parted_by ps front back label run rising is =
       let one : List (ℕ × R) = (label, run) ∷ [] in
       let rises : IsRising (front ++ (one ++ back)) = subst (λ (qs : List (ℕ × R)). IsRising qs) is rising in

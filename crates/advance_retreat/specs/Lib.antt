@@ -7,6 +7,7 @@ pub mod Laid
 pub mod Loose
 pub mod Refusals
 pub mod Replacing
+pub mod Resting
 pub mod Rights
 pub mod Rows
 pub mod Spots

@@ -16,6 +16,7 @@ ghost use Rattle.advance_retreat.specs.Entering.{attached_by, run_of, IsNewChild
 ghost use Rattle.advance_retreat.specs.Laid.{AreLabelled, chars_in, records_in};
 ghost use Rattle.advance_retreat.specs.Loose.{loose_in, is_told};
 ghost use Rattle.advance_retreat.specs.Replacing.{ArePart, changed_in};
+ghost use Rattle.advance_retreat.specs.Resting.{rested};
 ghost use Rattle.advance_retreat.specs.Rights.{counted};
 ghost use Rattle.advance_retreat.specs.Spots.{has_counted_right, IsHold, IsDeletion, Comes};
 
@@ -181,6 +182,14 @@ impl Characters {
     {
         let child = Child { hold, id, lv };
         self.insert_by::<Brand>(siblings, &child, place, Blank::new(1))
+    }
+
+    /// Has the states of all characters as they are where no event is prepared.
+    pub fn rest(&mut self)
+        ensures records { self.new.records ≡ map rested self.old.records }
+        ensures loose { (among : Nodes → Bool) → loose_in among self.new.runs ≡ loose_in among self.old.runs }
+    {
+        self.rest_by::<Brand>(Blank::new(1));
     }
 }
 
@@ -462,6 +471,19 @@ impl Characters {
         self.visible += 1;
         self.shown += 1;
         Ok(at)
+    }
+
+    fn rest_by<L: Ledger>(&mut self, blank: Blank)
+        requires name { blank.name ≡ L.name }
+        requires parts { blank.parts ≡ L.parts }
+        requires some { 0 < blank.parts }
+        ensures records { self.new.records ≡ map rested self.old.records }
+        ensures loose { (among : Nodes → Bool) → loose_in among self.new.runs ≡ loose_in among self.old.runs }
+    {
+        let mut visits: Steps<L> = Steps::new(blank);
+        settle(&mut self.runs, &self.cursor, &mut self.pending, &mut visits);
+        self.cursor = None;
+        self.visible = self.runs.rest(self.visible, &mut visits);
     }
 }
 

@@ -15,6 +15,7 @@ mod inserting;
 mod parting;
 mod reading;
 mod relabelling;
+mod resting;
 mod striking;
 
 use crate::labels::Labels;

@@ -6,7 +6,7 @@ use Rattle.std.proofs.lemmas.Bool.{le-ltb, eqb-true}
 use Rattle.std.proofs.lemmas.Option.{slice_get_past}
 use Rattle.advance_retreat.specs.declared.rows.Row.{Row}
 use Rattle.advance_retreat.specs.declared.rows.Rows.{Rows}
-use Rattle.advance_retreat.specs.Rows.{empty, in_line, kept_at, row_at, KeepsRows}
+use Rattle.advance_retreat.specs.Rows.{empty, kept_at, row_at, KeepsRows}
 use Rattle.advance_retreat.proofs.rows.Rows.push.Goals as goal
 
 -- the same rows are kept
