@@ -27,7 +27,7 @@ base_order n =
     sym (all_pass (λ (y : Inserted). not (is_deleted (based n) y.id)) (order (based n)) (all_from (λ (y : Inserted). not (is_deleted (based n) y.id) ≡ true) (order (based n)) (λ y m. ap not (base_kept n y.id))))
     ∙ base_visible n
 
-base_number : (b i : ℕ) → i < b → prepared_in (based b) (base_id i) ≡ 1
+pub base_number : (b i : ℕ) → i < b → prepared_in (based b) (base_id i) ≡ 1
 base_number b i lt =
     ap (λ c. cond c (suc (deletions_of (based b) (base_id i))) 0) (is_inserted_from (based b) (base_node i) (base_there b i lt))
     ∙ ap (λ es. suc (length es)) (base_struck b (base_id i))

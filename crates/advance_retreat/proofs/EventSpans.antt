@@ -20,7 +20,7 @@ is_false false h = refl
 pub event_is_in : (low high n : ℕ) → low ≤ n → n < high → is_event_in low high (Event n) ≡ true
 event_is_in low high n le lt = λ i. le-leb low n le i && lt-ltb n high lt i
 
-event_between : (low high n : ℕ) → is_event_in low high (Event n) ≡ true → (low ≤ n) × (n < high)
+pub event_between : (low high n : ℕ) → is_event_in low high (Event n) ≡ true → (low ≤ n) × (n < high)
 event_between low high n h =
     let parts = and_parts (nat_le low n) (nat_lt n high) h in
     (leb-true low n parts.0, ltb-true n high parts.1)

@@ -1,14 +1,19 @@
 -- The characters that events are about, found by the events' positions.
 use lib.Dec.{compare_is_eq}
 use Prim.Native.Nat.compare
-use Rattle.std.proofs.Common.{rules, ◌≡◌, ℕ, Bool, true, false, cond, ◌||◌, ◌&&◌, not, ◌-◌, zero, suc, Option, Some, None, List, [], ◌∷◌, ◌++◌, length, take, map, find, option_map, slice_get, nat_eq, if◌then◌else◌, refl, sym, ap, ◌∙◌, arith}
+use Rattle.std.proofs.Common.{rules, ◌≡◌, ℕ, Bool, true, false, cond, ⊎_elim, ◌||◌, ◌&&◌, not, ◌-◌, ◌<◌, ◌≤◌, zero, suc, Option, Some, None, List, [], ◌∷◌, ◌++◌, length, take, map, find, option_map, slice_get, nat_eq, nat_lt, if◌then◌else◌, refl, sym, ap, ◌∙◌, arith}
 use Rattle.std.specs.List.{list_any}
-use Rattle.std.specs.Option.{option_or}
-use Rattle.std.proofs.lemmas.Bool.{eqb-true, false≢true}
+use Rattle.std.specs.BTreeMap.{BTreeMap, get, is_at}
+use Rattle.std.specs.Map.{lookup}
+use Rattle.std.specs.Ordering.{nat_cmp}
+use Rattle.std.specs.Option.{option_or, option_map_or}
+use Rattle.std.proofs.lemmas.Option.{slice_get_cases}
+use Rattle.std.proofs.lemmas.Bool.{eqb-true, ltb-true, ltb-false, false≢true}
 use Rattle.ew_model.specs.declared.node.Node.{Node}
 use Rattle.ew_model.specs.Tree.{Applied, Noted}
+use Rattle.advance_retreat.specs.declared.change.Positions.{Positions}
 use Rattle.advance_retreat.specs.declared.target.Target.{Target}
-use Rattle.advance_retreat.specs.Kept.{Kept, target_at, place_in, is_next, node_for, found_in, AreFound}
+use Rattle.advance_retreat.specs.Kept.{Kept, target_at, place_in, is_next, node_for, found_in, AreFound, AreWithin}
 use Rattle.advance_retreat.specs.Standing.{kept_target, StandsFor}
 use Rattle.advance_retreat.specs.Conditions.{IsNewPosition}
 use Rattle.advance_retreat.proofs.Keeping.{notes}
@@ -153,3 +158,52 @@ last_gone xs ts t n is long =
     let all : length xs ≡ suc (length ts) = ap length is ∙ length-push ts t in
     let one : n - 1 ≡ length ts = omega (arith, long, all) in
     (λ i. take (one i) (is i)) ∙ front ts (t ∷ [])
+
+-- WITHIN SOME POSITIONS
+node_none : (v : Node) → None ≡ Some v → ⊥
+node_none v e = cc
+
+same_found : (t u : Target) → Some t ≡ Some u → t ≡ u
+same_found t u e = cc
+
+-- none is kept elsewhere
+pub none_elsewhere : (others : BTreeMap ℕ Node) → length others.entries ≡ 0 → (k : ℕ) → get nat_cmp others k ≡ None
+none_elsewhere others none k = at others.entries none
+  where
+    at : (es : List (ℕ × Node)) → length es ≡ 0 → lookup (is_at (nat_cmp k)) es ≡ None
+    at [] e = refl
+    at (x ∷ es) e = absurd (omega (arith, e))
+
+pub all_within : (ts : List Target) (at : Positions) (others : ℕ → Option Node) → ((n : ℕ) → others n ≡ None) → AreFound ts (found_in ts others) → AreWithin at (found_in ts (λ n. None)) → AreWithin at (target_at ts)
+all_within ts at others none found within n v e = within n v (ap (option_or (node_for n (slice_get ts (place_in ts n)))) (sym (none n)) ∙ found n ∙ e)
+
+pub none_within : (ts : List Target) (at : Positions) → slice_get ts 0 ≡ None → AreWithin at (found_in ts (λ n. None))
+none_within ts at none n v e =
+    absurd (node_none v (sym (ap (λ o. option_or (node_for n (slice_get ts (option_map_or (λ (t : Target). n - t.lv) o 0))) None) none ∙ ap (λ o. option_or (node_for n o) None) none) ∙ e))
+
+pub go_on : (ts : List Target) (at : Positions) (first : Target) → slice_get ts 0 ≡ Some first → at.from ≤ first.lv → length ts ≤ at.to - first.lv → AreWithin at (found_in ts (λ n. None))
+go_on ts at first is low long n v e = by (slice_get ts (n - first.lv)) refl (ap (λ o. option_or (node_for n (slice_get ts (option_map_or (λ (t : Target). n - t.lv) o 0))) None) (sym is) ∙ e)
+  where
+    between : (t : Target) → slice_get ts (n - first.lv) ≡ Some t → t.lv ≡ n → (at.from ≤ n) × (n < at.to)
+    between t there own = either (nat_lt n first.lv) refl
+      where
+        inside : n - first.lv < length ts
+        inside = ⊎_elim (λ some. some.1) (λ none. absurd (some_none t (sym there ∙ none.1))) (slice_get_cases ts (n - first.lv)).1
+
+        either : (b : Bool) → nat_lt n first.lv ≡ b → (at.from ≤ n) × (n < at.to)
+        either true before =
+            let lt = ltb-true n first.lv before in
+            let zero : 0 ≡ n - first.lv = omega (arith, lt) in
+            let same : first.lv ≡ t.lv = ap (λ (u : Target). u.lv) (same_found first t (sym is ∙ ap (slice_get ts) zero ∙ there)) in
+            absurd (omega (arith, lt, same, own))
+        either false behind =
+            let le = ltb-false n first.lv behind in
+            (omega (arith, le, low), omega (arith, le, inside, long))
+
+    by : (o : Option Target) → slice_get ts (n - first.lv) ≡ o → option_or (node_for n o) None ≡ Some v → (at.from ≤ n) × (n < at.to)
+    by None f h = absurd (node_none v h)
+    by (Some t) f h = named (nat_eq t.lv n) refl h
+      where
+        named : (b : Bool) → nat_eq t.lv n ≡ b → option_or (if b then Some t.node else None) None ≡ Some v → (at.from ≤ n) × (n < at.to)
+        named true g h = between t f (eqb-true t.lv n g)
+        named false g h = absurd (node_none v h)

@@ -55,7 +55,8 @@ pub mod Putting
 pub mod Recorded
 pub mod Renamed
 pub mod Replaced
-pub mod RestedRuns
+pub mod Resting
+pub mod RestingRights
 pub mod RightChildren
 pub mod RightCounts
 pub mod RightKeeping

@@ -52,7 +52,7 @@ module _ {X : Type 0} where
   count_has p (y ∷ xs) x (inl is) = let own : one_if (p x) ≡ one_if (p y) = ap (λ (z : X). one_if (p z)) is in omega (arith, own, count-cons p y xs)
   count_has p (y ∷ xs) x (inr m) = omega (arith, count_has p xs x m, count-cons p y xs)
 
-  count_none : (p : X → Bool) (xs : List X) → ((x : X) → Among x xs → p x ≡ false) → count p xs ≡ 0
+  pub count_none : (p : X → Bool) (xs : List X) → ((x : X) → Among x xs → p x ≡ false) → count p xs ≡ 0
   count_none p [] none = refl
   count_none p (x ∷ xs) none = let rest = count_none p xs (λ y m. none y (inr m)) in ap (λ (b : Bool). length (cond b (x ∷ filter p xs) (filter p xs))) (none x (inl refl)) ∙ rest
 

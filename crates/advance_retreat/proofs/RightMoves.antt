@@ -59,7 +59,7 @@ hangs_else a w other true e = at (node_eq a.parent w) refl (side_eq a.side right
 abbrev tells : List Stretch → Node → Attached → Bool
 tells rs p a = is_child p right a && knows rs a.node
 
-decided : (o : Option Node) (w : Node) → (o ≡ Some w) ⊎ (o ≡ Some w → ⊥)
+pub decided : (o : Option Node) (w : Node) → (o ≡ Some w) ⊎ (o ≡ Some w → ⊥)
 decided None w = inr (none_some w)
 decided (Some v) w = at (node_eq v w) refl
   where

@@ -39,7 +39,7 @@ range_first low high lt = let long : high - low ≡ suc (high - (low + 1)) = ome
 pub falling_parted : (low mid high : ℕ) → low ≤ mid → mid ≤ high → reverse (range_with_len low (high - low)) ≡ reverse (range_with_len mid (high - mid)) ++ reverse (range_with_len low (mid - low))
 falling_parted low mid high le more = ap reverse (range_parted low mid high le more) ∙ reverse-append (range_with_len low (mid - low)) (range_with_len mid (high - mid))
 
-falling_more : (from n : ℕ) → reverse (range_with_len from (suc n)) ≡ (from + n) ∷ reverse (range_with_len from n)
+pub falling_more : (from n : ℕ) → reverse (range_with_len from (suc n)) ≡ (from + n) ∷ reverse (range_with_len from n)
 falling_more from n =
     let more : suc n ≡ n + 1 = omega arith in
     ap (λ (k : ℕ). reverse (range_with_len from k)) more ∙ ap reverse (range_joined from n 1) ∙ reverse-append (range_with_len from n) ((from + n) ∷ [])

@@ -1,5 +1,5 @@
 -- What a state keeps: a record for each character, in order, and which character each event is about.
-use Rattle.std.specs.Prelude.{◌≡◌, ℕ, zero, suc, ◌+◌, ◌-◌, ◌<◌, ◌^◌, nat_eq, nat_lt, Bool, true, false, ◌&&◌, if◌then◌else◌, List, [], ◌∷◌, ◌++◌, map, filter, find, length, Option, Some, None, option_map, slice_get}
+use Rattle.std.specs.Prelude.{◌≡◌, ℕ, zero, suc, ◌+◌, ◌-◌, ◌<◌, ◌≤◌, ◌^◌, nat_eq, nat_lt, Bool, true, false, ◌&&◌, if◌then◌else◌, List, [], ◌∷◌, ◌++◌, map, filter, find, length, Option, Some, None, option_map, slice_get}
 use Rattle.std.specs.Option.{option_or, option_map_or}
 use Rattle.std.specs.List.{list_any}
 use Rattle.ew_model.specs.declared.node.Node.{Node}
@@ -13,6 +13,7 @@ use Rattle.fugue_place.specs.Attachments.{node_eq}
 use Rattle.advance_retreat.specs.declared.target.Target.{Target}
 use Rattle.advance_retreat.specs.declared.change.Change.{Change}
 use Rattle.advance_retreat.specs.declared.change.Change.TheVariants.{Raise, Lower, Strike}
+use Rattle.advance_retreat.specs.declared.change.Positions.{Positions}
 
 -- the number of base characters, the records, the children of the tree's nodes, the characters that events are about, and
 -- how many applies were refused for want of memory
@@ -87,6 +88,10 @@ found_in targets others n = option_or (node_for n (slice_get targets (place_in t
 -- such a search finds what the list tells
 abbrev pub AreFound : List Target → (ℕ → Option Node) → Type 0
 AreFound targets node_at = (n : ℕ) → node_at n ≡ target_at targets n
+
+-- each event that such a search finds is at one of these positions
+abbrev pub AreWithin : Positions → (ℕ → Option Node) → Type 0
+AreWithin at node_at = (n : ℕ) (v : Node) → node_at n ≡ Some v → (at.from ≤ n) × (n < at.to)
 
 -- a record after a change
 abbrev pub changed : Change → Stretch → Stretch

@@ -15,7 +15,7 @@ use Rattle.advance_retreat.specs.declared.change.Positions.{Positions}
 use Rattle.advance_retreat.specs.declared.runs.changing.Known.{Known}
 use Rattle.advance_retreat.specs.declared.rights.Rights.{Rights}
 use Rattle.advance_retreat.specs.Kept.{knows}
-use Rattle.advance_retreat.specs.Replacing.{one_if, changed_in}
+use Rattle.advance_retreat.specs.Replacing.{one_if, changed_in, is_event_in}
 use Rattle.advance_retreat.specs.Rows.{kept_at, row_at}
 
 -- the records of characters, the runs that they are kept in, and the children of the tree's nodes
@@ -97,3 +97,13 @@ pub record ShiftEach (rs : List Stretch) (attached : List Attached) (change : Ch
   pub there : (n : ℕ) → at.from ≤ n → n < at.to → is_there attached (Event n) ≡ true
   pub was : (n : ℕ) → at.from ≤ n → n < at.to → knows rs (Event n) ≡ known.was
   pub is : (n : ℕ) → at.from ≤ n → n < at.to → knows (map (changed_in at change) rs) (Event n) ≡ known.is
+
+-- the parent of a right child has no inserted right child any more, and nothing else changed
+pub record Resets (old new : Counted) (v : Node) : Type 0 where
+  pub parents : (n : ℕ) → new.parent_at n ≡ old.parent_at n
+  pub own : (p : Node) → parent_of old v ≡ Some p → new.count p ≡ 0
+  pub others : (w : Node) → (parent_of old v ≡ Some w → ⊥) → new.count w ≡ old.count w
+
+-- each attached node is that of an event at one of these positions
+abbrev pub HangWithin : Positions → List Attached → Type 0
+HangWithin at attached = (a : Attached) → Among a attached → is_event_in at.from at.to a.node ≡ true

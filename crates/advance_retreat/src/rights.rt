@@ -11,7 +11,8 @@ ghost use Rattle.fugue_place.specs.Spots.{node_cmp};
 ghost use Rattle.advance_retreat.specs.declared.change.Change.{Change as Changes};
 ghost use Rattle.advance_retreat.specs.Replacing.{changed_in};
 ghost use Rattle.advance_retreat.specs.Rows.{stepped, MayStep};
-ghost use Rattle.advance_retreat.specs.Rights.{parent_of, or_none, counted, AreRights, HasCount, IsWhole, Shifts, ShiftEach, MayShift};
+ghost use Rattle.advance_retreat.specs.Rights.{parent_of, or_none, counted, AreRights, HasCount, IsWhole, Shifts, ShiftEach, MayShift, Resets, HangWithin};
+ghost use Rattle.advance_retreat.specs.Resting.{rested};
 
 use crate::change::Positions;
 use crate::rows::{Rows, stepped};
@@ -98,6 +99,29 @@ impl Rights {
         }
     }
 
+    /// No event is prepared any more, so that no right child is inserted. Those that hang are of the events at these positions.
+    pub fn rest(&mut self, at: Positions)
+        requires order { at.from ≤ at.to }
+        requires whole { IsWhole self.old }
+        ensures whole { IsWhole self.new }
+        ensures rights { (rs : List Stretch) (attached : List Attached) → AreRights rs attached (counted self.old) → HangWithin at attached → AreRights (map rested rs) attached (counted self.new) }
+    {
+        for lv in at.from..at.to {
+            self.reset(Node::Event(lv));
+        }
+    }
+
+    /// The parent of a right child has no inserted right child any more.
+    fn reset(&mut self, node: Node)
+        requires { IsWhole self.old }
+        ensures whole { IsWhole self.new }
+        ensures resets { Resets (counted self.old) (counted self.new) node }
+    {
+        if let Some(parent) = self.parent(node) {
+            self.reset_count(parent);
+        }
+    }
+
     /// The parent of a right child.
     fn parent(&self, node: Node) -> Option<Node>
         ensures { result ≡ parent_of (counted self.now) node }
@@ -145,6 +169,19 @@ impl Rights {
                 let count = stepped(count_at(&self.counts, node), is);
                 set_count(&mut self.counts, node, count);
             }
+        }
+    }
+
+    /// Notes that no right child of a node that has a count is inserted.
+    fn reset_count(&mut self, node: Node)
+        requires { HasCount self.old node }
+        ensures kept { (v : Nodes) → HasCount self.old v → HasCount self.new v }
+        ensures parents { (n : ℕ) → (counted self.new).parent_at n ≡ (counted self.old).parent_at n }
+        ensures counts { (v : Nodes) → (counted self.new).count v ≡ (if is_at (node_cmp node) v then 0 else (counted self.old).count v) }
+    {
+        match node {
+            Node::Event(lv) => self.rows.reset_inserted(lv),
+            Node::Root | Node::Base(_) => set_count(&mut self.counts, node, 0),
         }
     }
 }

@@ -101,6 +101,15 @@ impl Rows {
         }
     }
 
+    /// Notes that no right child of the node of a position that has a row is inserted.
+    pub fn reset_inserted(&mut self, lv: u32)
+        requires { IsSome (kept_at self.old lv) }
+        ensures { (n : ℕ) → kept_at self.new n ≡ (if nat_eq lv n then Some (record (row_at self.old lv) { inserted = 0 }) else kept_at self.old n) }
+    {
+        let row = self.at(lv);
+        self.put(lv, Row { inserted: 0, ..row });
+    }
+
     /// Notes the parent of the node of a position, or that it is no right child.
     pub fn note(&mut self, lv: u32, parent: Option<Node>) -> Result<(), NoMem>
         ensures ok { OnOk result ((n : ℕ) → row_at self.new n ≡ (if nat_eq lv n then record (row_at self.old n) { parent = parent } else row_at self.old n)) }

@@ -11,7 +11,7 @@ ghost use Rattle.ew_model.specs.Records.{next_of, without, prepared_entries, app
 ghost use Rattle.walker_record.specs.Stretches.{Stretch};
 ghost use Rattle.fugue_place.specs.Attachments.{is_there, AreAttached};
 ghost use Rattle.advance_retreat.specs.declared.fault.ApplyFault.TheVariants as apply;
-ghost use Rattle.advance_retreat.specs.Kept.{with_lost, with_deletion, target_at, HasRoom};
+ghost use Rattle.advance_retreat.specs.Kept.{with_lost, with_deletion, target_at, AreWithin, HasRoom};
 ghost use Rattle.advance_retreat.specs.Laid.{records_in};
 ghost use Rattle.advance_retreat.specs.Standing.{most, StandsFor};
 ghost use Rattle.advance_retreat.specs.Refusals.{lost_after, one_more};
@@ -363,11 +363,29 @@ impl State {
         ensures steps { OnOk result (steps.new ≡ steps.old + (to - from)) }
         ensures most { steps.new ≤ steps.old + (to - from) }
     {
+        let all = Positions { from, to };
+        if self.targets.are_within(all) {
+            self.rest(all, steps);
+            return Ok(());
+        }
         let mut at = to;
         while from < at {
             at = self.retreat_some(Positions { from, to: at }, steps)?;
         }
         Ok(())
+    }
+
+    /// Takes all applied events, which are at these positions, out of the prepared version. Counts a step for each position.
+    fn rest<L: Ledger>(&mut self, at: Positions, steps: &mut Steps<L>)
+        requires order { at.from ≤ at.to }
+        requires stands { (b : ℕ) × (events : List (Applied ℕ)) × (prepared : List ℕ) × StandsFor self.old b events prepared }
+        requires within { AreWithin at (target_at self.old.targets) }
+        ensures rests { (b : ℕ) (events : List (Applied ℕ)) (prepared : List ℕ) → StandsFor self.old b events prepared → StandsFor self.new b events [] }
+        ensures lost { self.new.lost ≡ self.old.lost }
+        ensures steps { steps.new ≡ steps.old + (at.to - at.from) }
+    {
+        tick_each(at.to - at.from, steps);
+        self.tree.rest(at);
     }
 
     /// Takes the last of the events at these positions out of the prepared version, and with it those before it whose characters

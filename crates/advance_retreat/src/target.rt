@@ -1,11 +1,12 @@
 //! Which character each applied event is about.
 
-ghost use Rattle.std.specs.Prelude.{◌≡◌, None, Some, [], ◌∷◌, ◌++◌, List, length, OnOk, OnErr, ℕ, nat_eq, if◌then◌else◌};
+ghost use Rattle.std.specs.Prelude.{◌≡◌, true, None, Some, [], ◌∷◌, ◌++◌, List, length, OnOk, OnErr, ℕ, nat_eq, if◌then◌else◌};
 ghost use Rattle.std.specs.Ordering.{nat_cmp};
 ghost use Rattle.std.specs.BTreeMap.{get};
 ghost use Rattle.advance_retreat.specs.declared.target.Target.{Target as One};
-ghost use Rattle.advance_retreat.specs.Kept.{target_at, place_in, is_next};
+ghost use Rattle.advance_retreat.specs.Kept.{target_at, place_in, is_next, found_in, AreWithin};
 
+use crate::change::Positions;
 use ew_model::NoMem;
 use ew_model::node::Node;
 use std::alloc::Global;
@@ -75,6 +76,14 @@ impl Targets {
         }
     }
 
+    /// Whether each applied event is at one of these positions. Says no, too, where the positions behind the first don't go on by
+    /// one.
+    pub fn are_within(&self, at: Positions) -> bool
+        ensures { result ≡ true → AreWithin at (target_at self.now) }
+    {
+        self.others.is_empty() && go_on_within(&self.applied, at)
+    }
+
     /// Adds an event with a new position.
     pub fn add(&mut self, lv: u32, node: Node) -> Result<(), NoMem>
         requires { target_at self.old lv ≡ None }
@@ -106,6 +115,17 @@ fn place(applied: &[Target], lv: u32) -> usize
     match applied.first() {
         Some(first) => lv.saturating_sub(first.lv) as usize,
         None => 0,
+    }
+}
+
+/// Whether so many positions as there are events, from the first one's on, are among these.
+fn go_on_within(applied: &[Target], at: Positions) -> bool
+    ensures { result ≡ true → AreWithin at (found_in applied.now (λ n. None)) }
+{
+    match applied.first() {
+        Some(first) => at.from <= first.lv
+            && applied.len() <= at.to.saturating_sub(first.lv) as usize,
+        None => true,
     }
 }
 

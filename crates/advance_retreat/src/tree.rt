@@ -13,6 +13,8 @@ ghost use Rattle.advance_retreat.specs.Kept.{is_of, visible_in, shown_in, base_r
 ghost use Rattle.advance_retreat.specs.Laid.{records_in};
 ghost use Rattle.advance_retreat.specs.Loose.{loose_in, is_told};
 ghost use Rattle.advance_retreat.specs.Replacing.{ArePart, changed_in};
+ghost use Rattle.advance_retreat.specs.Resting.{rested};
+ghost use Rattle.advance_retreat.specs.Rights.{HangWithin};
 ghost use Rattle.advance_retreat.specs.Spots.{IsHold, IsDeletion, Comes, has_known_right};
 
 use crate::change::{Change, Positions};
@@ -135,6 +137,19 @@ impl Tree {
         let (positions, known) = self.characters.change_run(lv, within, change)?;
         self.rights.shift_each(positions, known);
         Some(positions)
+    }
+
+    /// Takes all events out of what is prepared. Those whose nodes hang are at these positions.
+    pub fn rest(&mut self, at: Positions)
+        requires order { at.from ≤ at.to }
+        requires few { length self.old.records ≤ 2 ^ 25 }
+        requires within { HangWithin at self.old.attached }
+        ensures records { self.new.records ≡ map rested self.old.records }
+        ensures attached { self.new.attached ≡ self.old.attached }
+        ensures loose { (among : Nodes → Bool) → loose_in among self.new.runs ≡ loose_in among self.old.runs }
+    {
+        self.characters.rest();
+        self.rights.rest(at);
     }
 
     /// Attaches the node of a new event, and puts its character beside its neighbour. Answers its index in the text.

@@ -1,7 +1,9 @@
 use Rattle.std.proofs.Common.{ℕ, List, ◌∙◌, refl, subst, sym, arith}
-use Rattle.advance_retreat.specs.Kept.{Kept}
+use Rattle.advance_retreat.specs.declared.change.Positions.{Positions}
+use Rattle.advance_retreat.specs.Kept.{Kept, target_at, AreWithin}
 use Rattle.advance_retreat.specs.Standing.{StandsFor}
 use Rattle.advance_retreat.proofs.Entered.{on_err}
+use Rattle.advance_retreat.proofs.Resting.{none_prepared}
 use Rattle.advance_retreat.proofs.SpanMoves.{retreated_end}
 use Rattle.advance_retreat.proofs.state.State.retreat_span.Goals as goal
 
@@ -45,3 +47,9 @@ pub returns-clause-ok : goal.returns-clause-ok
 returns-clause-ok g c = λ b events prepared st may.
     let a = c.loop-at.invariant.stands b events prepared st may in
     retreated_end b events c.loop-at.self prepared c.args.from c.loop-at.at _ a (omega (arith, c.loop-at-test.false))
+
+pub returns-then-are_within-clause-ok : goal.returns-then-are_within-clause-ok
+returns-then-are_within-clause-ok g c = λ b events prepared st may.
+    let at : Positions = record { from = c.args.from; to = c.args.to } in
+    let within = subst (λ (s : Kept). AreWithin at (target_at s.targets)) c.self.view_is (c.are_within.ensures c.if-are_within.true) in
+    subst (λ (names : List ℕ). StandsFor c.rest.new.self b events names) (sym (none_prepared c.args.self.now b events prepared st at within)) (c.rest.ensures.rests b events prepared st)
