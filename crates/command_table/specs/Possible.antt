@@ -1,37 +1,44 @@
 -- What a line may answer, over some bytes of each file and some input.
-use Rattle.std.specs.Prelude.{◌≡◌, ◌≤◌, ◌⊎◌, ℕ, List, length, Option, None, Some}
+use Rattle.std.specs.Prelude.{◌≡◌, ◌≤◌, ◌⊎◌, ⊤, ℕ, List, length, Option, None, Some}
 use Rattle.ew_model.specs.FileLaws.{AreBytes}
-use Rattle.ew_model.specs.Limits.{LimitNumbers}
+use Rattle.ew_model.specs.Limits.{LimitNumbers, most_file_bytes}
 use Rattle.peer_words.specs.Making.{made}
-use Rattle.command_table.specs.Loads.{File}
+use Rattle.command_table.specs.Loads.{File, whole}
 use Rattle.command_table.specs.Scripts.{Reading, Means, NetReading, MeansNet}
 use Rattle.command_table.specs.Text.{usage, input_too_long}
 use Rattle.command_table.specs.Framings.{Framing, IsFramingOf}
 use Rattle.command_table.specs.Sessions.{Session, served_as}
 use Rattle.command_table.specs.Table.{Text, Command, create, edit, show, merge, make, net, Reply, refuses, Opened, opened, refused, opened_as, create_reply, show_reply, merge_reply, make_reply, over_events, over_both, script_reply, net_script_reply}
 
+-- the file is of bytes, within a bound, or none
+abbrev pub KeepsTo : ℕ → File → Type 0
+KeepsTo most (whole bytes) = AreBytes bytes × (length bytes ≤ most)
+KeepsTo most file = ⊤
+
 -- a file that some bytes are
 abbrev pub MayOpen : Text → LimitNumbers → Opened → Type 0
-MayOpen name limits o = (file : File) × (o ≡ opened_as name limits file)
+MayOpen name limits o = (file : File) × (o ≡ opened_as name limits file) × KeepsTo (most_file_bytes limits.events) file
 
 -- an edit is refused as its file is, or for an input that is too long, or answers by the meaning of an input
 abbrev pub MayEdit : Text → Text → LimitNumbers → Opened → Reply → Type 0
 MayEdit name agent limits (refused status text) reply = reply ≡ refuses status text
 MayEdit name agent limits (opened events) reply =
     (reply ≡ refuses 7 (input_too_long limits.input))
-    ⊎ ((input : List ℕ) × (reading : Reading) × (length input ≤ limits.input) × Means input reading × (reply ≡ script_reply name agent limits events reading))
+    ⊎ ((input : List ℕ) × (reading : Reading) × (length input ≤ limits.input) × Means input reading × (reply ≡ script_reply name agent limits events reading) × AreBytes input)
 
 -- a net is refused for an input that is too long, or answers by the meaning of an input
 abbrev pub MayNet : LimitNumbers → Reply → Type 0
 MayNet limits reply =
     (reply ≡ refuses 7 (input_too_long limits.input))
-    ⊎ ((input : List ℕ) × (reading : NetReading) × (length input ≤ limits.input) × MeansNet input reading × (reply ≡ net_script_reply limits reading))
+    ⊎ ((input : List ℕ) × (reading : NetReading) × (length input ≤ limits.input) × MeansNet input reading × (reply ≡ net_script_reply limits reading) × AreBytes input)
 
 abbrev pub MayReplyTo : Command → LimitNumbers → Reply → Type 0
-MayReplyTo (create name) limits reply = (file : File) × (reply ≡ create_reply name file)
-MayReplyTo (edit name agent) limits reply = (file : File) × MayEdit name agent limits (opened_as name limits file) reply
-MayReplyTo (show listing name) limits reply = (file : File) × (reply ≡ over_events (show_reply listing) (opened_as name limits file))
-MayReplyTo (merge name other) limits reply = (file : File) × (second : File) × (reply ≡ over_both (merge_reply name limits) (opened_as name limits file) (opened_as other limits second))
+MayReplyTo (create name) limits reply = (file : File) × (reply ≡ create_reply name file) × KeepsTo 0 file
+MayReplyTo (edit name agent) limits reply = (file : File) × MayEdit name agent limits (opened_as name limits file) reply × KeepsTo (most_file_bytes limits.events) file
+MayReplyTo (show listing name) limits reply = (file : File) × (reply ≡ over_events (show_reply listing) (opened_as name limits file)) × KeepsTo (most_file_bytes limits.events) file
+MayReplyTo (merge name other) limits reply =
+    (file : File) × (second : File) × (reply ≡ over_both (merge_reply name limits) (opened_as name limits file) (opened_as other limits second))
+    × KeepsTo (most_file_bytes limits.events) file × KeepsTo (most_file_bytes limits.events) second
 MayReplyTo (make seed count) limits reply = reply ≡ make_reply limits (made limits seed count)
 MayReplyTo net limits reply = MayNet limits reply
 
@@ -44,3 +51,4 @@ MayReply (Some command) limits reply = MayReplyTo command limits reply
 abbrev pub MayServe : Text → LimitNumbers → Session → Type 0
 MayServe name limits s =
     (file : File) × (input : List ℕ) × (f : Framing) × AreBytes input × IsFramingOf limits input f × (s ≡ served_as name limits input f (opened_as name limits file))
+    × KeepsTo (most_file_bytes limits.events) file
