@@ -1,5 +1,5 @@
 -- Files that are opened by what is read of them.
-use Rattle.std.proofs.Common.{◌≡◌, ◌∙◌, ◌+◌, ◌≤◌, ℕ, List, ⊎_elim, inl, inr, refl, sym, ap, subst}
+use Rattle.std.proofs.Common.{◌≡◌, ◌∙◌, ℕ, List, ⊎_elim, inl, inr, refl, sym, ap}
 use Rattle.ew_model.specs.declared.event.Event.{Event}
 use Rattle.ew_model.specs.FileFaults.{file_finding}
 use Rattle.ew_model.specs.Limits.{LimitNumbers}

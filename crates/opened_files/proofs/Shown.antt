@@ -2,9 +2,9 @@
 use Rattle.std.proofs.Common.{◌≡◌, ◌∙◌, ℕ, List, Option, Some, None, IfSome, ap}
 use Rattle.ew_outside.specs.Files.{Files}
 use Rattle.ew_model.specs.declared.event.Event.{Event}
-use Rattle.ew_model.specs.Limits.{LimitNumbers}
+use Rattle.ew_model.specs.Limits.{LimitNumbers, most_file_bytes}
 use Rattle.command_table.specs.Loads.{File}
-use Rattle.command_table.specs.Possible.{MayOpen}
+use Rattle.command_table.specs.Possible.{KeepsTo, MayOpen}
 use Rattle.command_table.specs.Table.{Text, Reply, refuses, opened, refused, open_file, opened_as, over_events}
 use Rattle.opened_files.specs.declared.reply.Plan.{Plan}
 use Rattle.opened_files.specs.Views.{plan_view}
@@ -17,8 +17,10 @@ shown_opened reply name limits held None p view is = tt
 
 module _ (name : Text) (limits : LimitNumbers) where
   -- what may be shown, whatever is told
-  pub refused_shows : (reply : List Event → Reply) (status : ℕ) (text : List ℕ) → MayOpen name limits (refused status text) → (file : File) × (refuses status text ≡ over_events reply (opened_as name limits file))
-  refused_shows reply status text may = (may.0, ap (over_events reply) may.1)
+  pub refused_shows : (reply : List Event → Reply) (status : ℕ) (text : List ℕ) → MayOpen name limits (refused status text)
+      → (file : File) × (refuses status text ≡ over_events reply (opened_as name limits file)) × KeepsTo (most_file_bytes limits.events) file
+  refused_shows reply status text may = (may.0, ap (over_events reply) may.1, may.2)
 
-  pub opened_shows : (reply : List Event → Reply) (held : List Event) (p : Reply) → MayOpen name limits (opened held) → p ≡ reply held → (file : File) × (p ≡ over_events reply (opened_as name limits file))
-  opened_shows reply held p may is = (may.0, is ∙ ap (over_events reply) may.1)
+  pub opened_shows : (reply : List Event → Reply) (held : List Event) (p : Reply) → MayOpen name limits (opened held) → p ≡ reply held
+      → (file : File) × (p ≡ over_events reply (opened_as name limits file)) × KeepsTo (most_file_bytes limits.events) file
+  opened_shows reply held p may is = (may.0, is ∙ ap (over_events reply) may.1, may.2)

@@ -1,9 +1,11 @@
 //! Loading a file whole, where it isn't above a bound.
-ghost use Rattle.std.specs.Prelude.{◌≡◌, ◌<◌, ◌^◌, IfSome, IfOk};
+ghost use Rattle.std.specs.Prelude.{◌≡◌, ◌<◌, ◌^◌, length, nat_lt, IfSome, IfOk};
 ghost use Rattle.std.specs.FinMap.{get};
+ghost use Rattle.ew_model.specs.FileLaws.{AreBytes};
 ghost use Rattle.ew_outside.specs.Counts.{CountsFaults, next};
 ghost use Rattle.opened_files.specs.Loading.{LoadMisses, loaded_view};
 ghost use Rattle.command_table.specs.Loads.{whole_of};
+ghost use Rattle.command_table.specs.Possible.{KeepsTo};
 
 use ew_outside::{Shelf, ShelfFault};
 
@@ -15,10 +17,19 @@ pub enum Loaded {
     Whole(Vec<u8>),
 }
 
+/// Whether there are more bytes than `most`.
+fn is_above(bytes: &[u8], most: u64) -> bool
+    ensures above { result ≡ nat_lt most (length bytes.now) }
+    ensures fits { AreBytes bytes.now }
+{
+    bytes.len() > most as usize
+}
+
 /// Loads a file of at most `most` bytes.
 pub fn load_whole<H: Shelf>(shelf: &mut H, name: &str, most: u64) -> Result<Loaded, ShelfFault>
     requires { most < 2 ^ 62 }
     ensures told { IfSome (H.files shelf.old) (λ m. IfOk result (λ l. loaded_view l ≡ whole_of most (get m name.now))) }
+    ensures short { IfOk result (λ l. KeepsTo most (loaded_view l)) }
     ensures same { H.files shelf.new ≡ H.files shelf.old }
     ensures cause { CountsFaults (H.faults shelf.old) (H.faults shelf.new) result }
     ensures misses { LoadMisses (H.misses shelf.old) (H.misses shelf.new) result }
@@ -28,7 +39,7 @@ pub fn load_whole<H: Shelf>(shelf: &mut H, name: &str, most: u64) -> Result<Load
     match shelf.load(name, most as usize)? {
         None => Ok(Loaded::Missing),
         Some(bytes) => {
-            if bytes.len() > most as usize {
+            if is_above(&bytes, most) {
                 Ok(Loaded::TooLong)
             } else {
                 Ok(Loaded::Whole(bytes))

@@ -10,7 +10,7 @@ ghost use Rattle.replica.specs.Answers.{TellsBad};
 ghost use Rattle.replica.specs.Giving.{WereGiven};
 ghost use Rattle.opened_files.specs.Faults.{finding_of};
 ghost use Rattle.command_table.specs.Loads.{File, whole_of};
-ghost use Rattle.command_table.specs.Possible.{MayOpen};
+ghost use Rattle.command_table.specs.Possible.{KeepsTo, MayOpen};
 ghost use Rattle.command_table.specs.Table.{judged, open_file, read_as, refused};
 ghost use Rattle.opened_files.specs.Reads.{IsLoadedAs, IsReadAs};
 ghost use Rattle.opened_files.specs.Views.{IsFileStatus, IsFresh, IsJudged, IsOpenable, LostBy, OpenMisses, ShelfCauses, graph_view, opened_view};
@@ -142,7 +142,7 @@ fn load_events<H: Shelf>(
     shelf: &mut H,
 ) -> Result<Found<Loading>, Stop>
     ensures told { IfSome (H.files shelf.old) (λ m. IfOk result (IsLoadedAs name.now limits.now (whole_of (most_file_bytes limits.now.events) (get m name.now)))) }
-    ensures some { IfOk result (λ f. (file : File) × IsLoadedAs name.now limits.now file f) }
+    ensures some { IfOk result (λ f. (file : File) × IsLoadedAs name.now limits.now file f × KeepsTo (most_file_bytes limits.now.events) file) }
     ensures same { H.files shelf.new ≡ H.files shelf.old }
     ensures cause { ShelfCauses (H.faults shelf.old) (H.faults shelf.new) result }
     ensures misses { OpenMisses (H.misses shelf.old) (H.misses shelf.new) result }
