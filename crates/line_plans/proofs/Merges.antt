@@ -2,9 +2,9 @@
 use Rattle.std.proofs.Common.{◌≡◌, ◌∙◌, ℕ, List, Option, Some, None, IfSome, Result, Ok, Err, IfOk, ap, subst}
 use Rattle.ew_outside.specs.Files.{Files}
 use Rattle.ew_model.specs.declared.event.Event.{Event}
-use Rattle.ew_model.specs.Limits.{LimitNumbers}
+use Rattle.ew_model.specs.Limits.{LimitNumbers, most_file_bytes}
 use Rattle.command_table.specs.Loads.{File, missing}
-use Rattle.command_table.specs.Possible.{MayOpen, MayReplyTo}
+use Rattle.command_table.specs.Possible.{KeepsTo, MayOpen, MayReplyTo}
 use Rattle.command_table.specs.Table.{Text, merge, Reply, refuses, Opened, opened, refused, open_file, opened_as, merge_reply, over_events, over_both}
 use Rattle.opened_files.specs.declared.reply.Plan.{Plan}
 use Rattle.opened_files.specs.declared.reply.Stop.{Stop}
@@ -36,10 +36,10 @@ later_lost before mid now result same lost = subst (λ n. LostBy n now result) s
 module _ (name : Text) (limits : LimitNumbers) where
   -- a merge into a file that is refused, or open
   pub refused_merges : (other : Text) (status : ℕ) (text : List ℕ) → MayOpen name limits (refused status text) → MayReplyTo (merge name other) limits (refuses status text)
-  refused_merges other status text may = (may.0, missing, ap (λ o. over_both (merge_reply name limits) o (opened_as other limits missing)) may.1)
+  refused_merges other status text may = (may.0, missing, ap (λ o. over_both (merge_reply name limits) o (opened_as other limits missing)) may.1, may.2, tt)
 
   pub opened_merges : (other : Text) (held : List Event) (result : Result Plan Stop) → MayOpen name limits (opened held)
-      → IfOk result (λ p. (file : File) × (plan_view p ≡ over_events (merge_reply name limits held) (opened_as other limits file)))
+      → IfOk result (λ p. (file : File) × (plan_view p ≡ over_events (merge_reply name limits held) (opened_as other limits file)) × KeepsTo (most_file_bytes limits.events) file)
       → IfOk result (λ p. MayReplyTo (merge name other) limits (plan_view p))
-  opened_merges other held (Ok p) may some = (may.0, some.0, some.1 ∙ ap (λ o. over_both (merge_reply name limits) o (opened_as other limits some.0)) may.1)
+  opened_merges other held (Ok p) may some = (may.0, some.0, some.1 ∙ ap (λ o. over_both (merge_reply name limits) o (opened_as other limits some.0)) may.1, may.2, some.2)
   opened_merges other held (Err e) may some = tt

@@ -1,6 +1,7 @@
 -- From what became of a net script to what is told.
 use Rattle.std.proofs.Common.{◌≡◌, ◌≤◌, ◌∙◌, inr, ℕ, List, length, IsSomeAnd, Some, Result, Ok, Err, IfOk, sym, ap, subst}
 use Rattle.std.specs.declared.alloc.AllocError.{AllocError}
+use Rattle.ew_model.specs.FileLaws.{AreBytes}
 use Rattle.ew_model.specs.Limits.{LimitNumbers}
 use Rattle.event_words.specs.declared.net.step.NetStep.{NetStep}
 use Rattle.net_core.specs.declared.fault.NetFault.{NetFault}
@@ -10,7 +11,7 @@ use Rattle.peer_words.specs.Runs.{net_run}
 use Rattle.peer_words.specs.Runs.RunOutcome.{Broke}
 use Rattle.peer_words.specs.Machine.{Refusal, empty_network}
 use Rattle.command_table.specs.Possible.{MayNet}
-use Rattle.command_table.specs.Table.{net_refusal, net_run_reply, net_script_reply}
+use Rattle.command_table.specs.Table.{net_refusal, net_run_reply}
 use Rattle.opened_files.specs.declared.reply.Plan.{Plan}
 use Rattle.opened_files.specs.Views.{plan_view}
 use Rattle.line_plans.specs.Nets.{StepRefuses, MayNetScript}
@@ -35,6 +36,7 @@ module _ (limits : LimitNumbers) (script : List (ℕ × NetStep)) where
   stopped line fault.OutOfMemory (Ok p) runs told = absurd told
 
 -- an input that isn't too long
-pub may_net : (limits : LimitNumbers) (input given : List ℕ) (p : Plan) → length input ≤ limits.input → given ≡ input → MayNetScript limits given (Ok p) → MayNet limits (plan_view p)
-may_net limits input given p short is some =
-    let most : length given ≤ limits.input = subst (λ xs. length xs ≤ limits.input) (sym is) short in inr (given, some.0, most, some.1, some.2)
+pub may_net : (limits : LimitNumbers) (input given : List ℕ) (p : Plan) → length input ≤ limits.input → AreBytes given → given ≡ input → MayNetScript limits given (Ok p) → MayNet limits (plan_view p)
+may_net limits input given p short bytes is some =
+    let most : length given ≤ limits.input = subst (λ xs. length xs ≤ limits.input) (sym is) short in
+    inr (given, some.0, most, some.1, some.2, bytes)

@@ -2,6 +2,7 @@
 use Rattle.std.proofs.Common.{◌≡◌, ◌≤◌, ◌∙◌, inr, ℕ, List, length, Option, Result, Ok, Err, IfOk, ap, refl, sym, subst}
 use Rattle.std.specs.declared.alloc.AllocError.{AllocError}
 use Rattle.ew_model.specs.declared.event.Event.{Event}
+use Rattle.ew_model.specs.FileLaws.{AreBytes}
 use Rattle.ew_model.specs.Limits.{LimitNumbers}
 use Rattle.ew_model.specs.Kept.{ReplicaState}
 use Rattle.ew_model.specs.Edits.{Edit}
@@ -19,11 +20,11 @@ use Rattle.line_plans.specs.Sources.{Causes, KeepsInput, SourceCauses}
 module _ (name : Text) (limits : LimitNumbers) where
   -- an edit of a file that is refused, or open
   pub refused_edits : (agent : Text) (status : ℕ) (text : List ℕ) → MayOpen name limits (refused status text) → MayReplyTo (edit name agent) limits (refuses status text)
-  refused_edits agent status text may = (may.0, subst (λ o. MayEdit name agent limits o (refuses status text)) may.1 refl)
+  refused_edits agent status text may = (may.0, subst (λ o. MayEdit name agent limits o (refuses status text)) may.1 refl, may.2)
 
   pub opened_edits : (agent : Text) (held : List Event) (result : Result Plan Stop) → MayOpen name limits (opened held) → IfOk result (λ p. MayEdit name agent limits (opened held) (plan_view p))
       → IfOk result (λ p. MayReplyTo (edit name agent) limits (plan_view p))
-  opened_edits agent held (Ok p) may some = (may.0, subst (λ o. MayEdit name agent limits o (plan_view p)) may.1 some)
+  opened_edits agent held (Ok p) may some = (may.0, subst (λ o. MayEdit name agent limits o (plan_view p)) may.1 some, may.2)
   opened_edits agent held (Err e) may some = tt
 
 -- a script whose edits were tried
@@ -33,11 +34,11 @@ may_script name agent input r items (Ok p) is told = (script items, is, told)
 may_script name agent input r items (Err e) is told = tt
 
 -- an input that isn't too long
-pub may_edit : (name agent input given : List ℕ) (limits : LimitNumbers) (r : ReplicaState) (p : Plan) → r.limits ≡ limits → length input ≤ limits.input → given ≡ input → MayScript name agent r given (Ok p)
+pub may_edit : (name agent input given : List ℕ) (limits : LimitNumbers) (r : ReplicaState) (p : Plan) → r.limits ≡ limits → length input ≤ limits.input → AreBytes given → given ≡ input → MayScript name agent r given (Ok p)
     → MayEdit name agent limits (opened r.held) (plan_view p)
-may_edit name agent input given limits r p same short is some =
+may_edit name agent input given limits r p same short bytes is some =
     let most : length given ≤ limits.input = subst (λ xs. length xs ≤ limits.input) (sym is) short in
-    inr (given, some.0, most, some.1, some.2 ∙ ap (λ (l : LimitNumbers). script_reply name agent l r.held some.0) same)
+    inr (given, some.0, most, some.1, some.2 ∙ ap (λ (l : LimitNumbers). script_reply name agent l r.held some.0) same, bytes)
 
 -- ---- the input, where a load failed
 

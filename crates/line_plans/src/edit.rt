@@ -1,5 +1,6 @@
 //! The command that edits a file by a script.
 ghost use Rattle.std.specs.Prelude.{◌≡◌, ◌≢◌, ◌<◌, ◌+◌, ◌^◌, [], length, IfOk, IfSome};
+ghost use Rattle.ew_model.specs.FileLaws.{AreBytes};
 ghost use Rattle.event_words.specs.Meaning.{edit_meant, numbered_edits};
 ghost use Rattle.replica.specs.Answers.{EditsBy};
 ghost use Rattle.line_plans.specs.Edits.{EditsTo, LineRefuses, MayScript, PlansInput, PlansScript, edits_reply};
@@ -151,6 +152,7 @@ fn run_script<'a, L: Ledger>(
     requires none_waits { replica.old.waiting ≡ [] }
     ensures told { PlansScript name.now agent replica.old script.now result }
     ensures some { MayScript name.now agent replica.old script.now result }
+    ensures fits { AreBytes script.now }
     ensures plan { IfOk result IsCommandPlan }
     ensures found { IfOk result (λ p. status_of p ≢ 3) }
     ensures steps { steps.new ≡ steps.old }

@@ -5,9 +5,10 @@ ghost use Rattle.std.specs.Option.{option_copied};
 ghost use Rattle.line_plans.specs.Merging.{took_reply, LoadsAll};
 ghost use Rattle.command_texts.specs.Told.{took_text};
 ghost use Rattle.command_table.specs.Loads.{File};
-ghost use Rattle.command_table.specs.Possible.{MayReplyTo};
+ghost use Rattle.command_table.specs.Possible.{KeepsTo, MayReplyTo};
 ghost use Rattle.command_table.specs.Table.{merge_reply, open_file, opened_as, over_both, over_events, received_reply};
 ghost use Rattle.command_table.specs.Table as table;
+ghost use Rattle.ew_model.specs.Limits.{most_file_bytes};
 ghost use Rattle.ew_model.specs.Rounds.{most_touches};
 ghost use Rattle.opened_files.specs.Touches.{TouchesAtMost, file_touches, merge_touches, touches_over};
 ghost use Rattle.peer_exchange.specs.Answering as answering;
@@ -135,7 +136,7 @@ fn take_other<'a, H: Shelf, L: Ledger>(
     requires limits { replica.old.limits ≡ limits.now }
     requires none_waits { replica.old.waiting ≡ [] }
     ensures told { IfSome (H.files shelf.old) (λ m. IfOk result (λ p. plan_view p ≡ over_events (merge_reply name.now limits.now replica.old.held) (open_file other.now limits.now m))) }
-    ensures some { IfOk result (λ p. (file : File) × (plan_view p ≡ over_events (merge_reply name.now limits.now replica.old.held) (opened_as other.now limits.now file))) }
+    ensures some { IfOk result (λ p. (file : File) × (plan_view p ≡ over_events (merge_reply name.now limits.now replica.old.held) (opened_as other.now limits.now file)) × KeepsTo (most_file_bytes limits.now.events) file) }
     ensures plan { IfOk result IsCommandPlan }
     ensures same { H.files shelf.new ≡ H.files shelf.old }
     ensures cause { ShelfCauses (H.faults shelf.old) (H.faults shelf.new) result }

@@ -1,5 +1,6 @@
 //! The command that runs a net script.
 ghost use Rattle.std.specs.Prelude.{◌≡◌, ◌<◌, ◌≤◌, ◌+◌, length, IfOk, IfSome};
+ghost use Rattle.ew_model.specs.FileLaws.{AreBytes};
 ghost use Rattle.command_table.specs.Possible.{MayReplyTo};
 ghost use Rattle.command_table.specs.Reads.{TakesAtMost};
 ghost use Rattle.command_table.specs.Table as table;
@@ -88,6 +89,7 @@ fn run_net<'a, L: Ledger>(
     requires { length input.now ≤ limits.now.input }
     ensures told { PlansNetScript limits.now input.now result }
     ensures some { MayNetScript limits.now input.now result }
+    ensures fits { AreBytes input.now }
     ensures plan { IfOk result IsCommandPlan }
 {
     let _most = limits.input();

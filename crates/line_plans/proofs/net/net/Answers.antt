@@ -10,4 +10,4 @@ returns-in_ok-input_too_long_text-in-TooLong-clause-some g c = inl (ap (refuses 
 pub returns-in_ok-run_net-in-Whole-clause-some : goal.returns-in_ok-run_net-in-Whole-clause-some
 returns-in_ok-run_net-in-Whole-clause-some g c =
     may_net c.args.limits.now c.in-Whole.bytes.items _ c.in_ok-run_net-in-Whole.field-0
-    (subst (λ n. length c.in-Whole.bytes.items ≤ n) c.input-most.ensures.value (rw c.in-Whole.is at c.in_ok-read_input.ensures.short)) c.deref.ensures.value c.in_ok-run_net-in-Whole.ensures.some
+    (subst (λ n. length c.in-Whole.bytes.items ≤ n) c.input-most.ensures.value (rw c.in-Whole.is at c.in_ok-read_input.ensures.short)) c.in_ok-run_net-in-Whole.ensures.fits c.deref.ensures.value c.in_ok-run_net-in-Whole.ensures.some
