@@ -31,7 +31,7 @@ nothing_framed limits = record { begins = sym (take_none limits.input [] refl); 
 -- the load failed
 pub stopped_plans : (name : Text) (limits : LimitNumbers) (out : Option (List ℕ)) (flushed : Option ℕ) (halt : Halt) → MayPlan name limits out out flushed (Err halt)
 stopped_plans name limits out flushed halt =
-    (served_as name limits [] no_framing (opened_as name limits missing), (missing, [], no_framing, λ i. omega arith, nothing_framed limits, refl), grows_none out _)
+    (served_as name limits [] no_framing (opened_as name limits missing), (missing, [], no_framing, λ i. omega arith, nothing_framed limits, refl, tt), grows_none out _)
 
 -- the file is refused
 pub refused_plans : (name : Text) (limits : LimitNumbers) (out : Option (List ℕ)) (flushed : Option ℕ) (p : Plan) (status : ℕ) (text : Text)
@@ -39,7 +39,7 @@ pub refused_plans : (name : Text) (limits : LimitNumbers) (out : Option (List �
     → MayOpen name limits (refused status text) → MayPlan name limits out out flushed (Ok p)
 refused_plans name limits out flushed p status text told file = (
   served_as name limits [] no_framing (refused status text),
-  (file.0, [], no_framing, λ i. omega arith, nothing_framed limits, ap (served_as name limits [] no_framing) file.1),
+  (file.0, [], no_framing, λ i. omega arith, nothing_framed limits, ap (served_as name limits [] no_framing) file.1, file.2),
   (told, (Appends-nil out, inl refl)),
 )
 

@@ -213,7 +213,7 @@ module _ (name : Text) (limits : LimitNumbers) (start : ReplicaState) (fresh : s
 
   may_serve : (input : List ℕ) (x : Framing) → AreBytes input → IsFramingOf limits input x → MayOpen name limits (opened start.held)
       → MayServe name limits (served_from name limits input x start.held)
-  may_serve input x fits cut file = (file.0, input, x, fits, cut, ap (served_as name limits input x) file.1)
+  may_serve input x fits cut file = (file.0, input, x, fits, cut, ap (served_as name limits input x) file.1, file.2)
 
   halted_some : (read : List ℕ) → MayBeRead limits read → Broken limits start read out out' → MayOpen name limits (opened start.held)
       → (s : Session) × MayServe name limits s × GrowsByFront out out' s.sent
