@@ -2,7 +2,7 @@
 ghost use Rattle.std.specs.Prelude.{◌≡◌, ◌≢◌, ◌≤◌, ◌+◌, IfOk, IfSome};
 ghost use Rattle.std.specs.FinMap.{get};
 ghost use Rattle.command_table.specs.Loads.{File, whole_of};
-ghost use Rattle.command_table.specs.Possible.{MayReplyTo};
+ghost use Rattle.command_table.specs.Possible.{KeepsTo, MayReplyTo};
 ghost use Rattle.command_table.specs.Table as table;
 ghost use Rattle.command_table.specs.Table.{create_reply, listing_text, open_file, over_events, past, question, show_reply};
 ghost use Rattle.ew_model.specs.Ancestors.{version_events};
@@ -136,7 +136,7 @@ pub fn show<'a, H: Shelf, L: Ledger>(
 /// Makes a file that isn't there: the file of no events.
 pub fn create<'a, H: Shelf>(alloc: Global, name: &'a str, shelf: &mut H) -> Result<Plan<'a>, Stop>
     ensures told { IfSome (H.files shelf.old) (λ m. IfOk result (λ p. plan_view p ≡ create_reply name.now (whole_of 0 (get m name.now)))) }
-    ensures some { IfOk result (λ p. (file : File) × (plan_view p ≡ create_reply name.now file)) }
+    ensures some { IfOk result (λ p. (file : File) × (plan_view p ≡ create_reply name.now file) × KeepsTo 0 file) }
     ensures plan { IfOk result IsCommandPlan }
     ensures same { H.files shelf.new ≡ H.files shelf.old }
     ensures cause { ShelfCauses (H.faults shelf.old) (H.faults shelf.new) result }
