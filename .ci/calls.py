@@ -37,7 +37,7 @@ RECURSION = """
 ## Loops and recursion
 
 Of an input a run takes at most one byte more than its limit lets, whatever it holds: `few` of `run`, in the records of
-`command_table/specs/Headline.antt`, and of `make_plan`, `edit` and `serve`. Of a file it takes at most one byte more than the greatest
+`command_table/specs/Headline.antt`, and of `edit`, `net` and `serve`. Of a file it takes at most one byte more than the greatest
 file has: `most` of `Shelf::load`.
 
 These are all functions of the program's crates that call themselves, or one another in a ring, as far as the types of fields,

@@ -55,6 +55,7 @@ pub mod Putting
 pub mod Recorded
 pub mod Renamed
 pub mod Replaced
+pub mod RestedRuns
 pub mod Resting
 pub mod RestingRights
 pub mod RightChildren

@@ -1,7 +1,7 @@
 -- What a state keeps where no event is prepared.
 use Rattle.std.proofs.Common.{◌≡◌, ℕ, zero, suc, ◌+◌, ◌-◌, ◌<◌, ◌≤◌, Bool, true, false, ◌||◌, not, ⊎_elim, List, [], ◌∷◌, map, filter, reverse, nat_eq, refl, sym, ap, ◌∙◌, append-nil, arith}
 use Rattle.std.specs.List.{list_any, range_with_len}
-use Rattle.std.proofs.lemmas.Bool.{false≢true, or_cases, and_parts, eq-eqb, eqb-true, ltb-false}
+use Rattle.std.proofs.lemmas.Bool.{false≢true, or_cases, and_parts, eq-eqb, ltb-false}
 use Rattle.ew_model.specs.Sets.{Among}
 use Rattle.ew_model.specs.Entries.{Inserted, order, is_deleted}
 use Rattle.ew_model.specs.Tree.{based, base_id, Applied, Noted, all_entries}
@@ -11,8 +11,6 @@ use Rattle.ew_model.proofs.PrefixLaws.{ordered_among}
 use Rattle.ew_model.proofs.ReadLaws.{names_prepare}
 use Rattle.ew_model.proofs.RecordLaws.{map_map}
 use Rattle.ew_model.proofs.StateLaws.{holds_without}
-use Rattle.walker_record.specs.Stretches.{Stretch}
-use Rattle.fugue_place.specs.declared.child.Attached.{Attached}
 use Rattle.advance_retreat.specs.declared.change.Positions.{Positions}
 use Rattle.advance_retreat.specs.Kept.{Kept, single, target_at, AreWithin}
 use Rattle.advance_retreat.specs.Replacing.{is_event_in}

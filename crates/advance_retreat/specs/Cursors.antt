@@ -64,7 +64,7 @@ pub record GaveEnd (old new : List (ℕ × Stretch)) (c : Cursor) (s : Struck) :
   pub now : new ≡ front ++ (c.label, shorter c.run) ∷ (s.label, s.run) ∷ back
   pub struck : s.run ≡ struck_with (last_of c.run) (struck_long c.struck)
 
--- the runs, but at the label this run, and at that of what was deleted from its end the run of those
+-- the runs with this one at the label, and with what was deleted from its end at the label of that
 abbrev pub with_end : List (ℕ × Stretch) → ℕ → Stretch → Option Struck → List (ℕ × Stretch)
 with_end ps label run None = changed ps label run
 with_end ps label run (Some s) = changed (changed ps s.label s.run) label run
@@ -80,7 +80,8 @@ pub record SettleSame (old new : List (ℕ × Stretch)) (t : Labels) (c : Cursor
   pub laid : AreLabelled (settled new (Some c)) t
   pub told : pending ≡ false → settled new (Some c) ≡ new
 
--- The settled runs are counted, and the cursor stands among them. Where nothing that was typed or deleted at it is pending, they are the runs themselves. Those have at most 2^25 characters, too.
+-- The settled runs are counted, and the cursor stands among them. Where nothing that was typed or deleted at it is pending,
+-- they are the runs themselves. The runs themselves have at most 2^25 characters, as the settled ones do.
 pub record AreKept (ps : List (ℕ × Stretch)) (t : Labels) (visible shown : ℕ) (at : Option Cursor) (pending : Bool) : Type 0 where
   pub counted : AreCounted (settled ps at) t visible shown
   pub cursor : MayBeCursor (settled ps at) at

@@ -138,6 +138,7 @@ impl Rows {
     }
 
     /// Sees to it that a position out of line has a row.
+    // Seldom called: kept apart, so that what is done for each character stays short.
     #[inline(never)]
     fn begin_out_of_line(&mut self, lv: u32) -> Result<(), NoMem>
         requires { in_line self.old.first self.old.line.items lv ≡ None }
@@ -157,7 +158,7 @@ impl Rows {
         }
     }
 
-    /// Whether a position lies right behind the line.
+    /// Whether a position lies right behind the line. It may say no: then the longer way is taken.
     fn is_next(&self, lv: u32) -> bool
         ensures { result ≡ true → lv ≡ self.now.first + length self.now.line.items }
     {

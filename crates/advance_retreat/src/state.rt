@@ -348,7 +348,8 @@ impl State {
     }
 
     /// Takes the events at the positions from `from` on that are below `to` out of the prepared version, one after another from
-    /// the highest position down. After an error for want of memory it stands for some version on the way.
+    /// the highest position down. Where they are all that was applied, one way over the runs takes them out. After an error for
+    /// want of memory it stands for some version on the way.
     pub fn retreat_span<L: Ledger>(
         &mut self,
         from: u32,

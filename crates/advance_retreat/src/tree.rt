@@ -142,7 +142,6 @@ impl Tree {
     /// Takes all events out of what is prepared. Those whose nodes hang are at these positions.
     pub fn rest(&mut self, at: Positions)
         requires order { at.from ≤ at.to }
-        requires few { length self.old.records ≤ 2 ^ 25 }
         requires within { HangWithin at self.old.attached }
         ensures records { self.new.records ≡ map rested self.old.records }
         ensures attached { self.new.attached ≡ self.old.attached }

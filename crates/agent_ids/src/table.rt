@@ -144,7 +144,7 @@ impl AgentTable {
         }
     }
 
-    /// Whether there are ids, and the last one is of this agent.
+    /// Whether there are ids, and the last one is of this agent. It may say no: then the longer way is taken.
     fn has_last_of(&self, name: &Name) -> bool
         ensures last { IsTrue result → (x : Id) × (last_in self.now ≡ Some x) × (x.agent ≡ name.now) }
         ensures numbered { AreNumbered self.now }
@@ -246,7 +246,7 @@ fn is_at(names: &IndexSet<Name>, place: usize, name: &Name) -> bool
     }
 }
 
-/// The number of the last id's agent, where these are the agents' names. Without an id it is 0.
+/// The number of the last id's agent, where there is an id, and these are the agents' names.
 fn number_of_last(ids: &IdRuns, names: &IndexSet<Name>) -> usize
     requires { names.now.keys ≡ agents_of ids.now }
     ensures { IsNumberOfLast ids.now names.now.keys result }

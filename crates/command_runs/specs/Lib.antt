@@ -1,4 +1,4 @@
--- How a run ends.
+-- What is planned for a line, and how its run ends.
 pub mod Endings
 pub mod LineTouches
 pub mod SessionEndings

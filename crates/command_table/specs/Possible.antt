@@ -10,28 +10,29 @@ use Rattle.command_table.specs.Framings.{Framing, IsFramingOf}
 use Rattle.command_table.specs.Sessions.{Session, served_as}
 use Rattle.command_table.specs.Table.{Text, Command, create, edit, show, merge, make, net, Reply, refuses, Opened, opened, refused, opened_as, create_reply, show_reply, merge_reply, make_reply, over_events, over_both, script_reply, net_script_reply}
 
--- the file is of bytes, within a bound, or none
+-- a file that was loaded whole is of bytes, at most so many; one that is missing or too long is any
 abbrev pub KeepsTo : ℕ → File → Type 0
 KeepsTo most (whole bytes) = AreBytes bytes × (length bytes ≤ most)
 KeepsTo most file = ⊤
 
--- a file that some bytes are
+-- what a name is opened as, by some file within its bound
 abbrev pub MayOpen : Text → LimitNumbers → Opened → Type 0
 MayOpen name limits o = (file : File) × (o ≡ opened_as name limits file) × KeepsTo (most_file_bytes limits.events) file
 
--- an edit is refused as its file is, or for an input that is too long, or answers by the meaning of an input
+-- an edit is refused as its file is, or for an input that is too long, or answers by the meaning of some bytes of an input
 abbrev pub MayEdit : Text → Text → LimitNumbers → Opened → Reply → Type 0
 MayEdit name agent limits (refused status text) reply = reply ≡ refuses status text
 MayEdit name agent limits (opened events) reply =
     (reply ≡ refuses 7 (input_too_long limits.input))
     ⊎ ((input : List ℕ) × (reading : Reading) × (length input ≤ limits.input) × Means input reading × (reply ≡ script_reply name agent limits events reading) × AreBytes input)
 
--- a net is refused for an input that is too long, or answers by the meaning of an input
+-- a net is refused for an input that is too long, or answers by the meaning of some bytes of an input
 abbrev pub MayNet : LimitNumbers → Reply → Type 0
 MayNet limits reply =
     (reply ≡ refuses 7 (input_too_long limits.input))
     ⊎ ((input : List ℕ) × (reading : NetReading) × (length input ≤ limits.input) × MeansNet input reading × (reply ≡ net_script_reply limits reading) × AreBytes input)
 
+-- the replies of a command, over some files within the bounds of their loads, and some input
 abbrev pub MayReplyTo : Command → LimitNumbers → Reply → Type 0
 MayReplyTo (create name) limits reply = (file : File) × (reply ≡ create_reply name file) × KeepsTo 0 file
 MayReplyTo (edit name agent) limits reply = (file : File) × MayEdit name agent limits (opened_as name limits file) reply × KeepsTo (most_file_bytes limits.events) file

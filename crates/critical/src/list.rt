@@ -73,7 +73,7 @@ impl Cuts {
         }
     }
 
-    /// Takes in one more event, whose one parent is the last event so far, and that is the only head.
+    /// Takes in one more event, whose one parent is the last event so far. What follows is said where that is the only head.
     pub fn push_on_last(&mut self) -> Result<(), NoMem>
         requires some { 0 < self.old.count }
         requires room { self.old.count + 1 < 2 ^ 32 }

@@ -129,7 +129,8 @@ impl Chains {
     }
 
     /// Has the newest one, which is alone in the chain of its own number, follow another in the place of what followed that
-    /// one. Of the two parts of the chain there, the shorter one gets a new number.
+    /// one. Where nothing followed that one, its chain grows; else, of the two parts of the chain there, the shorter one gets a
+    /// new number.
     fn lead(&mut self, at: u32, new: u32)
         requires { IsLone self.old at new }
         ensures chains { IsChains self.new }

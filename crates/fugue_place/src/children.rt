@@ -158,6 +158,7 @@ fn number_of(names: &mut IndexSet<Name>, likely: u32, agent: &Name) -> Result<u3
 }
 
 /// The number of an agent by its name, which gets one where it has none.
+// Seldom called: kept apart, so that what is done for each character stays short.
 #[inline(never)]
 fn find_number(names: &mut IndexSet<Name>, agent: &Name) -> Result<u32, NoMem>
     ensures kept { (more : List (List ℕ)) × (names.new.keys ≡ names.old.keys ++ more) }

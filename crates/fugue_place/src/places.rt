@@ -67,6 +67,7 @@ impl Places {
     }
 
     /// Keeps the place of a node that doesn't rise.
+    // Seldom called: kept apart, so that what is done for each character stays short.
     #[inline(never)]
     fn keep(&mut self, node: Node, place: usize) -> Result<(), NoMem>
         ensures ok { OnOk result ((v : Nodes) → get node_cmp self.new.others v ≡ (if is_at (node_cmp node) v then Some place else get node_cmp self.old.others v)) }

@@ -18,6 +18,7 @@ abbrev pub Prints : Made → List ℕ → Type 0
 Prints (Going m) bytes = bytes ≡ printed m.peers
 Prints (Stopped why) bytes = ⊥
 
+-- the history is printed, or the fault tells why it stopped
 abbrev pub Makes : Made → Result (Vec ℕ) EditFault → Type 0
 Makes m (Ok bytes) = Prints m bytes.items
 Makes m (Err fault) = TellsStop m fault

@@ -18,6 +18,7 @@ abbrev pub found_touches : FileFinding → ℕ
 found_touches (IsFile events) = touches events 0
 found_touches finding = 0
 
+-- those of loading a file
 abbrev pub load_touches : LimitNumbers → File → ℕ
 load_touches limits missing = 0
 load_touches limits too_long = 0

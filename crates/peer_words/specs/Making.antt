@@ -73,7 +73,7 @@ after_step t (Stopped why) = Stopped why
 after_step t (Going m) =
     if t % 64 == 63 then Going (record { state = m.state; peers = gives (t / 64 % 3) ((t / 64 % 3 + 1) % 3) m.peers }) else Going m
 
--- one more step: an edit, and a gift where it is one's turn
+-- one more step: the edit that is drawn, and after each 64th a gift
 abbrev pub next_step : ℕ → Made → Made
 next_step t (Stopped why) = Stopped why
 next_step t (Going m) = after_step t (drawn_step m)

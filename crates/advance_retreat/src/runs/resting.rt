@@ -50,7 +50,8 @@ pub struct Labelled {
 }
 
 impl Runs {
-    /// Has the states of all characters as they are where no event is prepared. Answers how many are visible then, where so many were before.
+    /// Has the states of all characters as they are where no event is prepared. Answers how many are visible then, where so many
+    /// were before.
     pub fn rest<L: Ledger>(&mut self, visible: u32, visits: &mut Steps<L>) -> u32
         requires { AreCounted self.old.tree.pairs self.old.labels visible (shown_in (chars_in self.old.tree.pairs)) }
         ensures counted { AreCounted self.new.tree.pairs self.new.labels result (shown_in (chars_in self.new.tree.pairs)) }
@@ -69,7 +70,8 @@ impl Runs {
         count
     }
 
-    /// Has the states of a run as they are where no event is prepared. Answers how many are visible then, where so many were before.
+    /// Has the states of a run as they are where no event is prepared. Answers how many are visible then, where so many were
+    /// before.
     fn rest_run<L: Ledger>(&mut self, found: Labelled, visible: u32, visits: &mut Steps<L>) -> u32
         requires counted { AreCounted self.old.tree.pairs self.old.labels visible (shown_in (chars_in self.old.tree.pairs)) }
         requires held { Contains self.old.tree.pairs (found.label, found.run) }

@@ -25,8 +25,8 @@ use walker_record::Record;
 
 impl Runs {
     /// Has the last character of a cursor's run, which has others, go over to the struck ones right behind it. Only the labels
-    /// are told of that: the runs get the struck ones and the shorter run later. After an error for want of memory nothing has
-    /// changed.
+    /// are told of that: the runs get the struck ones and the shorter run later. After an error for want of memory the runs are
+    /// as before, and the labels are still theirs.
     pub fn shift_end(&mut self, cursor: &Cursor, struck: Struck) -> Result<Struck, NoMem>
         requires laid { AreLabelled (settled self.old.tree.pairs (Some cursor.now)) self.old.labels }
         requires at { IsCursor (settled self.old.tree.pairs (Some cursor.now)) cursor.now }
@@ -53,9 +53,9 @@ impl Runs {
         })
     }
 
-    /// Makes a struck run of the last character of a cursor's run, which has others. Answers that run, or None where the
-    /// character has to be deleted in another way, since no label is free behind it or there are 2^32 - 1 runs. After an error
-    /// for want of memory, and after None, nothing has changed.
+    /// Makes a struck run of the last character of a cursor's run, which has others. Answers that run, or None, as where no
+    /// label is free behind it: the character has to be deleted in another way then. After None, and after an error for want of
+    /// memory, the tree is as before.
     pub fn cut_end<L: Ledger>(
         &mut self,
         cursor: &Cursor,

@@ -19,4 +19,5 @@ invariant_of-self g c =
       };
       cursor = tt;
       told = λ e. refl;
+      few = again.few;
     }

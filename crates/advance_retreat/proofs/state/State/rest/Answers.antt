@@ -1,19 +1,13 @@
-use Rattle.std.proofs.Common.{◌≡◌, List, [], length, map, ◌≤◌, ◌^◌, sym, ap, ◌∙◌, subst}
+use Rattle.std.proofs.Common.{◌≡◌, List, [], map, sym, ap, ◌∙◌, subst}
 use Rattle.walker_record.specs.Stretches.{Stretch}
 use Rattle.fugue_place.specs.declared.child.Attached.{Attached}
-use Rattle.advance_retreat.specs.Kept.{Kept, target_at, AreWithin}
+use Rattle.advance_retreat.specs.Kept.{Kept}
 use Rattle.advance_retreat.specs.Resting.{rested}
 use Rattle.advance_retreat.specs.Rights.{HangWithin}
 use Rattle.advance_retreat.specs.Standing.{StandsFor}
-use Rattle.advance_retreat.proofs.Hanging.{few_records}
 use Rattle.advance_retreat.proofs.Moving.{with_records}
 use Rattle.advance_retreat.proofs.Resting.{rested_stands, hang_within}
 use Rattle.advance_retreat.proofs.state.State.rest.Goals as goal
-
-pub rest-requires-clause-few : goal.rest-requires-clause-few
-rest-requires-clause-few g c =
-    let q = c.requires.stands in
-    subst (λ (s : Kept). length s.records ≤ 2 ^ 25) (sym c.self.view_is) (few_records c.args.self.now q.0 q.1 q.2 q.3)
 
 pub rest-requires-clause-within : goal.rest-requires-clause-within
 rest-requires-clause-within g c =

@@ -1,4 +1,4 @@
-use Rattle.std.proofs.Common.{List, length, ◌≤◌, ◌^◌, sym, subst}
+use Rattle.std.proofs.Common.{List, sym, subst}
 use Rattle.walker_record.specs.Stretches.{Stretch}
 use Rattle.advance_retreat.specs.Rights.{InTree, AreRights, HangWithin, counted}
 use Rattle.advance_retreat.proofs.tree.Tree.rest.Goals as goal
