@@ -1,6 +1,6 @@
 """The rows of command_trials, carried out by the second reader: what .ci/rows.py computes answers with.
 
-It runs docs/second_reader.py over files, an input and outputs in memory, of which single calls fail, and knows nothing of the
+It runs tools/second_reader.py over files, an input and outputs in memory, of which single calls fail, and knows nothing of the
 program. What a row may say stands at the head of crates/command_trials/src/main.rt.
 """
 

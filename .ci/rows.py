@@ -316,7 +316,7 @@ def compare(reader, text):
 
 def main():
     writes = sys.argv[2:] == ["write"]
-    reader = Reader(ROOT / "docs" / "second_reader.py")
+    reader = Reader(ROOT / "tools" / "second_reader.py")
     text = (TRIALS / "stdin").read_text()
     by_hand, _, _ = text.partition(f"program: {FIRST}\n")
     table = make_table(reader)
