@@ -10,7 +10,7 @@ import traceback
 from collections import Counter
 
 ROOT, PROGRAM, FOLDER = map(pathlib.Path, sys.argv[1:])
-READER_FILE = ROOT / "docs" / "second_reader.py"
+READER_FILE = ROOT / "tools" / "second_reader.py"
 READER_COMMAND = [sys.executable, "-I", "-S", str(READER_FILE)]
 
 spec = importlib.util.spec_from_file_location("second_reader", READER_FILE)

@@ -1,8 +1,9 @@
 """Histories that .ci/second.py makes up, and the one file of each."""
 
-import hashlib
 from bisect import insort
 from collections import namedtuple
+
+from egw_bytes import DELETE, INSERT, content, record, with_digest
 
 MOST_EVENTS = 1_000_000
 MOST_INPUT = 16_777_216
@@ -109,26 +110,11 @@ class History:
 def file_of(events):
     """The one file of events."""
     agents = list(dict.fromkeys(event.id.agent for event in events))
-    number = {agent: n for n, agent in enumerate(agents)}
+    number_of = {agent: n for n, agent in enumerate(agents)}
     position = {event.id: p for p, event in enumerate(events)}
-    data = bytearray(b"EGWFILE\x01")
+    records = [record(number_of[event.id.agent], event.id.seq, [position[parent] for parent in event.parents], kind_of(event.op), *event.op) for event in events]
+    return with_digest(content(agents, records))
 
-    def put(value, size=4):
-        data.extend(value.to_bytes(size, "little"))
 
-    put(len(agents))
-    for agent in agents:
-        put(len(agent), 1)
-        data.extend(agent)
-    put(len(events))
-    for event in events:
-        put(number[event.id.agent])
-        put(event.id.seq)
-        put(len(event.parents), 1)
-        for parent in event.parents:
-            put(position[parent])
-        put(0 if event.op.ch is not None else 1, 1)
-        put(event.op.at)
-        if event.op.ch is not None:
-            put(event.op.ch)
-    return bytes(data) + hashlib.sha256(data).digest()
+def kind_of(op):
+    return DELETE if op.ch is None else INSERT

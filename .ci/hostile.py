@@ -1,15 +1,17 @@
 """Writes the files, the frames and the scripts of .ci/hostile into the working folder."""
 
-import hashlib
 import itertools
+import pathlib
+import sys
+
+sys.dont_write_bytecode = True
+sys.path.insert(0, str(pathlib.Path(__file__).parent.parent / "tools"))
+
+from egw_bytes import INSERT, MARK, counted, event_bytes, events_frame, frame, id_bytes, number, record, sized, with_digest  # noqa: E402
 
 GREATEST = 4294967295
 MOST_INPUT = 16_777_216
 BODY = 1_048_576
-
-
-def number(value, size=4):
-    return value.to_bytes(size, "little")
 
 
 def put(name, *parts):
@@ -19,46 +21,16 @@ def put(name, *parts):
 
 def put_file(name, *parts):
     """A file with its digest behind it."""
-    data = b"EGWFILE\x01" + b"".join(parts)
-    put(name, data, hashlib.sha256(data).digest())
+    put(name, with_digest(MARK + b"".join(parts)))
 
 
 def names(agents):
-    return number(len(agents)) + b"".join(number(len(name), 1) + name for name in agents)
-
-
-def record(agent, seq, parents, kind, at, ch=None):
-    front = number(agent) + number(seq) + number(len(parents), 1) + b"".join(map(number, parents))
-    return front + number(kind, 1) + number(at) + (b"" if ch is None else number(ch))
-
-
-def records(made):
-    made = list(made)
-    return number(len(made)) + b"".join(made)
+    return counted(map(sized, agents))
 
 
 def chain(count, ch, agent=0):
     """What one agent types, each event on the one before."""
-    return (record(agent, n, [n - 1] if n else [], 0, n, ch) for n in range(count))
-
-
-def id_of(agent, seq):
-    return number(len(agent), 1) + agent + number(seq)
-
-
-def event(id, parents, kind, at, ch=None):
-    """An event in a frame; ids are pairs."""
-    front = id_of(*id) + number(len(parents), 1) + b"".join(id_of(*parent) for parent in parents)
-    return front + number(kind, 1) + number(at) + (b"" if ch is None else number(ch))
-
-
-def frame(kind, body=b""):
-    return number(kind, 1) + number(len(body)) + body
-
-
-def events_frame(events):
-    events = list(events)
-    return frame(2, number(len(events)) + b"".join(events))
+    return (record(agent, n, [n - 1] if n else [], INSERT, n, ch) for n in range(count))
 
 
 LETTERS = sorted(b"0123456789ABCDEFGHIJKLMNOPQRSTUVWXYZ_abcdefghijklmnopqrstuvwxyz")
@@ -79,30 +51,30 @@ def make_files():
     put_file("million_one", names(a), number(1_000_000), first)
     put_file("above", names(a), number(1_000_001), first)
     put_file("names", names(list(itertools.islice(FOUR, 1_000_000))), number(0))
-    put_file("agent_number", names(a), records([record(GREATEST, 0, [], 0, 0, 97)]))
-    put_file("sequence", names(a), records([record(0, GREATEST, [], 0, 0, 97)]))
-    put_file("sequence_behind", names(a), records([first, record(0, GREATEST, [0], 0, 1, 97)]))
-    put_file("index", names(a), records([record(0, 0, [], 0, GREATEST, 97)]))
-    put_file("index_deleted", names(a), records([first, record(0, 1, [0], 1, GREATEST)]))
-    put_file("parents", names(a), records([first, record(0, 1, [0] * 255, 0, 0, 97)]))
-    put_file("position", names(a), records([first, record(0, 1, [GREATEST], 0, 0, 97)]))
-    put_file("scalar", names(a), records([record(0, 0, [], 0, 0, GREATEST)]))
+    put_file("agent_number", names(a), counted([record(GREATEST, 0, [], 0, 0, 97)]))
+    put_file("sequence", names(a), counted([record(0, GREATEST, [], 0, 0, 97)]))
+    put_file("sequence_behind", names(a), counted([first, record(0, GREATEST, [0], 0, 1, 97)]))
+    put_file("index", names(a), counted([record(0, 0, [], 0, GREATEST, 97)]))
+    put_file("index_deleted", names(a), counted([first, record(0, 1, [0], 1, GREATEST)]))
+    put_file("parents", names(a), counted([first, record(0, 1, [0] * 255, 0, 0, 97)]))
+    put_file("position", names(a), counted([first, record(0, 1, [GREATEST], 0, 0, 97)]))
+    put_file("scalar", names(a), counted([record(0, 0, [], 0, 0, GREATEST)]))
     put_file("twice", names([b"b", b"a", b"b"]), number(0))
-    put_file("ab", names([b"a", b"b"]), records([first, record(1, 0, [], 0, 0, 98)]))
-    put_file("ba", names([b"b", b"a"]), records([record(0, 0, [], 0, 0, 98), record(1, 0, [], 0, 0, 97)]))
-    put_file("ab_other", names([b"a", b"b"]), records([first, record(1, 0, [], 0, 0, 99)]))
+    put_file("ab", names([b"a", b"b"]), counted([first, record(1, 0, [], 0, 0, 98)]))
+    put_file("ba", names([b"b", b"a"]), counted([record(0, 0, [], 0, 0, 98), record(1, 0, [], 0, 0, 97)]))
+    put_file("ab_other", names([b"a", b"b"]), counted([first, record(1, 0, [], 0, 0, 99)]))
     for heads in (16, 17):
         agents = [b"p%02d" % n for n in range(heads)]
-        put_file(f"heads{heads}", names(agents), records(record(n, 0, [], 0, 0, 97 + n) for n in range(heads)))
-    put_file("clash_one", names(a), records(chain(100_000, 97)))
-    put_file("clash_other", names(a), records(chain(100_000, 98)))
+        put_file(f"heads{heads}", names(agents), counted(record(n, 0, [], 0, 0, 97 + n) for n in range(heads)))
+    put_file("clash_one", names(a), counted(chain(100_000, 97)))
+    put_file("clash_other", names(a), counted(chain(100_000, 98)))
     agents = [b"f%d" % n for n in range(2000)]
-    put_file("fan_one", names(agents), records(record(n, 0, [], 0, 0, 97) for n in range(2000)))
-    put_file("fan_other", names(agents), records(record(n, 0, [], 0, 0, 98) for n in range(2000)))
+    put_file("fan_one", names(agents), counted(record(n, 0, [], 0, 0, 97) for n in range(2000)))
+    put_file("fan_other", names(agents), counted(record(n, 0, [], 0, 0, 98) for n in range(2000)))
     for name, count in (("forks", 40_000), ("forks_all", 999_999)):
         forks = [b"d%d" % n for n in range(count)]
-        put_file(name, names(a + forks), records([first, *(record(1 + n, 0, [0], 1, 0) for n in range(count))]))
-    put_file("letter", names(a), records([first]))
+        put_file(name, names(a + forks), counted([first, *(record(1 + n, 0, [0], 1, 0) for n in range(count))]))
+    put_file("letter", names(a), counted([first]))
 
 
 def make_inputs():
@@ -123,22 +95,22 @@ def make_inputs():
     put("events_claimed_full", frame(2, number(GREATEST) + bytes(BODY - 4)))
     put("events_longer", frame(2, number(GREATEST) + bytes(BODY - 3)))
     put("have_cut", b"\x01", number(37_000_004), number(GREATEST))
-    held = [id_of(bytes(name), GREATEST) for name in itertools.islice(itertools.product(LETTERS, repeat=4), 1_864_134)]
+    held = [id_bytes((bytes(name), GREATEST)) for name in itertools.islice(itertools.product(LETTERS, repeat=4), 1_864_134)]
     put("have_full", frame(1, number(len(held)) + b"".join(held)))
     per = (BODY - 4) // 22
-    one = [events_frame(event((b"b", n), [(b"z", 0)], 0, 0, 120) for n in range(at, at + per)) for at in range(0, 16 * per, per)]
+    one = [events_frame(event_bytes((b"b", n), [(b"z", 0)], 0, 0, 120) for n in range(at, at + per)) for at in range(0, 16 * per, per)]
     put("unknown_one", one[0])
     put("unknown", *one)
-    backwards = [event((b"b", n), [(b"b", n - 1)], 0, n, 120) for n in range(65_536, 0, -1)]
+    backwards = [event_bytes((b"b", n), [(b"b", n - 1)], 0, n, 120) for n in range(65_536, 0, -1)]
     parts = [events_frame(backwards[at : at + 40_000]) for at in range(0, 65_536, 40_000)]
-    put("backwards", *parts, events_frame([event((b"b", 0), [], 0, 0, 120)]), BYE)
-    forks = [event((b"d%d" % n, 0), [(b"a", 0)], 1, 0) for n in range(20_000)]
+    put("backwards", *parts, events_frame([event_bytes((b"b", 0), [], 0, 0, 120)]), BYE)
+    forks = [event_bytes((b"d%d" % n, 0), [(b"a", 0)], 1, 0) for n in range(20_000)]
     put("forks_sent", events_frame(forks), BYE)
     many = [(b"p%03d" % n, 0) for n in range(255)]
-    refused = [event((b"b", 0), many, 0, 0, 120), event((b"b", 0), [(b"a", 0)], 0, GREATEST, 120), event((b"b", GREATEST), [(b"a", 0)], 0, 0, 120)]
-    waits = [event((b"b", GREATEST), [(b"b", GREATEST - 1)], 0, 0, 120), event((b"c", 0), [(b"b", GREATEST)], 1, GREATEST)]
-    put("edges", events_frame(refused), events_frame(waits), frame(1, number(1) + id_of(b"a", GREATEST)), BYE)
-    put("one_more", events_frame([event((b"b", 0), [(b"a", 999_999)], 0, 0, 120)]))
+    refused = [event_bytes((b"b", 0), many, 0, 0, 120), event_bytes((b"b", 0), [(b"a", 0)], 0, GREATEST, 120), event_bytes((b"b", GREATEST), [(b"a", 0)], 0, 0, 120)]
+    waits = [event_bytes((b"b", GREATEST), [(b"b", GREATEST - 1)], 0, 0, 120), event_bytes((b"c", 0), [(b"b", GREATEST)], 1, GREATEST)]
+    put("edges", events_frame(refused), events_frame(waits), frame(1, number(1) + id_bytes((b"a", GREATEST))), BYE)
+    put("one_more", events_frame([event_bytes((b"b", 0), [(b"a", 999_999)], 0, 0, 120)]))
     put("net_said", b"agree\n")
     put("net_ends", b"peer a\ndel a 4294967295 4294967295\n")
     put("net_late", b"peer a\npeer b\npush a b\n", b"agree\n" * 1000, b"deliver 4294967295\n")

@@ -2,7 +2,7 @@
 number of edits, the seeds.
 
 A peer finds once what its new character hangs on in the tree, and each other peer puts it there when it is given the event: nothing
-is found again by replay. That is exact, since whoever is given an event holds all that its maker held. From docs/second_reader.py come
+is found again by replay. That is exact, since whoever is given an event holds all that its maker held. From tools/second_reader.py come
 the draws, the form of an event and the writer of files; it has no part in the rest.
 """
 
@@ -17,7 +17,7 @@ from concurrent.futures import ThreadPoolExecutor
 from itertools import accumulate, islice
 
 sys.dont_write_bytecode = True
-sys.path.insert(0, str(pathlib.Path(__file__).parent.parent / "docs"))
+sys.path.insert(0, str(pathlib.Path(__file__).parent.parent / "tools"))
 
 from second_reader import DELETE, INSERT, LEFT, MAX_EVENTS, RIGHT, Draws, Event, file_bytes, parse_up_to  # noqa: E402
 

@@ -1,16 +1,17 @@
 """The rows of command_trials, carried out by the second reader: what .ci/rows.py computes answers with.
 
-It runs docs/second_reader.py over files, an input and outputs in memory, of which single calls fail, and knows nothing of the
+It runs tools/second_reader.py over files, an input and outputs in memory, of which single calls fail, and knows nothing of the
 program. What a row may say stands at the head of crates/command_trials/src/main.rt.
 """
 
 import errno
-import hashlib
 import importlib.util
 import os
 import re
 import sys
 import types
+
+from egw_bytes import with_digest
 
 OBJECTS = ("shelf", "source", "out", "err")
 ROOM = 100_000  # what an output takes at most
@@ -174,7 +175,7 @@ class Rows:
             of, count = more.split()
             self.bytes[first] = self.bytes[of][: int(count)]
         elif verb == "sealed":
-            self.bytes[first] = self.bytes[more] + hashlib.sha256(self.bytes[more]).digest()
+            self.bytes[first] = with_digest(self.bytes[more])
         elif verb == "file":
             self.outside.files[first] = self.bytes[more]
         elif verb == "in":

@@ -14,9 +14,10 @@ import sys
 from collections import namedtuple
 
 sys.dont_write_bytecode = True
-sys.path.insert(0, str(pathlib.Path(__file__).parent))
+sys.path[:0] = [str(pathlib.Path(__file__).parent), str(pathlib.Path(__file__).parent.parent / "tools")]
 
-from outside import OBJECTS, Outside, Reader, Rows, escaped  # noqa: E402
+from egw_bytes import INSERT, content, event_bytes, frame, number, record  # noqa: E402
+from outside import OBJECTS, Reader, Rows, escaped  # noqa: E402
 
 ROOT = pathlib.Path(sys.argv[1])
 TRIALS = ROOT / "crates" / "command_trials"
@@ -27,40 +28,19 @@ FIRST = "named bytes of the table of calls that fail"
 Case = namedtuple("Case", "title words files input more limits", defaults=({}, b"", (), "program"))
 
 
-def number(value, size=4):
-    return value.to_bytes(size, "little")
-
-
-def record(agent, seq, parents, kind, at, ch=None):
-    """A record of a file, of which the agent and the parents are numbers."""
-    front = number(agent) + number(seq) + number(len(parents), 1) + b"".join(map(number, parents))
-    return front + number(kind, 1) + number(at) + (b"" if ch is None else number(ord(ch)))
-
-
-def content(agents, records):
-    """A file without its digest."""
-    names = b"".join(number(len(name), 1) + name for name in agents)
-    return b"EGWFILE\x01" + number(len(agents)) + names + number(len(records)) + b"".join(records)
-
-
 def typed(agent, text, position=0):
     """The records of a text that one agent types at the start of a file, or behind so many records."""
-    return [record(agent, n, [position + n - 1] if n else [], 0, n, ch) for n, ch in enumerate(text)]
+    return [record(agent, n, [position + n - 1] if n else [], INSERT, n, ord(ch)) for n, ch in enumerate(text)]
 
 
-def frame(kind, body=b""):
-    return number(kind, 1) + number(len(body)) + body
-
-
-def event(agent, seq, parents, at, ch):
-    """An insertion in a frame; each parent is an agent and a number."""
-    ids = [number(len(name), 1) + name + number(seq) for name, seq in [(agent, seq), *parents]]
-    return ids[0] + number(len(parents), 1) + b"".join(ids[1:]) + number(0, 1) + number(at) + number(ord(ch))
+def inserts(agent, seq, parents, at, ch):
+    """An insertion in a frame."""
+    return event_bytes((agent, seq), parents, INSERT, at, ord(ch))
 
 
 # Two words typed apart, what comes of them, and files that are refused.
 ABC, XYZ = typed(0, "abc"), typed(0, "xyz")
-LATER = record(1, 0, [2], 0, 3, "Q")
+LATER = record(1, 0, [2], INSERT, 3, ord("Q"))
 FILES = {
     "empty": content([], []),
     "abc": content([b"a"], ABC),
@@ -68,13 +48,13 @@ FILES = {
     "both": content([b"a", b"b"], ABC + typed(1, "xyz", 3)),
     "abcQ": content([b"a", b"b"], ABC + [LATER]),
     "other_abc": content([b"a"], typed(0, "Abc")),
-    "unreduced": content([b"a", b"b"], [*typed(0, "ab"), record(1, 0, [0, 1], 0, 0, "X")]),
+    "unreduced": content([b"a", b"b"], [*typed(0, "ab"), record(1, 0, [0, 1], INSERT, 0, ord("X"))]),
     "unlike": bytes(20),
 }
 HAVE = frame(1, number(1) + b"\x01a" + number(2))
-EVENTS = frame(2, number(1) + event(b"b", 0, [(b"a", 2)], 3, "Q"))
-WAITING = frame(2, number(1) + event(b"c", 0, [(b"z", 0)], 0, "w"))
-CLASH = frame(2, number(1) + event(b"a", 0, [], 0, "A"))
+EVENTS = frame(2, number(1) + inserts(b"b", 0, [(b"a", 2)], 3, "Q"))
+WAITING = frame(2, number(1) + inserts(b"c", 0, [(b"z", 0)], 0, "w"))
+CLASH = frame(2, number(1) + inserts(b"a", 0, [], 0, "A"))
 BYE = frame(6)
 NET = b"peer a\npeer b\nins a 0 abc\npush a b\ndeliver 0\nshow b\nagree\n"
 F, FG = {"F": "abc"}, {"F": "abc", "G": "xyz"}
@@ -316,7 +296,7 @@ def compare(reader, text):
 
 def main():
     writes = sys.argv[2:] == ["write"]
-    reader = Reader(ROOT / "docs" / "second_reader.py")
+    reader = Reader(ROOT / "tools" / "second_reader.py")
     text = (TRIALS / "stdin").read_text()
     by_hand, _, _ = text.partition(f"program: {FIRST}\n")
     table = make_table(reader)

@@ -5,7 +5,7 @@ import pathlib
 import sys
 
 sys.dont_write_bytecode = True
-sys.path.insert(0, str(pathlib.Path(__file__).parent.parent / "docs"))
+sys.path.insert(0, str(pathlib.Path(__file__).parent.parent / "tools"))
 
 from second_reader import INSERT, parse_file  # noqa: E402
 

@@ -2,16 +2,16 @@
 
 import hashlib
 import itertools
-import os
 import pathlib
 import re
 import sys
 
 sys.dont_write_bytecode = True
-sys.path.insert(0, str(pathlib.Path(__file__).parent))
+sys.path[:0] = [str(pathlib.Path(__file__).parent), str(pathlib.Path(__file__).parent.parent / "tools")]
 
 from beside import FOLDER, ROOT, Alone, Beside, Draws, list_all, reader  # noqa: E402
-from histories import MOST_EVENTS, MOST_FILE, MOST_INPUT, USAGE, Event, History, Id, Op, file_of  # noqa: E402
+from egw_bytes import content, counted, event_bytes, frame, id_bytes, number, record, with_digest  # noqa: E402
+from histories import MOST_EVENTS, MOST_FILE, MOST_INPUT, USAGE, Event, History, Id, Op, file_of, kind_of  # noqa: E402
 
 SEED = 2718281828
 
@@ -249,10 +249,6 @@ def graphs(beside, draws):
     return 3
 
 
-def with_digest(content):
-    return content + hashlib.sha256(content).digest()
-
-
 def bad_events(draws, events):
     """One event changed, so that it may not be good any more, or clash with the one that it was."""
     place = draws.below(len(events))
@@ -308,20 +304,9 @@ def damaged(beside, draws):
     return 1
 
 
-def record(agent, seq, parents, kind, at, ch=None):
-    numbers = [agent, seq], parents, [at] + ([] if ch is None else [ch])
-    spelled = [b"".join(n.to_bytes(4, "little") for n in part) for part in numbers]
-    return spelled[0] + bytes([len(parents)]) + spelled[1] + bytes([kind]) + spelled[2]
-
-
 def by_hand(beside, draws):
     """A file for each fault of a field, and the rows of docs/FORMATS.md."""
     beside.part = "files by hand"
-
-    def content(agents, records, count=None):
-        names = b"".join(bytes([len(name)]) + name for name in agents)
-        numbers = [len(agents).to_bytes(4, "little"), (len(records) if count is None else count).to_bytes(4, "little")]
-        return b"EGWFILE\x01" + numbers[0] + names + numbers[1] + b"".join(records)
 
     first, second = record(0, 0, [], 0, 0, 97), record(0, 1, [0], 0, 1, 98)
     other = record(1, 0, [], 0, 0, 99)
@@ -434,23 +419,9 @@ def event_of(line):
 # Sessions
 
 
-def frame(kind, body=b""):
-    return bytes([kind]) + len(body).to_bytes(4, "little") + body
-
-
-def id_bytes(id):
-    return bytes([len(id.agent)]) + id.agent + id.seq.to_bytes(4, "little")
-
-
-def event_bytes(event):
+def sent(event):
     """An event as it stands in a frame."""
-    at, ch = event.op
-    operation = bytes([ch is None]) + at.to_bytes(4, "little") + (b"" if ch is None else ch.to_bytes(4, "little"))
-    return id_bytes(event.id) + bytes([len(event.parents)]) + b"".join(map(id_bytes, event.parents)) + operation
-
-
-def counted(items):
-    return len(items).to_bytes(4, "little") + b"".join(items)
+    return event_bytes(event.id, event.parents, kind_of(event.op), *event.op)
 
 
 def draw_event(draws, events):
@@ -480,9 +451,9 @@ def draw_frame(draws, events):
         return frame(1, counted([id_bytes(Id(agent, 1 + draws.below(5))) for agent in agents]))
     if kind < 7:
         start = draws.below(len(events))
-        return frame(2, counted([event_bytes(event) for event in events[start : start + 1 + draws.below(8)]]))
+        return frame(2, counted([sent(event) for event in events[start : start + 1 + draws.below(8)]]))
     if kind < 15:
-        return frame(2, counted([event_bytes(draw_event(draws, events)) for _ in range(draws.below(7))]))
+        return frame(2, counted([sent(draw_event(draws, events)) for _ in range(draws.below(7))]))
     if kind < 17:
         return draws.one_of([frame(3), frame(4, bytes(16))])
     return draws.one_of([frame(6), frame(6), frame(5, id_bytes(events[0].id)), frame(draws.below(9), bytes(draws.below(3)))])
@@ -764,7 +735,7 @@ def limits(beside):
     beside.run("edit", "F", "--agent", "a", input=b"\n" * (MOST_INPUT + 1))
     beside.run("edit", "F", "--agent", "a", input=b"ins 0 " + b"x" * (MOST_EVENTS + 1))
     for more in (0, 1):
-        beside.run("serve", "F", input=b"\x01" + (4 + 37 * MOST_EVENTS).to_bytes(4, "little") + bytes(MOST_INPUT - 5 + more))
+        beside.run("serve", "F", input=b"\x01" + number(4 + 37 * MOST_EVENTS) + bytes(MOST_INPUT - 5 + more))
     for size in (MOST_FILE, MOST_FILE + 1):
         for folder, _ in beside.sides:
             with open(folder / "large", "wb") as file:

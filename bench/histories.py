@@ -6,14 +6,15 @@ Each maker answers the files that one measurement needs, by name, for about so m
 the length of the text that the author sees. Where several write at once, the first of them alone deletes: so that length is always
 the number of insertions seen, less the number of deletions seen, and no text has to be kept.
 """
-import hashlib
 import pathlib
 import random
-import struct
 import sys
 
-MARK = b"EGWFILE\x01"
-INSERT, DELETE = 0, 1
+sys.dont_write_bytecode = True
+sys.path.insert(0, str(pathlib.Path(__file__).parent.parent / "tools"))
+
+from egw_bytes import DELETE, INSERT, content, record, with_digest  # noqa: E402
+
 LETTERS = "etaoin shrdlu etaoin shrdlu\n"
 
 
@@ -41,11 +42,7 @@ class History:
     def add(self, agent, parents, kind, index, character=None):
         """One more event. Answers its position."""
         order = sorted(parents, key=lambda at: (self.agents[self.ids[at][0]], self.ids[at][1]))
-        record = struct.pack("<IIB", agent, self.numbers[agent], len(order))
-        record += b"".join(struct.pack("<I", at) for at in order) + struct.pack("<BI", kind, index)
-        if kind == INSERT:
-            record += struct.pack("<I", ord(character))
-        self.records.append(record)
+        self.records.append(record(agent, self.numbers[agent], order, kind, index, ord(character) if kind == INSERT else None))
         self.ids.append((agent, self.numbers[agent]))
         self.numbers[agent] += 1
         self.last[agent] = self.count
@@ -54,11 +51,7 @@ class History:
 
     def file(self):
         """The bytes of its file. Agents stand there in the order of their first events, and each has one."""
-        content = MARK + struct.pack("<I", len(self.agents))
-        for name in self.agents:
-            content += struct.pack("<B", len(name)) + name.encode()
-        content += struct.pack("<I", self.count) + b"".join(self.records)
-        return content + hashlib.sha256(content).digest()
+        return with_digest(content([name.encode() for name in self.agents], self.records))
 
 
 class Author:
@@ -191,7 +184,7 @@ def tail(size, draw):
     del short.records[-50:], short.ids[-50:]
     short.numbers = [short.count, 0]
     short.last = [short.count - 1, None]
-    inserted = sum(len(record) == 22 for record in short.records[1:]) + 1
+    inserted = sum(len(one) == 22 for one in short.records[1:]) + 1
     other = Author(short, 1, [short.count - 1], 2 * inserted - short.count)
     other.type(draw.randint(0, other.length), 100, draw)
     return {"file": history.file(), "other": short.file()}
@@ -233,8 +226,8 @@ HISTORIES = {
 
 def main(name, size, folder):
     """Writes the files of one measurement."""
-    for file, content in HISTORIES[name](int(size), random.Random(name + " " + size)).items():
-        (pathlib.Path(folder) / file).write_bytes(content)
+    for file, data in HISTORIES[name](int(size), random.Random(name + " " + size)).items():
+        (pathlib.Path(folder) / file).write_bytes(data)
 
 
 if __name__ == "__main__":

@@ -1,0 +1,69 @@
+"""The bytes of event files and frames, as docs/FORMATS.md has them, good and bad ones. The second reader has its own, and no part in it."""
+
+import hashlib
+
+MARK = b"EGWFILE\x01"
+INSERT, DELETE = 0, 1
+HAVE, EVENTS, DONE, TOOK, CLASH, BYE = range(1, 7)
+
+
+def number(value, size=4):
+    return value.to_bytes(size, "little")
+
+
+def numbers(values):
+    return b"".join(map(number, values))
+
+
+def counted(items):
+    """Some items behind their number."""
+    items = list(items)
+    return number(len(items)) + b"".join(items)
+
+
+def sized(name):
+    return number(len(name), 1) + name
+
+
+def operation(kind, at, ch):
+    """What an event does; of an insertion with the code point of its character."""
+    return number(kind, 1) + number(at) + (b"" if ch is None else number(ch))
+
+
+# Files
+
+
+def record(agent, seq, parents, kind, at, ch=None):
+    """An event in a file: the agent and the parents are numbers."""
+    return number(agent) + number(seq) + number(len(parents), 1) + numbers(parents) + operation(kind, at, ch)
+
+
+def content(agents, records, count=None):
+    """A file without its digest; it may tell of another number of events than it has."""
+    return MARK + counted(map(sized, agents)) + (counted(records) if count is None else number(count) + b"".join(records))
+
+
+def with_digest(content):
+    return content + hashlib.sha256(content).digest()
+
+
+# Frames
+
+
+def id_bytes(id):
+    """An id is a name and a number."""
+    name, seq = id
+    return sized(name) + number(seq)
+
+
+def event_bytes(id, parents, kind, at, ch=None):
+    """An event in a frame; its parents are ids."""
+    return id_bytes(id) + number(len(parents), 1) + b"".join(map(id_bytes, parents)) + operation(kind, at, ch)
+
+
+def frame(kind, body=b""):
+    return number(kind, 1) + number(len(body)) + body
+
+
+def events_frame(events):
+    return frame(EVENTS, counted(events))
