@@ -11,7 +11,7 @@ Definition = namedtuple("Definition", "name text comment")
 
 BLOCK = re.compile(r"^(?:unsafe )?(impl|(?:pub )?trait)\b(?:<[^{]*?>)? ?([^{]*)\{", re.M)
 FUNCTION = re.compile(r"^ *(pub(?:\(\w+\))? )?(?:const )?fn (\w+)", re.M)
-CLAUSE = re.compile(r"\b(ensures|requires)(?: \*)?(?: (\w+))? \{")
+CLAUSE = re.compile(r"\b(ensures|requires)(?:\s+\*)?(?:\s+(\w+))?\s+\{")
 BODY = re.compile(r"^ *\{\}?$|(?:\{|\{\}|;)$", re.M)
 GHOST = re.compile(r"^ *ghost (\w+) ?[:=] ?\{", re.M)
 PAIRS = {pair: re.compile("[" + re.escape(pair) + "]") for pair in ("{}", "()", "<>")}
@@ -92,6 +92,21 @@ def handed_on(library):
     for found in re.finditer(r"^pub use (?:\w+::)*(?:\{([^}]*)\}|(\w+))(?: as \w+)?;", library, re.M):
         names |= set(re.findall(r"\w+", found[1] or found[2]))
     return names, set(re.findall(r"^pub mod (\w+);", library, re.M))
+
+
+IMPORT = re.compile(r"^ *(?:ghost |pub )*use Rattle\.([\w.]+?)(?:\.\{([^}]*)\})?(?: as (\w+))?;?$", re.M)
+
+
+def imports_of(text):
+    """Where the words of a file come from: each word with a module and its name there, or with a module alone."""
+    words = {}
+    for module, names, other in IMPORT.findall(text):
+        if other:
+            words[other] = module, ""
+        for name in filter(None, map(str.strip, names.split(","))):
+            first, _, other = name.partition(" as ")
+            words[other or first] = module, first
+    return words
 
 
 COMMENT = re.compile(r"(.*?)(?:(?<!\S)--(?: (.*))?)?$")
