@@ -47,7 +47,7 @@ none goes as deep as a text or a history is long.
 
 """
 Call = namedtuple("Call", "owner name takes returns clauses body")
-BLOCK = re.compile(r"^(?:unsafe )?(impl|(?:pub )?trait)\b(?:<[^{]*?>)? ?([^{]*)\{", re.M)
+BLOCK = re.compile(r"^(?:unsafe )?(impl|(?:pub )?trait)\b(?:<(?:[^{<>]|<[^{<>]*>)*>)? ?([^{]*)\{", re.M)
 FUNCTION = re.compile(r"^( *)(pub (?:const )?)?(?:const )?fn (\w+)", re.M)
 CLAUSE = re.compile(r"\b(ensures|requires)(?: \*)?(?: (\w+))? \{")
 OK, ERR = re.compile(r"\b(IfOk|OnOk|IsOkAnd|IsOk)\b"), re.compile(r"\b(IfErr|OnErr|IsErr|IsErrAnd)\b")
