@@ -9,7 +9,7 @@ Function = namedtuple("Function", "block is_pub name takes returns signature cla
 Clause = namedtuple("Clause", "kind name text")
 Definition = namedtuple("Definition", "name text comment")
 
-BLOCK = re.compile(r"^(?:unsafe )?(impl|(?:pub )?trait)\b(?:<[^{]*?>)? ?([^{]*)\{", re.M)
+BLOCK = re.compile(r"^(?:unsafe )?(impl|(?:pub )?trait)\b(?:<(?:[^{<>]|<[^{<>]*>)*>)? ?([^{]*)\{", re.M)
 FUNCTION = re.compile(r"^ *(pub(?:\(\w+\))? )?(?:const )?fn (\w+)", re.M)
 CLAUSE = re.compile(r"\b(ensures|requires)(?:\s+\*)?(?:\s+(\w+))?\s+\{")
 BODY = re.compile(r"^ *\{\}?$|(?:\{|\{\}|;)$", re.M)

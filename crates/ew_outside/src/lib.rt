@@ -13,6 +13,7 @@ mod file_map;
 mod mem_shelf;
 mod mem_sink;
 mod mem_source;
+mod opened_files;
 mod shelf;
 mod sink;
 mod source;
