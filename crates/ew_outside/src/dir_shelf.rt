@@ -40,15 +40,7 @@ impl<R: Files> DirShelf<R> {
 }
 
 impl<R: Files> Shelf for DirShelf<R> {
-    ghost files = { λ _. None };
-
-    ghost faults = { λ s. s.faults };
-
-    ghost misses = { λ s. s.misses };
-
-    ghost loads = { λ s. s.loads };
-
-    ghost lost = { λ s. s.lost };
+    ghost seen = { λ s. record { files = None; faults = s.faults; misses = s.misses; loads = s.loads; lost = s.lost } };
 
     /// `None` is for a file that isn't there. Whatever else the system refuses is a fault.
     fn load(&mut self, name: &str, max: usize) -> Result<Option<Vec<u8>>, ShelfFault> {

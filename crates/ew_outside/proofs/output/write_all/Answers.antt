@@ -1,6 +1,6 @@
-use Rattle.serve_plans.proofs.Outputs.{Appends-take}
+use Rattle.ew_outside.proofs.Outputs.{Appends-take}
 use Rattle.std.proofs.Common.{rules}
-use Rattle.serve_plans.proofs.output.write_all.Goals as goal
+use Rattle.ew_outside.proofs.output.write_all.Goals as goal
 
 pub pieces-preserved : goal.pieces-preserved
 pieces-preserved g c = record {

@@ -1,5 +1,5 @@
--- What an output takes of the bytes that are written to it.
-use Rattle.std.specs.Prelude.{◌≡◌, ◌≤◌, ◌⊎◌, ℕ, List, [], take, Option}
+-- What a sink takes of the bytes that are written to it.
+use Rattle.std.specs.Prelude.{◌≡◌, ◌≤◌, ◌⊎◌, ℕ, List, [], take, Option, Result, Ok, Err}
 use Rattle.std.specs.Io.KnownBytes.{Appends}
 use Rattle.ew_outside.specs.Bytes.{IsFlushed}
 use Rattle.ew_outside.specs.Counts.{IsQuiet}
@@ -17,3 +17,8 @@ pub record Tells (old new : Option (List ℕ)) (before now : ℕ) (text : List �
   pub later : before ≤ now
   pub front : GrowsByFront old new text
   pub whole : IsQuiet before now → Appends old new text
+
+-- all of the bytes were taken, or at a fault a front of them
+abbrev pub Takes : {T E : Type 0} → Option (List ℕ) → Option (List ℕ) → List ℕ → Result T E → Type 0
+Takes old new bytes (Ok _) = Appends old new bytes
+Takes old new bytes (Err _) = GrowsByFront old new bytes
