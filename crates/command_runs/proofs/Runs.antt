@@ -21,7 +21,8 @@ use Rattle.command_table.specs.Refusals.{not_taken, status_of}
 use Rattle.command_table.specs.Seen.{Seen, Object, shelf, source, sink, faults_of, TellsErr}
 use Rattle.command_table.specs.Sessions.{Session, IsPrompt, RepliesTo, exchanged, opened_state}
 use Rattle.command_table.specs.Table.{Text, Line, does, serves, opened, open_file, refuses}
-use Rattle.command_table.specs.Text.{out_of_memory, usage as usage_text}
+use Rattle.command_table.specs.Cli.{usage as usage_text}
+use Rattle.command_table.specs.Text.{out_of_memory}
 use Rattle.command_texts.specs.Reasons.{refusal_view}
 use Rattle.opened_files.specs.Views.{IsRefusal, MissesBy, reply_status, reply_view}
 use Rattle.opened_files.specs.declared.reply.Reply as code

@@ -16,7 +16,8 @@ use Rattle.command_table.specs.Reads.{shape_of, reads_input, needs_file, LoadsAl
 use Rattle.command_table.specs.Seen.{Seen, Object, shelf, source, sink, faults_of, failed_text, TellsErr}
 use Rattle.command_table.specs.Sessions.{Session, is_bye, RepliesTo, IsPrompt}
 use Rattle.command_table.specs.Table.{Text, Line, does, serves, line_of, opened, open_file}
-use Rattle.command_table.specs.Text.{usage as usage_text, out_of_memory}
+use Rattle.command_table.specs.Cli.{usage as usage_text}
+use Rattle.command_table.specs.Text.{out_of_memory}
 
 -- it holds of a line that sends nothing before its end, and of one that serves a peer
 abbrev pub IfSendsNone : Option Line → Type 0 → Type 0

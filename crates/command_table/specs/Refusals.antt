@@ -6,7 +6,8 @@ use Rattle.ew_model.specs.declared.id.Id.{Id}
 use Rattle.ew_model.specs.Scripts.{id_text}
 use Rattle.ew_model.specs.Verdicts.{Ruling}
 use Rattle.ew_model.specs.FileFaults.{RecordFault}
-use Rattle.command_table.specs.Text.{usage, field_words, verdict_words}
+use Rattle.command_table.specs.Text.{field_words, verdict_words}
+use Rattle.command_table.specs.Cli.{usage}
 
 -- A reason to refuse a line. Lines and frames are counted from 1.
 pub data Refusal : Type 0 where

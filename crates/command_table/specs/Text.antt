@@ -8,10 +8,6 @@ use Rattle.ew_model.specs.Verdicts.Ruling.{Repeat, Clash, SelfParent, TooManyPar
 use Rattle.ew_model.specs.FileFaults.{RecordFault}
 use Rattle.ew_model.specs.FileFaults.RecordFault.{Cut, NameBad, NameTwice, AgentNumber, IdTwice, ParentCount, ParentPosition, ParentOrder, KindBad, Scalar, Trailing, UnusedAgent}
 
--- the usage: a line for each command
-abbrev pub usage : List ℕ
-usage = codes "usage: egw new FILE\n       egw edit FILE --agent NAME\n       egw cat FILE [--at VERSION]\n       egw heads FILE\n       egw log FILE\n       egw replay FILE\n       egw check FILE\n       egw merge FILE OTHER\n       egw ask FILE\n       egw serve FILE\n       egw net\n       egw make --seed N --count N\n"
-
 -- what is wrong with a field, in words
 abbrev pub field_words : RecordFault → List ℕ
 field_words Cut = codes "cut"
