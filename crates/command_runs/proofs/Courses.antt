@@ -8,13 +8,13 @@ use Rattle.ew_outside.specs.Counts.{Rose}
 use Rattle.ew_outside.specs.Outputs.{GrowsByFront}
 use Rattle.ew_outside.specs.declared.fault.Fault.{Fault}
 use Rattle.ew_outside.specs.declared.fault.Fault.TheVariants as fault_is
-use Rattle.command_table.specs.Headline.{IfSendsNone, FaultLeaves}
+use Rattle.command_table.specs.Headline.{UnlessServes, FaultLeaves}
 use Rattle.command_table.specs.Refusals as table
-use Rattle.command_table.specs.Refusals.{status_of, text_of, not_taken}
+use Rattle.command_table.specs.Refusals.{refusal_status, refusal_text, not_taken}
 use Rattle.command_table.specs.Seen.{Seen, Object, shelf, source, sink, failed_text, TellsErr}
 use Rattle.command_table.specs.Text.{out_of_memory}
 use Rattle.command_table.specs.Table.{Line, does, serves, refuses}
-use Rattle.command_table.specs.Reads.{shape_of, reads_input, needs_file, TakesAtMost, LeavesInput, LoadsAll, LoadsFront, IfFileRefused}
+use Rattle.command_table.specs.Reads.{shape_of, reads_input, needs_file, TakesAtMost, LeavesInput, CountsLoads, LoadsFront, IfFileRefused}
 use Rattle.command_texts.specs.Reasons.{refusal_view}
 use Rattle.command_texts.specs.declared.refusal.Refusal.{Refusal}
 use Rattle.opened_files.specs.Views.{IsTakenReply, IsRefusal, LostBy, reply_status, reply_view}
@@ -40,7 +40,7 @@ pub record Facts (l : Option Line) (limits : LimitNumbers) (planned : Result cod
   pub cause : Causes old.shelf.faults mid.shelf.faults old.input.faults new.input.faults old.out.faults mid.out.faults planned
   pub misses : MissesFor (needs_file l) old.shelf.misses mid.shelf.misses planned
   pub front : LoadsFront (shape_of l).files old.shelf.loads mid.shelf.loads
-  pub loads : IfOk planned (λ p. LoadsAll (shape_of l).files limits old.shelf.files old.shelf.loads mid.shelf.loads)
+  pub loads : IfOk planned (λ p. CountsLoads (shape_of l).files limits old.shelf.files old.shelf.loads mid.shelf.loads)
   pub lost : LostBy old.shelf.lost mid.shelf.lost planned
   pub kept : KeepsStreams old.input.left new.input.left old.out.taken mid.out.taken planned
   pub few : TakesAtMost (limits.input + 1) old.input.left new.input.left
@@ -59,7 +59,7 @@ pub record Facts (l : Option Line) (limits : LimitNumbers) (planned : Result cod
   pub silent : SaysNone ending old.err new.err
 
 -- what holds where a line sends nothing, of a line that sends nothing
-pub sends_none : {A B : Type 0} (l : Option Line) → (A → B) → IfSendsNone l A → IfSendsNone l B
+pub sends_none : {A B : Type 0} (l : Option Line) → (A → B) → UnlessServes l A → UnlessServes l B
 sends_none None f h = f h
 sends_none (Some (does command)) f h = f h
 sends_none (Some (serves file)) f h = tt
@@ -71,8 +71,8 @@ IsRefused n = (n ≡ 2) ⊎ IsRefusal n
 same_refusal : (x y : table.Refusal) → refuses x ≡ refuses y → x ≡ y
 same_refusal x y h = cc
 
-refuses_by : (l : Option Line) (why : Refusal) → IsReplyOf l (Ok (reply_is.Refuses why)) → IsRefused (status_of (refusal_view why))
-refuses_by None why h = inl (ap status_of (same_refusal (refusal_view why) not_taken h))
+refuses_by : (l : Option Line) (why : Refusal) → IsReplyOf l (Ok (reply_is.Refuses why)) → IsRefused (refusal_status (refusal_view why))
+refuses_by None why h = inl (ap refusal_status (same_refusal (refusal_view why) not_taken h))
 refuses_by (Some l) why h = inr h
 
 -- the reply is no refusal
@@ -98,13 +98,13 @@ pub record Finished (p : code.Reply) (old mid new : Seen) (code : ℕ) : Type 0 
 
 -- the line was refused
 pub record TurnedDown (why : table.Refusal) (old mid new : Seen) (code : ℕ) : Type 0 where
-  pub refusal : IsRefused (status_of why)
-  pub status_is : code ≡ status_of why
+  pub refusal : IsRefused (refusal_status why)
+  pub status_is : code ≡ refusal_status why
   pub files : new.shelf.files ≡ old.shelf.files
   pub out : new.out.taken ≡ mid.out.taken
   pub flushed : new.out.flushed ≡ mid.out.flushed
   pub calm : Calm old new
-  pub text : TellsErr old new (text_of why)
+  pub text : TellsErr old new (refusal_text why)
 
 -- an object failed before anything was stored or printed at last
 pub record BrokenOff (l : Option Line) (object : Object) (old mid new : Seen) (code : ℕ) : Type 0 where

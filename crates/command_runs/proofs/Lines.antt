@@ -13,7 +13,7 @@ use Rattle.command_table.specs.Headline.{ReadsToEnd}
 use Rattle.command_table.specs.Lines.{Meaning, IsInput, session_of}
 use Rattle.command_table.specs.Loads.{missing}
 use Rattle.command_table.specs.Possible.{MayComeTo, MayReplyTo}
-use Rattle.command_table.specs.Reads.{reads_input, shape_of, IfFileRefused, IfFirstRefused, IfRefused, LeavesInput, LoadsAll, LoadsFront, Shape}
+use Rattle.command_table.specs.Reads.{reads_input, shape_of, IfFileRefused, IfFirstRefused, IfRefused, LeavesInput, CountsLoads, LoadsFront, Shape}
 use Rattle.command_table.specs.Refusals.{no_file, input_too_long}
 use Rattle.command_table.specs.Scripts.{Reading, Means, MeansNet}
 use Rattle.command_table.specs.Sessions.{Session, closed_by}
@@ -73,7 +73,7 @@ pub one_front : (name : Text) (before now : ℕ) → now ≡ next before → Loa
 one_front name before now one = (1, one)
 
 pub loads_one : (name : Text) (limits : LimitNumbers) (files : Option Files) (before now : ℕ) (result : Result code.Reply Fault) → now ≡ next before
-    → IfOk result (λ p. LoadsAll (name ∷ []) limits files before now)
+    → IfOk result (λ p. CountsLoads (name ∷ []) limits files before now)
 loads_one name limits files before now (Ok p) one = one
 loads_one name limits files before now (Err e) one = tt
 
@@ -107,7 +107,7 @@ none_lost n (Err e) h = subst (λ fault. LostBy {T = code.Reply} n n (Err fault)
 pub no_front : (n : ℕ) → LoadsFront [] n n
 no_front n = (0, refl)
 
-pub loads_none : (limits : LimitNumbers) (files : Option Files) (n : ℕ) (result : Result code.Reply Fault) → IfOk result (λ p. LoadsAll [] limits files n n)
+pub loads_none : (limits : LimitNumbers) (files : Option Files) (n : ℕ) (result : Result code.Reply Fault) → IfOk result (λ p. CountsLoads [] limits files n n)
 loads_none limits files n (Ok p) = refl
 loads_none limits files n (Err e) = tt
 

@@ -11,13 +11,13 @@ use Rattle.ew_outside.specs.Counts.{Rose}
 use Rattle.ew_outside.specs.Files.{Files}
 use Rattle.ew_outside.specs.declared.fault.Fault.{Fault}
 use Rattle.ew_outside.specs.declared.fault.Fault.TheVariants as fault_is
-use Rattle.command_table.specs.Headline.{FaultLeaves, Hears, IfHears, IfSendsNone, IsRun, IsRunOf, IsStatus, KeepsAll, NamesFault, ReadsToEnd}
+use Rattle.command_table.specs.Headline.{FaultLeaves, Hears, IfServes, UnlessServes, IsRun, IsRunOf, IsStatus, StoresNothing, NamesFault, ReadsToEnd}
 use Rattle.command_table.specs.Lines.{Meaning, IsInput, session_of}
 use Rattle.command_table.specs.Outcomes.{IsClosed, StoresFirst}
 use Rattle.command_table.specs.Possible.{MayComeTo}
-use Rattle.command_table.specs.Reads.{needs_file, shape_of, IfFileRefused, LeavesInput, LoadsAll, TakesAtMost}
+use Rattle.command_table.specs.Reads.{needs_file, shape_of, IfFileRefused, LeavesInput, CountsLoads, TakesAtMost}
 use Rattle.command_table.specs.Refusals as table
-use Rattle.command_table.specs.Refusals.{not_taken, status_of}
+use Rattle.command_table.specs.Refusals.{not_taken, refusal_status}
 use Rattle.command_table.specs.Seen.{Seen, Object, shelf, source, sink, faults_of, TellsErr}
 use Rattle.command_table.specs.Sessions.{Session, IsPrompt, RepliesTo, exchanged, opened_state}
 use Rattle.command_table.specs.Table.{Text, Line, does, serves, opened, open_file, refuses}
@@ -54,8 +54,8 @@ storing_does (reply_is.Prints out) storing = absurd storing
 storing_does (reply_is.Stores out to bytes) storing = tt
 storing_does (reply_is.Refuses why) storing = absurd storing
 
-refusal_status : (x : table.Refusal) → refuses x ≡ refuses not_taken → status_of x ≡ 2
-refusal_status x h = ap status_of (same x h)
+untaken_status : (x : table.Refusal) → refuses x ≡ refuses not_taken → refusal_status x ≡ 2
+untaken_status x h = ap refusal_status (same x h)
   where
     same : (x : table.Refusal) → refuses x ≡ refuses not_taken → x ≡ not_taken
     same x h = cc
@@ -64,7 +64,7 @@ refusal_status x h = ap status_of (same x h)
 
 module _ (l : Option Line) (planned : Result code.Reply Fault) (old mid new : Seen) (code : ℕ) (sends : SendsNone l old.out mid.out planned) where
   -- where nothing was printed at last, a line that sends nothing leaves the output as it was
-  kept_out : new.out.taken ≡ mid.out.taken → IfSendsNone l (new.out.taken ≡ old.out.taken)
+  kept_out : new.out.taken ≡ mid.out.taken → UnlessServes l (new.out.taken ≡ old.out.taken)
   kept_out same = sends_none l (λ s. same ∙ s.0) sends
 
   pub among_so : Course l planned old mid new code → IsStatus code
@@ -110,7 +110,7 @@ module _ (l : Option Line) (planned : Result code.Reply Fault) (old mid new : Se
   later_so (Broken p is h) object = h.struck.later object
   later_so (Starved h) object = omega (arith, calm_object old new h.calm object)
 
-  memory_so : Course l planned old mid new code → code ≡ 8 → KeepsAll l old new × TellsErr old new out_of_memory
+  memory_so : Course l planned old mid new code → code ≡ 8 → StoresNothing l old new × TellsErr old new out_of_memory
   memory_so (Done p is h) eight = absurd (omega (arith, h.zero, eight))
   memory_so (Refused why is h) eight = absurd (omega (arith, h.refusal, h.status_is, eight))
   memory_so (Stopped object x other named is h) eight = absurd (omega (arith, h.six, eight))
@@ -118,7 +118,7 @@ module _ (l : Option Line) (planned : Result code.Reply Fault) (old mid new : Se
   memory_so (Broken p is h) eight = absurd (omega (arith, h.six, eight))
   memory_so (Starved h) eight = ((h.files, kept_out h.out), h.text)
 
-  nothing_so : Course l planned old mid new code → (code ≡ 0 → ⊥) → (code ≡ 6 → ⊥) → KeepsAll l old new
+  nothing_so : Course l planned old mid new code → (code ≡ 0 → ⊥) → (code ≡ 6 → ⊥) → StoresNothing l old new
   nothing_so (Done p is h) n0 n6 = absurd (n0 h.zero)
   nothing_so (Refused why is h) n0 n6 = (h.files, kept_out h.out)
   nothing_so (Stopped object x other named is h) n0 n6 = absurd (n6 h.six)
@@ -157,7 +157,7 @@ module _ (l : Option Line) (planned : Result code.Reply Fault) (old mid new : Se
   only_so (Done p is h) line = absurd (not_doing p h.doing (subst (IsReplyOf None) is line))
   only_so (Refused why is h) line =
       let told : refuses (refusal_view why) ≡ refuses not_taken = subst (IsReplyOf None) is line in
-      inl (h.status_is ∙ refusal_status (refusal_view why) told)
+      inl (h.status_is ∙ untaken_status (refusal_view why) told)
   only_so (Stopped object x other named is h) line = absurd (other (subst (IsReplyOf None) is line))
   only_so (Landed p is h) line = absurd (not_doing p (storing_does p h.storing) (subst (IsReplyOf None) is line))
   only_so (Broken p is h) line = absurd (not_doing p h.doing (subst (IsReplyOf None) is line))
@@ -253,10 +253,10 @@ module _ (l : Option Line) (limits : LimitNumbers) (planned : Result code.Reply 
       let a = at_reply (ReadsAll l limits old.input new.input) h.read (λ six. omega (arith, zero, six)) (λ eight. omega (arith, zero, eight)) in
       a.1 (a.2 ∙ zero) input left ends
 
-  loaded : (code ≡ 6 → ⊥) → (code ≡ 8 → ⊥) → LoadsAll (shape_of l).files limits old.shelf.files old.shelf.loads new.shelf.loads
+  loaded : (code ≡ 6 → ⊥) → (code ≡ 8 → ⊥) → CountsLoads (shape_of l).files limits old.shelf.files old.shelf.loads new.shelf.loads
   loaded n6 n8 =
-      let a = at_reply (λ r. IfOk r (λ p. LoadsAll (shape_of l).files limits old.shelf.files old.shelf.loads mid.shelf.loads)) h.loads n6 n8 in
-      subst (λ n. LoadsAll (shape_of l).files limits old.shelf.files old.shelf.loads n) (sym h.no_load) a.1
+      let a = at_reply (λ r. IfOk r (λ p. CountsLoads (shape_of l).files limits old.shelf.files old.shelf.loads mid.shelf.loads)) h.loads n6 n8 in
+      subst (λ n. CountsLoads (shape_of l).files limits old.shelf.files old.shelf.loads n) (sym h.no_load) a.1
 
   usage_so : code ≡ 2 → (l ≡ None) × TellsErr old new usage_text
   usage_so two =
@@ -290,7 +290,7 @@ hears file limits planned ending old mid new code h =
 
 -- what only a session promises
 if_hears : (l : Option Line) (limits : LimitNumbers) (planned : Result code.Reply Fault) (ending : Result (Option Told) Fault) (old mid new : Seen) (code : ℕ)
-    → Facts l limits planned ending old mid new code → IfHears l limits old new code
+    → Facts l limits planned ending old mid new code → IfServes l limits old new code
 if_hears None limits planned ending old mid new code h = tt
 if_hears (Some (does command)) limits planned ending old mid new code h = tt
 if_hears (Some (serves file)) limits planned ending old mid new code h = hears file limits planned ending old mid new code h

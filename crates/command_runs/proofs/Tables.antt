@@ -11,7 +11,7 @@ use Rattle.ew_outside.specs.Outputs.{GrowsByFront, Sends}
 use Rattle.command_table.specs.Sessions.{Session, session_answer}
 use Rattle.command_table.specs.Table.{answer_of}
 use Rattle.command_table.specs.Outcomes.{IsAnswered, IsServed, StoresFirst}
-use Rattle.command_table.specs.Headline.{IfSendsNone}
+use Rattle.command_table.specs.Headline.{UnlessServes}
 use Rattle.command_table.specs.Seen.{Seen, Object, shelf, source, sink, faults_of, TellsErr}
 use Rattle.command_table.specs.Table.{Line, does, serves}
 use Rattle.command_texts.specs.Reasons.{refusal_view}

@@ -9,8 +9,8 @@ use Rattle.ew_outside.specs.Outputs.{GrowsByFront}
 use Rattle.ew_outside.specs.Seen.{SinkSeen}
 use Rattle.ew_outside.specs.declared.fault.Fault.{Fault}
 use Rattle.ew_outside.specs.declared.fault.Fault.TheVariants as fault_is
-use Rattle.command_table.specs.Refusals.{status_of, text_of}
-use Rattle.command_table.specs.Text.{fault_status, fault_text}
+use Rattle.command_table.specs.Refusals.{refusal_status, refusal_text}
+use Rattle.command_table.specs.Text.{shelf_failed, source_failed, sink_failed, out_of_memory}
 use Rattle.command_texts.specs.Reasons.{refusal_view}
 use Rattle.command_texts.specs.declared.refusal.Refusal.{Refusal}
 use Rattle.opened_files.specs.declared.reply.Reply as code
@@ -35,7 +35,7 @@ FilesAfter p (Some m) new = new ≡ Some (files_after p m)
 
 -- a refusal is told with its status and its text, unless memory ran out
 abbrev pub IsTold : Refusal → Result (Option Told) Fault → Type 0
-IsTold why (Ok (Some told)) = (told.status ≡ status_of (refusal_view why)) × (told.text.items ≡ text_of (refusal_view why))
+IsTold why (Ok (Some told)) = (told.status ≡ refusal_status (refusal_view why)) × (told.text.items ≡ refusal_text (refusal_view why))
 IsTold why (Ok None) = ⊥
 IsTold why (Err fault) = fault ≡ fault_is.OutOfMemory
 
@@ -77,6 +77,19 @@ EndShelfCount _ _ before now = now ≡ before
 abbrev pub EndSinkCount : Result code.Reply Fault → Result (Option Told) Fault → ℕ → ℕ → Type 0
 EndSinkCount (Ok _) (Err fault_is.Sink) before now = (before ≤ now) × Rose before now
 EndSinkCount _ _ before now = now ≡ before
+
+-- what a fault is told as, and the status that it ends with
+abbrev pub fault_text : Fault → List ℕ
+fault_text fault_is.Shelf = shelf_failed
+fault_text fault_is.Source = source_failed
+fault_text fault_is.Sink = sink_failed
+fault_text fault_is.OutOfMemory = out_of_memory
+
+abbrev pub fault_status : Fault → ℕ
+fault_status fault_is.Shelf = 6
+fault_status fault_is.Source = 6
+fault_status fault_is.Sink = 6
+fault_status fault_is.OutOfMemory = 8
 
 abbrev pub end_status : Result (Option Told) Fault → ℕ
 end_status (Ok None) = 0

@@ -3,7 +3,7 @@ use Rattle.std.specs.Prelude.{◌≡◌, ◌≤◌, ⊤, ℕ, List, [], Option, 
 use Rattle.ew_outside.specs.Files.{Files}
 use Rattle.ew_outside.specs.Seen.{ShelfSeen, SourceSeen, SinkSeen}
 use Rattle.ew_model.specs.Limits.{LimitNumbers}
-use Rattle.command_table.specs.Headline.{IfSendsNone, ReadsToEnd}
+use Rattle.command_table.specs.Headline.{UnlessServes, ReadsToEnd}
 use Rattle.command_table.specs.Lines.{Meaning, IsInput, session_of}
 use Rattle.command_table.specs.Possible.{MayComeTo, MayReplyTo}
 use Rattle.command_table.specs.Refusals.{not_taken}
@@ -54,7 +54,7 @@ IsNotOfSink planned = ⊤
 
 -- a line that sends nothing leaves the output as it is, and isn't stopped by it
 abbrev pub SendsNone : Option Line → SinkSeen → SinkSeen → Result code.Reply Fault → Type 0
-SendsNone l out out' planned = IfSendsNone l ((out'.taken ≡ out.taken) × IsNotOfSink planned)
+SendsNone l out out' planned = UnlessServes l ((out'.taken ≡ out.taken) × IsNotOfSink planned)
 
 -- a line that isn't taken is refused for its words, and one that is taken for another reason
 abbrev pub IsReplyOf : Option Line → Result code.Reply Fault → Type 0

@@ -1,7 +1,6 @@
 //! How a run ends, once its reply is made.
 ghost use Rattle.std.specs.Prelude.{◌≡◌};
-ghost use Rattle.command_runs.specs.Endings.{EndFiles, EndFlushed, EndOut, EndShelfCount, EndSinkCount, EndsReply, IsTold, PrintLeaves, SaysNone, end_status, end_text};
-ghost use Rattle.command_table.specs.Text.{fault_status, fault_text};
+ghost use Rattle.command_runs.specs.Endings.{EndFiles, EndFlushed, EndOut, EndShelfCount, EndSinkCount, EndsReply, IsTold, PrintLeaves, SaysNone, end_status, end_text, fault_status, fault_text};
 ghost use Rattle.ew_outside.specs.Outputs.{Tells};
 
 use command_texts::refusal::Refusal;

@@ -1,7 +1,7 @@
 //! From a line to what is to be done.
 ghost use Rattle.std.specs.Prelude.{◌≡◌, ◌+◌, false, IfOk, IfSome, Some};
 ghost use Rattle.std.specs.Option.{option_map};
-ghost use Rattle.command_table.specs.Reads.{IfFileRefused, LeavesInput, LoadsAll, LoadsFront, TakesAtMost, needs_file, reads_input, shape_of};
+ghost use Rattle.command_table.specs.Reads.{IfFileRefused, LeavesInput, CountsLoads, LoadsFront, TakesAtMost, needs_file, reads_input, shape_of};
 ghost use Rattle.command_table.specs.Table.{MeansTo, does, reply_to};
 ghost use Rattle.opened_files.specs.Touches.{CommandTakes};
 ghost use Rattle.opened_files.specs.Views.{IsTakenReply, LostBy, ShelfCauses};
@@ -52,7 +52,7 @@ pub fn plan<'a, H: Shelf, S: Source, K: Sink, L: Ledger>(
     ensures kept { KeepsStreams (S.seen input.old).left (S.seen input.new).left (K.seen out.old).taken (K.seen out.new).taken result }
     ensures untouched { IfSome (H.seen shelf.old).files (λ m. IfFileRefused (shape_of (option_map line_view line.entry)) limits.now m (LeavesInput (S.seen input.old).left (S.seen input.new).left (S.seen input.old).faults (S.seen input.new).faults)) }
     ensures front { LoadsFront (shape_of (option_map line_view line.entry)).files (H.seen shelf.old).loads (H.seen shelf.new).loads }
-    ensures loads { IfOk result (λ p. LoadsAll (shape_of (option_map line_view line.entry)).files limits.now (H.seen shelf.old).files (H.seen shelf.old).loads (H.seen shelf.new).loads) }
+    ensures loads { IfOk result (λ p. CountsLoads (shape_of (option_map line_view line.entry)).files limits.now (H.seen shelf.old).files (H.seen shelf.old).loads (H.seen shelf.new).loads) }
     ensures lost { LostBy (H.seen shelf.old).lost (H.seen shelf.new).lost result }
     ensures most { LineTakes (option_map line_view line.entry) limits.now (H.seen shelf.old).files (S.seen input.old).left steps.old steps.new }
 {
@@ -85,7 +85,7 @@ fn plan_command<'a, H: Shelf, S: Source, L: Ledger>(
     ensures kept { KeepsInput (S.seen input.old).left (S.seen input.new).left result }
     ensures untouched { IfSome (H.seen shelf.old).files (λ m. IfFileRefused (shape_of (Some (does (command_view command.entry)))) limits.now m (LeavesInput (S.seen input.old).left (S.seen input.new).left (S.seen input.old).faults (S.seen input.new).faults)) }
     ensures front { LoadsFront (shape_of (Some (does (command_view command.entry)))).files (H.seen shelf.old).loads (H.seen shelf.new).loads }
-    ensures loads { IfOk result (λ p. LoadsAll (shape_of (Some (does (command_view command.entry)))).files limits.now (H.seen shelf.old).files (H.seen shelf.old).loads (H.seen shelf.new).loads) }
+    ensures loads { IfOk result (λ p. CountsLoads (shape_of (Some (does (command_view command.entry)))).files limits.now (H.seen shelf.old).files (H.seen shelf.old).loads (H.seen shelf.new).loads) }
     ensures lost { LostBy (H.seen shelf.old).lost (H.seen shelf.new).lost result }
     ensures most { CommandTakes (command_view command.entry) limits.now (H.seen shelf.old).files steps.old steps.new }
 {
@@ -112,7 +112,7 @@ fn plan_unread<'a, H: Shelf, L: Ledger>(
     ensures cause { ShelfCauses (H.seen shelf.old).faults (H.seen shelf.new).faults result }
     ensures misses { MissesFor (needs_file (Some (does (command_view command.entry)))) (H.seen shelf.old).misses (H.seen shelf.new).misses result }
     ensures front { LoadsFront (shape_of (Some (does (command_view command.entry)))).files (H.seen shelf.old).loads (H.seen shelf.new).loads }
-    ensures loads { IfOk result (λ p. LoadsAll (shape_of (Some (does (command_view command.entry)))).files limits.now (H.seen shelf.old).files (H.seen shelf.old).loads (H.seen shelf.new).loads) }
+    ensures loads { IfOk result (λ p. CountsLoads (shape_of (Some (does (command_view command.entry)))).files limits.now (H.seen shelf.old).files (H.seen shelf.old).loads (H.seen shelf.new).loads) }
     ensures lost { LostBy (H.seen shelf.old).lost (H.seen shelf.new).lost result }
     ensures most { CommandTakes (command_view command.entry) limits.now (H.seen shelf.old).files steps.old steps.new }
 {

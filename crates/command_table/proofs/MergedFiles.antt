@@ -31,7 +31,7 @@ use Rattle.command_table.specs.Loads.{too_long, whole, whole_of}
 use Rattle.command_table.specs.MergeLaws.{HoldsBytes}
 use Rattle.peer_exchange.specs.Answering.{is_clash}
 use Rattle.command_table.specs.Table.{Text, Reply, prints, stores, refuses, Opened, opened, Answer, answer_of, judged, read_as, opened_as, open_file, over_events, over_both, is_graph_full, unless_clash, received_reply, outcome_text, merge_reply}
-use Rattle.command_table.specs.Refusals.{too_many_events, status_of}
+use Rattle.command_table.specs.Refusals.{too_many_events, refusal_status}
 use Rattle.ew_model.proofs.MergeByAnswers.{merge_unless_clash}
 use Rattle.command_table.proofs.Merges.{none_ends, appended_none}
 use Rattle.command_table.proofs.FileSizes.{file_length}
@@ -51,7 +51,7 @@ pub record Opens (limits : LimitNumbers) (files : Files) (name : Text) (events :
 abbrev pub status_in : Reply → ℕ
 status_in (prints _) = 0
 status_in (stores _ _ _) = 0
-status_in (refuses why) = status_of why
+status_in (refuses why) = refusal_status why
 
 pub answer_status : (r : Reply) (files : Files) → (answer_of r files).status ≡ status_in r
 answer_status (prints _) files = refl

@@ -1,6 +1,6 @@
 -- What a run of a command line is, seen from its objects before and after. The last definition here is the sentence that the program
--- is proved against: a run answers what the command table says, leaves no more than is said here after a fault, and reads only what
--- its line names.
+-- is proved against: a run answers what the command table says, leaves no more than is said here after a fault, makes no more loads than
+-- its line has files, and takes input only where its line reads it.
 use Rattle.std.specs.Prelude.{◌≡◌, ◌≤◌, ◌<◌, ◌+◌, ◌⊎◌, ⊤, ℕ, true, false, List, [], length, drop, Option, None, Some}
 use Rattle.std.specs.List.{list_any}
 use Rattle.ew_model.specs.declared.event.Event.{Event}
@@ -12,18 +12,18 @@ use Rattle.command_table.specs.Framings.{Framing, IsFramingOf}
 use Rattle.command_table.specs.Lines.{Meaning, IsInput, session_of}
 use Rattle.command_table.specs.Outcomes.{IsServed, IsSession, StoresFirst}
 use Rattle.command_table.specs.Possible.{MayComeTo}
-use Rattle.command_table.specs.Reads.{shape_of, reads_input, needs_file, LoadsAll, LoadsFront, TakesAtMost, LeavesInput, IfFileRefused}
+use Rattle.command_table.specs.Reads.{shape_of, reads_input, needs_file, CountsLoads, LoadsFront, TakesAtMost, LeavesInput, IfFileRefused}
 use Rattle.command_table.specs.Seen.{Seen, Object, shelf, source, sink, faults_of, failed_text, TellsErr}
 use Rattle.command_table.specs.Sessions.{Session, is_bye, RepliesTo, IsPrompt}
 use Rattle.command_table.specs.Table.{Text, Line, does, serves, line_of, opened, open_file}
 use Rattle.command_table.specs.Cli.{usage as usage_text}
 use Rattle.command_table.specs.Text.{out_of_memory}
 
--- it holds of a line that sends nothing before its end, and of one that serves a peer
-abbrev pub IfSendsNone : Option Line → Type 0 → Type 0
-IfSendsNone (Some (serves file)) holds = ⊤
-IfSendsNone (Some (does command)) holds = holds
-IfSendsNone None holds = holds
+-- it holds, unless the line serves a peer
+abbrev pub UnlessServes : Option Line → Type 0 → Type 0
+UnlessServes (Some (serves file)) holds = ⊤
+UnlessServes (Some (does command)) holds = holds
+UnlessServes None holds = holds
 
 -- the statuses of runs: 0, and 2 to 8
 abbrev pub IsStatus : ℕ → Type 0
@@ -34,28 +34,29 @@ pub record Answers (line : Option Line) (limits : LimitNumbers) (old new : Seen)
   -- over files that are known, and an input that is known or isn't read, it is the session of the table
   pub known : (files : Files) (input : List ℕ) (meaning : Meaning line) → old.shelf.files ≡ Some files → IsInput limits line old.input.left input meaning
       → let s = session_of line limits files input meaning in
-      IsServed s files old new status × IfSendsNone line (StoresFirst s files old new status)
-  -- whatever they tell, it is a session that the line comes to over some files and some input
+      IsServed s files old new status × UnlessServes line (StoresFirst s files old new status)
+  -- whatever is known of them, it is a session that the line comes to over some files and some input
   pub some : (s : Session) × MayComeTo line limits s × IsSession s old new status
   pub among : IsStatus status
   -- the words alone decide on the usage
   pub usage : status ≡ 2 → (line ≡ None) × TellsErr old new usage_text
   pub only_usage : line ≡ None → (status ≡ 2) ⊎ (status ≡ 8)
+  -- at status 0 all that was taken is flushed
   pub flushed : status ≡ 0 → IsFlushed new.out.taken new.out.flushed
   -- and the error output is left alone at status 0
   pub silent : status ≡ 0 → (new.err.taken ≡ old.err.taken) × (new.err.faults ≡ old.err.faults)
 
--- nothing was stored, and by a line that sends nothing nothing was printed
-abbrev pub KeepsAll : Option Line → Seen → Seen → Type 0
-KeepsAll line old new = (new.shelf.files ≡ old.shelf.files) × IfSendsNone line (new.out.taken ≡ old.out.taken)
+-- nothing was stored; and nothing printed, unless the line serves a peer
+abbrev pub StoresNothing : Option Line → Seen → Seen → Type 0
+StoresNothing line old new = (new.shelf.files ≡ old.shelf.files) × UnlessServes line (new.out.taken ≡ old.out.taken)
 
--- How far a run came that met a fault of an object. A failed load leaves all as it was, and what is printed and the input too. A failed
--- read stores nothing. A failed store prints nothing at last.
+-- How far a run came that met a fault of an object. A failed load leaves files, output and input as they were. A failed read stores
+-- nothing, and prints nothing unless in a session. A failed store prints nothing; of a session `FailsToStore` says it.
 abbrev pub FaultLeaves : Option Line → Object → Seen → Seen → Type 0
 FaultLeaves line shelf old new =
     (Rose old.shelf.lost new.shelf.lost × (new.shelf.files ≡ old.shelf.files) × (new.out.taken ≡ old.out.taken) × LeavesInput old.input.left new.input.left old.input.faults new.input.faults)
-    ⊎ ((new.shelf.lost ≡ old.shelf.lost) × IfSendsNone line (new.out.taken ≡ old.out.taken))
-FaultLeaves line source old new = (new.shelf.lost ≡ old.shelf.lost) × KeepsAll line old new
+    ⊎ ((new.shelf.lost ≡ old.shelf.lost) × UnlessServes line (new.out.taken ≡ old.out.taken))
+FaultLeaves line source old new = (new.shelf.lost ≡ old.shelf.lost) × StoresNothing line old new
 FaultLeaves line sink old new = new.shelf.lost ≡ old.shelf.lost
 
 -- an object failed, and the text names it
@@ -73,9 +74,10 @@ pub record Leaves (line : Option Line) (old new : Seen) (status : ℕ) : Type 0 
   pub fault : status ≡ 6 → NamesFault line old new
   pub always : (object : Object) → faults_of object old < faults_of object new → status ≡ 6
   pub later : (object : Object) → faults_of object old ≤ faults_of object new
-  pub memory : status ≡ 8 → KeepsAll line old new × TellsErr old new out_of_memory
-  -- nothing is stored or printed at another status
-  pub nothing : (status ≡ 0 → ⊥) → (status ≡ 6 → ⊥) → KeepsAll line old new
+  -- where memory ran out, the text says so
+  pub memory : status ≡ 8 → StoresNothing line old new × TellsErr old new out_of_memory
+  -- at a status other than 0 and 6 nothing is stored, nor printed unless by a session
+  pub nothing : (status ≡ 0 → ⊥) → (status ≡ 6 → ⊥) → StoresNothing line old new
 
 -- nothing but the end of the input ends the reading of it
 abbrev pub ReadsToEnd : Option Line → LimitNumbers → List ℕ → Type 0
@@ -93,21 +95,22 @@ pub record Hears (file : Text) (limits : LimitNumbers) (old new : Seen) (status 
       → old.input.left ≡ Some input → IsPrompt limits events input new.input.left old.out.taken new.out.taken
   -- no byte after the limit is taken at status 0 or 5
   pub within : (status ≡ 0) ⊎ (status ≡ 5) → TakesAtMost limits.input old.input.left new.input.left
-  -- none is taken where the file is missing or bad, whatever the shelf tells
+  -- none is taken where the file is missing or bad, whatever is known of the shelf
   pub refused : (status ≡ 3) ⊎ (status ≡ 4) → LeavesInput old.input.left new.input.left old.input.faults new.input.faults
 
-abbrev pub IfHears : Option Line → LimitNumbers → Seen → Seen → ℕ → Type 0
-IfHears (Some (serves file)) limits old new status = Hears file limits old new status
-IfHears line limits old new status = ⊤
+abbrev pub IfServes : Option Line → LimitNumbers → Seen → Seen → ℕ → Type 0
+IfServes (Some (serves file)) limits old new status = Hears file limits old new status
+IfServes line limits old new status = ⊤
 
 -- What a run reads and loads.
 pub record Reads (line : Option Line) (limits : LimitNumbers) (old new : Seen) (status : ℕ) : Type 0 where
+  -- status 3 comes of a load that found nothing, where the line needs its files
   pub missing : needs_file line ≡ true → status ≡ 3 → Rose old.shelf.misses new.shelf.misses
   pub found : needs_file line ≡ true → (status ≡ 3 → ⊥) → (status ≡ 6 → ⊥) → (status ≡ 8 → ⊥) → new.shelf.misses ≡ old.shelf.misses
   -- never more loads than the line has files, and as many as it has up to the first that is refused
   pub front : LoadsFront (shape_of line).files old.shelf.loads new.shelf.loads
-  pub loads : (status ≡ 6 → ⊥) → (status ≡ 8 → ⊥) → LoadsAll (shape_of line).files limits old.shelf.files old.shelf.loads new.shelf.loads
-  -- the input is read to its end, or not at all
+  pub loads : (status ≡ 6 → ⊥) → (status ≡ 8 → ⊥) → CountsLoads (shape_of line).files limits old.shelf.files old.shelf.loads new.shelf.loads
+  -- at status 0 the input is read to its end, if nothing else ends the reading; a line that doesn't read it leaves it
   pub read : status ≡ 0 → (input : List ℕ) → old.input.left ≡ Some input → ReadsToEnd line limits input → new.input.left ≡ Some []
   pub unread : reads_input line ≡ false → LeavesInput old.input.left new.input.left old.input.faults new.input.faults
   -- no more than one byte after the limit is taken
@@ -115,7 +118,7 @@ pub record Reads (line : Option Line) (limits : LimitNumbers) (old new : Seen) (
   -- and none where the file is refused
   pub untouched : (files : Files) → old.shelf.files ≡ Some files
       → IfFileRefused (shape_of line) limits files (LeavesInput old.input.left new.input.left old.input.faults new.input.faults)
-  pub hears : IfHears line limits old new status
+  pub hears : IfServes line limits old new status
 
 -- A run of a line, which may not be taken.
 pub record IsRunOf (line : Option Line) (limits : LimitNumbers) (old new : Seen) (status : ℕ) : Type 0 where

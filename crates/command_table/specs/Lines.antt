@@ -1,5 +1,5 @@
 -- What an input means to a line, and what the line comes to.
-use Rattle.std.specs.Prelude.{◌≡◌, ⊤, ℕ, Bool, true, false, List, Option, None, Some}
+use Rattle.std.specs.Prelude.{◌≡◌, ℕ, true, List, Option, None, Some}
 use Rattle.ew_model.specs.Limits.{LimitNumbers}
 use Rattle.ew_outside.specs.Files.{Files}
 use Rattle.command_table.specs.Framings.{Framing, IsFramingOf}

@@ -5,7 +5,7 @@ use Rattle.ew_outside.specs.Bytes.{IsFlushed}
 use Rattle.ew_outside.specs.Counts.{IsQuiet}
 use Rattle.ew_outside.specs.Files.{Files}
 use Rattle.ew_outside.specs.Outputs.{GrowsByFront, Sends}
-use Rattle.command_table.specs.Refusals.{status_of, text_of}
+use Rattle.command_table.specs.Refusals.{refusal_status, refusal_text}
 use Rattle.command_table.specs.Seen.{Seen, Object, faults_of, TellsErr}
 use Rattle.command_table.specs.Sessions.{Session, printed_by, session_answer}
 use Rattle.command_table.specs.Table.{Text, Reply, prints, stores, refuses, Answer}
@@ -21,7 +21,7 @@ pub record IsAnswered (t : Answer) (old new : Seen) (status : ℕ) : Type 0 wher
 abbrev pub IsClosed : List ℕ → Reply → Seen → Seen → ℕ → Type 0
 IsClosed sent (prints out) old new status = (status ≡ 0) × Appends old.out.taken new.out.taken (sent ++ out) × TellsErr old new []
 IsClosed sent (stores out name bytes) old new status = (status ≡ 0) × Appends old.out.taken new.out.taken (sent ++ out) × TellsErr old new []
-IsClosed sent (refuses why) old new status = (status ≡ status_of why) × Appends old.out.taken new.out.taken sent × TellsErr old new (text_of why)
+IsClosed sent (refuses why) old new status = (status ≡ refusal_status why) × Appends old.out.taken new.out.taken sent × TellsErr old new (refusal_text why)
 
 -- a store failed: something was to be stored, all that is sent before was taken, and flushed if there is any, and nothing was printed
 pub record FailsToStore (s : Session) (old new : Seen) : Type 0 where

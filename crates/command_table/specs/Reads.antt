@@ -9,7 +9,7 @@ use Rattle.command_table.specs.Table.{Text, Line, does, serves, create, edit, sh
 pub record Shape : Type 0 where
   -- the files that it names, in the order of their loads
   pub files : List Text
-  -- status 3 says that a file is missing, and not that it is there
+  -- status 3 says that one of these files is missing, and not that it is there
   pub needs : Bool
   -- the input is read
   pub input : Bool
@@ -31,34 +31,36 @@ reads_input l = (shape_of l).input
 abbrev pub needs_file : Option Line → Bool
 needs_file l = (shape_of l).needs
 
--- the count of loads after those of some files, of which each is loaded where the one before is open
-abbrev pub loads_after : Opened → ℕ → ℕ → ℕ
-loads_after (opened events) more count = more
-loads_after (refused why) more count = count
+-- a count where a file is open, and another where it is refused
+abbrev pub if_open : Opened → ℕ → ℕ → ℕ
+if_open (opened events) more count = more
+if_open (refused why) more count = count
 
-abbrev pub after_loads : List Text → LimitNumbers → Files → ℕ → ℕ
-after_loads [] limits files count = count
-after_loads (name ∷ []) limits files count = next count
-after_loads (name ∷ other ∷ names) limits files count =
-    loads_after (open_file name limits files) (after_loads (other ∷ names) limits files (next count)) (next count)
+-- the count after loads of these files up to the first that is refused
+abbrev pub loads_up_to_refused : List Text → LimitNumbers → Files → ℕ → ℕ
+loads_up_to_refused [] limits files count = count
+loads_up_to_refused (name ∷ []) limits files count = next count
+loads_up_to_refused (name ∷ other ∷ names) limits files count =
+    if_open (open_file name limits files) (loads_up_to_refused (other ∷ names) limits files (next count)) (next count)
 
--- each of these files was loaded up to the first that is refused, where the files are known or there is one at most
-abbrev pub LoadsAll : List Text → LimitNumbers → Option Files → ℕ → ℕ → Type 0
-LoadsAll [] limits files before now = now ≡ before
-LoadsAll (name ∷ []) limits files before now = now ≡ next before
-LoadsAll (name ∷ other ∷ names) limits (Some files) before now = now ≡ after_loads (name ∷ other ∷ names) limits files before
-LoadsAll (name ∷ other ∷ names) limits None before now = ⊤
+-- The count of loads is as after one load of each of these files up to the first that is refused. Nothing is said of two files where the
+-- shelf isn't known.
+abbrev pub CountsLoads : List Text → LimitNumbers → Option Files → ℕ → ℕ → Type 0
+CountsLoads [] limits files before now = now ≡ before
+CountsLoads (name ∷ []) limits files before now = now ≡ next before
+CountsLoads (name ∷ other ∷ names) limits (Some files) before now = now ≡ loads_up_to_refused (name ∷ other ∷ names) limits files before
+CountsLoads (name ∷ other ∷ names) limits None before now = ⊤
 
 -- the count after one load of each
-abbrev pub counted_loads : List Text → ℕ → ℕ
-counted_loads [] count = count
-counted_loads (name ∷ names) count = counted_loads names (next count)
+abbrev pub loads_of_all : List Text → ℕ → ℕ
+loads_of_all [] count = count
+loads_of_all (name ∷ names) count = loads_of_all names (next count)
 
 -- as many loads as a front of these files has were made
 abbrev pub LoadsFront : List Text → ℕ → ℕ → Type 0
-LoadsFront names before now = (n : ℕ) × (now ≡ counted_loads (take n names) before)
+LoadsFront names before now = (n : ℕ) × (now ≡ loads_of_all (take n names) before)
 
--- no more bytes than these were taken from the front of an input that is told
+-- no more bytes than these were taken from the front of an input that is known
 abbrev pub TakesAtMost : ℕ → Option (List ℕ) → Option (List ℕ) → Type 0
 TakesAtMost most (Some input) new = (n : ℕ) × (n ≤ most) × (new ≡ Some (drop n input))
 TakesAtMost most None new = ⊤

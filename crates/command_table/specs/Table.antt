@@ -42,7 +42,7 @@ use Rattle.command_table.specs.Loads.{File, missing, too_long, whole, whole_of}
 use Rattle.command_table.specs.VersionWords.{version_in}
 use Rattle.command_table.specs.Scripts.{Reading, Means, script, bad_line, NetReading, MeansNet, net_script, bad_net_line, Edited, ran, stopped_at, edited_by}
 use Rattle.command_table.specs.Text.{made_text, received_text}
-use Rattle.command_table.specs.Refusals.{Refusal, status_of, text_of, not_taken, no_file, file_there, short_file, no_event_file, unknown_version, bad_digest, bad_field, bad_event, unreadable, line_out_of_range, out_of_range, no_peer, peer_there, no_packet, unknown, clash, file_too_long, file_too_many, input_too_long, too_many_events, too_many_heads}
+use Rattle.command_table.specs.Refusals.{Refusal, refusal_status, refusal_text, not_taken, no_file, file_there, short_file, no_event_file, unknown_version, bad_digest, bad_field, bad_event, unreadable, line_out_of_range, out_of_range, no_peer, peer_there, no_packet, unknown, clash, file_too_long, file_too_many, input_too_long, too_many_events, too_many_heads}
 
 abbrev pub Text : Type 0
 Text = List ℕ
@@ -331,4 +331,4 @@ pub record Answer : Type 0 where
 abbrev pub answer_of : Reply → Files → Answer
 answer_of (prints out) files = record { status = 0; out = out; err = []; files = files }
 answer_of (stores out name bytes) files = record { status = 0; out = out; err = []; files = insert files name bytes }
-answer_of (refuses why) files = record { status = status_of why; out = []; err = text_of why; files = files }
+answer_of (refuses why) files = record { status = refusal_status why; out = []; err = refusal_text why; files = files }

@@ -1,8 +1,6 @@
--- The texts of the program, piece by piece as they are printed.
+-- Words in refusals, the two lines that tell of success, and what is told where an object failed or memory ran out.
 use Rattle.std.specs.Prelude.{ℕ, List, ◌++◌, codes}
 use Rattle.std.specs.Fmt.{decimal}
-use Rattle.ew_outside.specs.declared.fault.Fault.{Fault}
-use Rattle.ew_outside.specs.declared.fault.Fault.TheVariants as fault_is
 use Rattle.ew_model.specs.Verdicts.{Ruling}
 use Rattle.ew_model.specs.Verdicts.Ruling.{Repeat, Clash, SelfParent, TooManyParents, ParentsUnsorted, Unknown, PoolFull, NotReduced, Skipped, GraphFull, OutOfRange, Good}
 use Rattle.ew_model.specs.FileFaults.{RecordFault}
@@ -43,13 +41,13 @@ verdict_words (OutOfRange len) = codes "out of range, length " ++ decimal len
 abbrev pub made_text : ℕ → List ℕ
 made_text made = codes "made " ++ (decimal made ++ codes "\n")
 
--- how many received events were appended, wait, were there before and were refused, and the critical cut behind which the history changed
+-- how many received events were appended, wait, were there before and were refused, and the critical cut after which the history changed
 abbrev pub received_text : ℕ → ℕ → ℕ → ℕ → ℕ → List ℕ
 received_text accepted waiting repeats refused cut =
     codes "accepted "
     ++ (decimal accepted ++ (codes " waiting " ++ (decimal waiting ++ (codes " repeats " ++ (decimal repeats ++ (codes " refused " ++ (decimal refused ++ (codes " cut " ++ (decimal cut ++ codes "\n")))))))))
 
--- a fault of the shelf, the source or a sink, and want of memory
+-- a fault of the shelf, the source or a sink, and that memory ran out
 abbrev pub shelf_failed : List ℕ
 shelf_failed = codes "egw: shelf failed\n"
 
@@ -61,14 +59,3 @@ sink_failed = codes "egw: sink failed\n"
 
 abbrev pub out_of_memory : List ℕ
 out_of_memory = codes "egw: out of memory\n"
-
--- what is told of a fault
-abbrev pub fault_text : Fault → List ℕ
-fault_text fault_is.Shelf = shelf_failed
-fault_text fault_is.Source = source_failed
-fault_text fault_is.Sink = sink_failed
-fault_text fault_is.OutOfMemory = out_of_memory
-
-abbrev pub fault_status : Fault → ℕ
-fault_status fault_is.OutOfMemory = 8
-fault_status fault = 6

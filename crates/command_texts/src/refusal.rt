@@ -2,7 +2,7 @@
 ghost use Rattle.std.specs.Prelude.{◌≡◌, IfOk, string_bytes};
 ghost use Rattle.ew_model.specs.Answers.{ruling_of};
 ghost use Rattle.event_file.specs.Faults.{kind_of};
-ghost use Rattle.command_table.specs.Refusals.{bad_digest, bad_event, clash, status_of, text_of, unknown};
+ghost use Rattle.command_table.specs.Refusals.{bad_digest, bad_event, clash, refusal_status, refusal_text, unknown};
 ghost use Rattle.command_table.specs.Text.{field_words, verdict_words};
 ghost use Rattle.command_texts.specs.Reasons.{refusal_view};
 
@@ -49,7 +49,7 @@ pub enum Refusal<'a> {
     },
     /// A line of the script can't be read.
     Unreadable { line: u32 },
-    /// The index of a line is after the end of the text, which has `len` characters.
+    /// The edit of a line reaches past the end of the text, which has `len` characters.
     LineOutOfRange { line: u32, len: u32 },
     /// The same of an edit that stands in no line.
     OutOfRange { len: u32 },
@@ -59,9 +59,9 @@ pub enum Refusal<'a> {
     PeerThere { line: u32, name: Name },
     /// No packet of this number was made.
     NoPacket { line: u32, packet: u32 },
-    /// No event has this id of a version.
+    /// No event of the file has this id of a version.
     Unknown(Id),
-    /// Two events have this id.
+    /// Two different events have this id.
     Clash(Id),
     /// The input ends within the frame of this number.
     FrameCut { number: u32 },
@@ -86,7 +86,7 @@ pub enum Refusal<'a> {
 impl Refusal<'_> {
     /// The status that a refused line ends with: 2 to 5, or 7.
     pub fn status(&self) -> u8
-        ensures { result ≡ status_of (refusal_view self.now) }
+        ensures { result ≡ refusal_status (refusal_view self.now) }
     {
         match self {
             Refusal::NotTaken => 2,
@@ -119,14 +119,14 @@ impl Refusal<'_> {
 
     /// What is told of it: one line, or the usage.
     pub fn text(&self, alloc: Global) -> Result<Vec<u8>, AllocError>
-        ensures { IfOk result (λ t. t.items ≡ text_of (refusal_view self.now)) }
+        ensures { IfOk result (λ t. t.items ≡ refusal_text (refusal_view self.now)) }
     {
         let text = self.line(alloc)?;
         Ok(text.into_bytes())
     }
 
     fn line(&self, alloc: Global) -> Result<String, AllocError>
-        ensures { IfOk result (λ t. string_bytes t ≡ text_of (refusal_view self.now)) }
+        ensures { IfOk result (λ t. string_bytes t ≡ refusal_text (refusal_view self.now)) }
     {
         match self {
             Refusal::NotTaken => String::from_str(alloc, USAGE),
@@ -198,7 +198,7 @@ fn digest_line(
     stored: &[u8],
     found: &[u8],
 ) -> Result<String, AllocError>
-    ensures { IfOk result (λ t. string_bytes t ≡ text_of (bad_digest name.now stored.now found.now)) }
+    ensures { IfOk result (λ t. string_bytes t ≡ refusal_text (bad_digest name.now stored.now found.now)) }
 {
     let stored = hex::encode(alloc, stored)?;
     let found = hex::encode(alloc, found)?;
@@ -211,21 +211,21 @@ fn event_line(
     position: u32,
     verdict: Verdict,
 ) -> Result<String, AllocError>
-    ensures { IfOk result (λ t. string_bytes t ≡ text_of (bad_event name.now position (ruling_of verdict))) }
+    ensures { IfOk result (λ t. string_bytes t ≡ refusal_text (bad_event name.now position (ruling_of verdict))) }
 {
     let words = words_of_verdict(alloc, verdict)?;
     format!(in alloc; "egw: {name}: event {position}: {words}\n")
 }
 
 fn unknown_line(alloc: Global, id: &Id) -> Result<String, AllocError>
-    ensures { IfOk result (λ t. string_bytes t ≡ text_of (unknown id.now)) }
+    ensures { IfOk result (λ t. string_bytes t ≡ refusal_text (unknown id.now)) }
 {
     let Id { agent, seq } = id;
     format!(in alloc; "egw: unknown {agent}:{seq}\n")
 }
 
 fn clash_line(alloc: Global, id: &Id) -> Result<String, AllocError>
-    ensures { IfOk result (λ t. string_bytes t ≡ text_of (clash id.now)) }
+    ensures { IfOk result (λ t. string_bytes t ≡ refusal_text (clash id.now)) }
 {
     let Id { agent, seq } = id;
     format!(in alloc; "egw: clash {agent}:{seq}\n")

@@ -144,40 +144,20 @@ fn read_command<'a>(
 ) -> Result<Option<Taken<'a>>, AllocError>
     ensures command { IfOk result (λ c. option_map command_view c ≡ command_in name.now (rows_of (found_of values.now))) }
 {
-    if name == "new" {
-        return Ok(read_new(values));
+    match name {
+        "new" => Ok(read_new(values)),
+        "edit" => Ok(read_edit(values)),
+        "cat" => read_cat(alloc, values),
+        "heads" => Ok(read_show(Listing::Heads, values)),
+        "log" => Ok(read_show(Listing::Log, values)),
+        "replay" => Ok(read_show(Listing::Replay, values)),
+        "check" => Ok(read_show(Listing::Numbers, values)),
+        "merge" => Ok(read_merge(values)),
+        "ask" => Ok(read_show(Listing::Question, values)),
+        "make" => Ok(read_make(values)),
+        "net" => Ok(Some(Taken::Net)),
+        _ => Ok(None),
     }
-    if name == "edit" {
-        return Ok(read_edit(values));
-    }
-    if name == "cat" {
-        return read_cat(alloc, values);
-    }
-    if name == "heads" {
-        return Ok(read_show(Listing::Heads, values));
-    }
-    if name == "log" {
-        return Ok(read_show(Listing::Log, values));
-    }
-    if name == "replay" {
-        return Ok(read_show(Listing::Replay, values));
-    }
-    if name == "check" {
-        return Ok(read_show(Listing::Numbers, values));
-    }
-    if name == "merge" {
-        return Ok(read_merge(values));
-    }
-    if name == "ask" {
-        return Ok(read_show(Listing::Question, values));
-    }
-    if name == "make" {
-        return Ok(read_make(values));
-    }
-    if name == "net" {
-        return Ok(Some(Taken::Net));
-    }
-    Ok(None)
 }
 
 fn read_serve<'a>(values: &ArgMatches<'a>) -> Option<Line<'a>>

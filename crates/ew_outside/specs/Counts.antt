@@ -11,7 +11,7 @@ next n = min (n + 1) (2 ^ 64 - 1)
 abbrev pub Rose : ℕ → ℕ → Type 0
 Rose before now = next before ≤ now
 
--- the count rose, and didn't fall
+-- the count rose, or stands at its last value; it never fell
 abbrev pub Rises : ℕ → ℕ → Type 0
 Rises before now = (before ≤ now) × Rose before now
 

@@ -4,7 +4,7 @@ use Rattle.ew_model.specs.declared.event.Event.{Event}
 use Rattle.ew_model.specs.Limits.{LimitNumbers}
 use Rattle.ew_outside.specs.Counts.{next}
 use Rattle.ew_outside.specs.Files.{Files}
-use Rattle.command_table.specs.Reads.{loads_after, LoadsAll, LoadsFront}
+use Rattle.command_table.specs.Reads.{if_open, CountsLoads, LoadsFront}
 use Rattle.command_table.specs.Refusals.{Refusal}
 use Rattle.command_table.specs.Table.{Text, opened, refused, open_file}
 use Rattle.ew_outside.specs.declared.fault.Fault.{Fault}
@@ -18,15 +18,15 @@ both_front name other before mid now first second = (2, second ∙ ap next first
 
 -- the first file of a merge is refused
 pub loads_refused : (name other : Text) (limits : LimitNumbers) (why : Refusal) (files : Option Files) (before now : ℕ)
-    → IfSome files (λ m. refused why ≡ open_file name limits m) → now ≡ next before → LoadsAll (name ∷ other ∷ []) limits files before now
-loads_refused name other limits why (Some m) before now is one = one ∙ ap (λ o. loads_after o (next (next before)) (next before)) is
+    → IfSome files (λ m. refused why ≡ open_file name limits m) → now ≡ next before → CountsLoads (name ∷ other ∷ []) limits files before now
+loads_refused name other limits why (Some m) before now is one = one ∙ ap (λ o. if_open o (next (next before)) (next before)) is
 loads_refused name other limits why None before now is one = tt
 
 -- the first file of a merge is open
 pub loads_opened : (name other : Text) (limits : LimitNumbers) (held : List Event) (files : Option Files) (before mid now : ℕ) (result : Result code.Reply Fault)
     → IfSome files (λ m. opened held ≡ open_file name limits m) → mid ≡ next before → now ≡ next mid
-    → IfOk result (λ p. LoadsAll (name ∷ other ∷ []) limits files before now)
+    → IfOk result (λ p. CountsLoads (name ∷ other ∷ []) limits files before now)
 loads_opened name other limits held (Some m) before mid now (Ok p) is first second =
-    second ∙ ap next first ∙ ap (λ o. loads_after o (next (next before)) (next before)) is
+    second ∙ ap next first ∙ ap (λ o. if_open o (next (next before)) (next before)) is
 loads_opened name other limits held None before mid now (Ok p) is first second = tt
 loads_opened name other limits held files before mid now (Err e) is first second = tt

@@ -13,7 +13,7 @@ ghost use Rattle.ew_model.specs.Rounds.{most_touches};
 ghost use Rattle.opened_files.specs.Touches.{TouchesAtMost, file_touches, merge_touches, touches_over};
 ghost use Rattle.peer_exchange.specs.Answering as answering;
 ghost use Rattle.opened_files.specs.Views.{IsTakenReply, LostBy, MissesBy, ShelfCauses, reply_view, reply_status};
-ghost use Rattle.command_table.specs.Reads.{LoadsAll, LoadsFront};
+ghost use Rattle.command_table.specs.Reads.{CountsLoads, LoadsFront};
 ghost use Rattle.ew_outside.specs.Counts.{next};
 
 use crate::taking::take;
@@ -23,7 +23,7 @@ use event_graph::Graph;
 use ew_model::id::Id;
 use ew_model::limits::Limits;
 use ew_model::steps::Steps;
-use ew_model::verdict::Refusal;
+use ew_model::verdict;
 use ew_outside::{Fault, Shelf};
 use opened_files::open::{Found, open, open_graph};
 use opened_files::reply::Reply;
@@ -32,27 +32,27 @@ use replica::{Replica, Took};
 use std::alloc::{AllocError, Global};
 use std::sync::ledger::Ledger;
 
-fn is_clash(why: Refusal) -> bool
+fn is_clash(why: verdict::Refusal) -> bool
     ensures { result ≡ answering.is_clash why }
 {
-    matches!(why, Refusal::Clash)
+    matches!(why, verdict::Refusal::Clash)
 }
 
-fn is_graph_full(why: Refusal) -> bool
+fn is_graph_full(why: verdict::Refusal) -> bool
     ensures { result ≡ table.is_graph_full why }
 {
-    matches!(why, Refusal::GraphFull)
+    matches!(why, verdict::Refusal::GraphFull)
 }
 
 /// The first refused event that has the id of another.
-fn first_clash(refused: &[(Id, Refusal)]) -> Option<&(Id, Refusal)>
+fn first_clash(refused: &[(Id, verdict::Refusal)]) -> Option<&(Id, verdict::Refusal)>
     ensures { option_copied result ≡ find (λ p. answering.is_clash p.1) refused.now }
 {
     refused.iter().find(|p| is_clash(p.1))
 }
 
 /// Whether an event was refused because the history is full.
-fn any_graph_full(refused: &[(Id, Refusal)]) -> bool
+fn any_graph_full(refused: &[(Id, verdict::Refusal)]) -> bool
     ensures { result ≡ list_any (λ p. table.is_graph_full p.1) refused.now }
 {
     refused.iter().any(|p| is_graph_full(p.1))
@@ -122,7 +122,7 @@ fn receive<'a, L: Ledger>(
 fn take_other<'a, H: Shelf, L: Ledger>(
     alloc: Global,
     name: &'a str,
-    other: &str,
+    other: &'a str,
     limits: &Limits,
     replica: &mut Replica,
     shelf: &mut H,
@@ -153,7 +153,7 @@ fn take_other<'a, H: Shelf, L: Ledger>(
 pub fn merge<'a, H: Shelf, L: Ledger>(
     alloc: Global,
     name: &'a str,
-    other: &str,
+    other: &'a str,
     limits: &Limits,
     shelf: &mut H,
     steps: &mut Steps<L>,
@@ -165,7 +165,7 @@ pub fn merge<'a, H: Shelf, L: Ledger>(
     ensures cause { ShelfCauses (H.seen shelf.old).faults (H.seen shelf.new).faults result }
     ensures misses { MissesBy (H.seen shelf.old).misses (H.seen shelf.new).misses result }
     ensures front { LoadsFront (name.now ∷ other.now ∷ []) (H.seen shelf.old).loads (H.seen shelf.new).loads }
-    ensures loads { IfOk result (λ p. LoadsAll (name.now ∷ other.now ∷ []) limits.now (H.seen shelf.old).files (H.seen shelf.old).loads (H.seen shelf.new).loads) }
+    ensures loads { IfOk result (λ p. CountsLoads (name.now ∷ other.now ∷ []) limits.now (H.seen shelf.old).files (H.seen shelf.old).loads (H.seen shelf.new).loads) }
     ensures lost { LostBy (H.seen shelf.old).lost (H.seen shelf.new).lost result }
     ensures most { TouchesAtMost (λ m. file_touches name.now limits.now m + touches_over (merge_touches other.now limits.now m) (open_file name.now limits.now m)) (H.seen shelf.old).files steps.old steps.new }
 {

@@ -4,7 +4,7 @@ use Rattle.ew_outside.specs.Counts.{Rose}
 use Rattle.ew_model.specs.declared.event.Event.{Event}
 use Rattle.ew_model.specs.Kept.{ReplicaState}
 use Rattle.ew_model.specs.Limits.{LimitNumbers}
-use Rattle.command_table.specs.Refusals.{status_of}
+use Rattle.command_table.specs.Refusals.{refusal_status}
 use Rattle.command_table.specs.Table.{Reply, prints, stores, refuses, Opened, opened, refused}
 use Rattle.command_texts.specs.Reasons.{refusal_view}
 use Rattle.opened_files.specs.declared.reply.Reply as code
@@ -45,7 +45,7 @@ ShelfCauses before now (Err fault_is.Sink) = ⊥
 abbrev pub reply_status : code.Reply → ℕ
 reply_status (reply_is.Prints _) = 0
 reply_status (reply_is.Stores _ _ _) = 0
-reply_status (reply_is.Refuses why) = status_of (refusal_view why)
+reply_status (reply_is.Refuses why) = refusal_status (refusal_view why)
 
 -- the count of misses rises exactly where the reply is to say that a file is missing
 abbrev pub MissesBy : ℕ → ℕ → Result code.Reply Fault → Type 0
@@ -68,12 +68,12 @@ IsFileStatus n = (n ≡ 4) ⊎ (n ≡ 7)
 -- a file whose events were judged is open, or was refused for an event
 abbrev pub IsJudged : {T : Type 0} → Found T → Type 0
 IsJudged (found.Open _) = ⊤
-IsJudged (found.Refused why) = status_of (refusal_view why) ≡ 4
+IsJudged (found.Refused why) = refusal_status (refusal_view why) ≡ 4
 
 -- a file that is open, or was refused with a status of a line that is refused
 abbrev pub IsOpenable : {T : Type 0} → Found T → Type 0
 IsOpenable (found.Open _) = ⊤
-IsOpenable (found.Refused why) = IsRefusal (status_of (refusal_view why))
+IsOpenable (found.Refused why) = IsRefusal (refusal_status (refusal_view why))
 
 -- a file that is open is a replica of these limits, in which nothing waits
 abbrev pub IsFresh : LimitNumbers → Found ReplicaState → Type 0
@@ -84,10 +84,10 @@ IsFresh limits (found.Refused _) = ⊤
 abbrev pub OpenMisses : {T : Type 0} → ℕ → ℕ → Result (Found T) Fault → Type 0
 OpenMisses before now (Ok (found.Open _)) = now ≡ before
 OpenMisses before now (Ok (found.Refused why)) =
-    (before ≤ now) × (status_of (refusal_view why) ≡ 3 → Rose before now) × ((status_of (refusal_view why) ≡ 3 → ⊥) → now ≡ before)
+    (before ≤ now) × (refusal_status (refusal_view why) ≡ 3 → Rose before now) × ((refusal_status (refusal_view why) ≡ 3 → ⊥) → now ≡ before)
 OpenMisses before now (Err _) = before ≤ now
 
 -- the reply of a line that is taken
 abbrev pub IsTakenReply : code.Reply → Type 0
-IsTakenReply (reply_is.Refuses why) = IsRefusal (status_of (refusal_view why))
+IsTakenReply (reply_is.Refuses why) = IsRefusal (refusal_status (refusal_view why))
 IsTakenReply _ = ⊤

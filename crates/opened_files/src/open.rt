@@ -11,7 +11,7 @@ ghost use Rattle.replica.specs.Giving.{WereGiven};
 ghost use Rattle.opened_files.specs.Faults.{finding_of};
 ghost use Rattle.command_table.specs.Loads.{File, whole_of};
 ghost use Rattle.command_table.specs.Possible.{KeepsTo, MayOpen};
-ghost use Rattle.command_table.specs.Refusals.{status_of};
+ghost use Rattle.command_table.specs.Refusals.{refusal_status};
 ghost use Rattle.command_texts.specs.Reasons.{refusal_view};
 ghost use Rattle.command_table.specs.Table.{judged, open_file, read_as, refused};
 ghost use Rattle.opened_files.specs.Reads.{IsLoadedAs, IsReadAs};
@@ -41,7 +41,7 @@ pub enum Found<'a, T> {
 /// Why events aren't good.
 fn load_refusal(name: &str, fault: LoadFault) -> Result<Refusal<'_>, AllocError>
     ensures told { IfOk result (λ why. (events : List Event) → TellsBad events fault → judged name.now events (first_bad events) ≡ refused (refusal_view why)) }
-    ensures status { IfOk result (λ why. status_of (refusal_view why) ≡ 4) }
+    ensures status { IfOk result (λ why. refusal_status (refusal_view why) ≡ 4) }
 {
     match fault {
         LoadFault::OutOfMemory => Err(AllocError),
@@ -93,7 +93,7 @@ fn file_refusal<'a>(
     fault: FileFault,
 ) -> Result<Refusal<'a>, AllocError>
     ensures told { IfOk result (λ why. IsSomeAnd (finding_of fault) (λ x. read_as name.now limits.now x ≡ refused (refusal_view why))) }
-    ensures status { IfOk result (λ why. IsFileStatus (status_of (refusal_view why))) }
+    ensures status { IfOk result (λ why. IsFileStatus (refusal_status (refusal_view why))) }
 {
     match fault {
         FileFault::OutOfMemory => Err(AllocError),

@@ -19,7 +19,7 @@ use Rattle.ew_outside.specs.Outputs.{Sends}
 use Rattle.command_table.specs.Framings.{BeginWith, Framing, IsFramingOf}
 use Rattle.command_table.specs.Sessions.{Exchange, exchanged, opened_state, Session, served_by, served_from, closed_reply, stop_refusal, refusal_at_end, or_closed}
 use Rattle.command_table.specs.Table.{Text, Reply, refuses}
-use Rattle.command_table.specs.Refusals.{Refusal, status_of, bad_body, bad_kind, frame_too_long, input_too_long, frame_cut}
+use Rattle.command_table.specs.Refusals.{Refusal, refusal_status, bad_body, bad_kind, frame_too_long, input_too_long, frame_cut}
 use Rattle.serve_plans.specs.Plans.{ClosesAs, frame_refusal}
 use Rattle.serve_plans.specs.Serving.{FaultFound, Closes, sent_by}
 use Rattle.serve_plans.specs.declared.closing.Closing.{Closing}
@@ -79,10 +79,10 @@ module _ (name : Text) (limits : LimitNumbers) (events : List Event) (input : Li
       ap (λ (s : Exchange). served_by name limits input x before s s.end) same ∙ ap (λ o. served_by name limits input x before t o) ended
 
 -- no frame is refused with another status than 5
-pub bad_frame : (number : ℕ) (why : FrameFault) (told_as : Refusal) → frame_refusal number why ≡ Some told_as → status_of told_as ≡ 5
-bad_frame number (fault.BadKind kind) told_as is = sym (ap status_of (some_is (bad_kind number kind) told_as is))
-bad_frame number (fault.TooLong len) told_as is = sym (ap status_of (some_is (frame_too_long number len) told_as is))
-bad_frame number fault.BadBody told_as is = sym (ap status_of (some_is (bad_body number) told_as is))
+pub bad_frame : (number : ℕ) (why : FrameFault) (told_as : Refusal) → frame_refusal number why ≡ Some told_as → refusal_status told_as ≡ 5
+bad_frame number (fault.BadKind kind) told_as is = sym (ap refusal_status (some_is (bad_kind number kind) told_as is))
+bad_frame number (fault.TooLong len) told_as is = sym (ap refusal_status (some_is (frame_too_long number len) told_as is))
+bad_frame number fault.BadBody told_as is = sym (ap refusal_status (some_is (bad_body number) told_as is))
 bad_frame number fault.OutOfMemory told_as is = absurd cc
 
 pub take_none : (k : ℕ) (xs : List ℕ) → xs ≡ [] → take k xs ≡ []

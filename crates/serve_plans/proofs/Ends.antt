@@ -20,7 +20,7 @@ use Rattle.peer_exchange.specs.declared.reply.End.TheVariants as end
 use Rattle.command_table.specs.Framings.{BeginWith, Framing, IsFramingOf}
 use Rattle.command_table.specs.Reads.{TakesAtMost}
 use Rattle.command_table.specs.Sessions.{Exchange, exchanged, then_exchanged, is_bye}
-use Rattle.command_table.specs.Refusals.{Refusal, status_of}
+use Rattle.command_table.specs.Refusals.{Refusal, refusal_status}
 use Rattle.command_table.specs.Table.{Text, prints, stores, refuses}
 use Rattle.opened_files.proofs.Reading.{takes_few, takes_none}
 use Rattle.opened_files.specs.declared.reply.Reply as code
@@ -73,12 +73,12 @@ nothing_left : (input read : List ℕ) (left : Option (List ℕ)) → Consumes (
 nothing_left input read None taken none = absurd taken
 nothing_left input read (Some rest) taken none = ap Some none
 
-refused_status : (p : code.Reply) (why : Refusal) → reply_view p ≡ refuses why → reply_status p ≡ status_of why
+refused_status : (p : code.Reply) (why : Refusal) → reply_view p ≡ refuses why → reply_status p ≡ refusal_status why
 refused_status (reply_is.Prints out) why h = absurd cc
 refused_status (reply_is.Stores out name bytes) why h = absurd cc
 refused_status (reply_is.Refuses x) why h = cc
 
-not_well : (p : code.Reply) (why : Refusal) → reply_view p ≡ refuses why → 0 < status_of why → reply_status p ≡ 0 → ⊥
+not_well : (p : code.Reply) (why : Refusal) → reply_view p ≡ refuses why → 0 < refusal_status why → reply_status p ≡ 0 → ⊥
 not_well p why told some well = absurd (omega (arith, refused_status p why told, some, well))
 
 not_false : (b : Bool) → b ≡ true → b ≡ false → ⊥
