@@ -62,11 +62,13 @@ pub fn carry_out<H: Shelf, K: Sink>(
         Err(fault) => Err(fault),
         Ok(Reply::Refuses(why)) => refuse(alloc, &why),
         Ok(Reply::Prints(bytes)) => print(out, &bytes),
-        Ok(Reply::Stores {
-            out: text,
-            name,
-            bytes,
-        }) => match shelf.store(name, &bytes) {
+        Ok(
+            Reply::Stores {
+                out: text,
+                name,
+                bytes,
+            },
+        ) => match shelf.store(name, &bytes) {
             Ok(()) => print(out, &text),
             Err(fault) => Err(Fault::from(fault)),
         },

@@ -46,6 +46,8 @@ fn refuse<'a>(limits: &Limits, fault: EditFault) -> Result<Reply<'a>, Fault>
         EditFault::OutOfMemory => Err(Fault::OutOfMemory),
         EditFault::OutOfRange { len } => Ok(Reply::Refuses(Refusal::OutOfRange { len })),
         EditFault::TooManyHeads { heads } => Ok(Reply::Refuses(Refusal::TooManyHeads { heads })),
-        EditFault::Full { .. } => Ok(Reply::Refuses(Refusal::TooManyEvents { most: limits.events() })),
+        EditFault::Full { .. } => Ok(Reply::Refuses(Refusal::TooManyEvents {
+            most: limits.events(),
+        })),
     }
 }

@@ -11,8 +11,8 @@ use Rattle.command_table.specs.Sessions.{Session, printed_by, session_answer}
 use Rattle.command_table.specs.Table.{Text, Reply, prints, stores, refuses, Answer}
 
 -- the run did what the table says
-pub record IsAnswered (t : Answer) (old new : Seen) (status : ℕ) : Type 0 where
-  pub status : status ≡ t.status
+pub record IsAnswered (t : Answer) (old new : Seen) (code : ℕ) : Type 0 where
+  pub status : code ≡ t.status
   pub files : new.shelf.files ≡ Some t.files
   pub out : Appends old.out.taken new.out.taken t.out
   pub err : TellsErr old new t.err

@@ -25,10 +25,16 @@ pub enum Refusal<'a> {
     /// A file that is to be made is there.
     FileThere(&'a str),
     /// A file of so many bytes is too short to be an event file.
-    ShortFile { name: &'a str, len: u64 },
+    ShortFile {
+        name: &'a str,
+        len: u64,
+    },
     /// A file doesn't begin as an event file does.
     NoEventFile(&'a str),
-    UnknownVersion { name: &'a str, version: u8 },
+    UnknownVersion {
+        name: &'a str,
+        version: u8,
+    },
     /// The digest stored in the file isn't the one found of its bytes.
     BadDigest {
         name: &'a str,
@@ -48,39 +54,77 @@ pub enum Refusal<'a> {
         verdict: Verdict,
     },
     /// A line of the script can't be read.
-    Unreadable { line: u32 },
+    Unreadable {
+        line: u32,
+    },
     /// The edit of a line reaches past the end of the text, which has `len` characters.
-    LineOutOfRange { line: u32, len: u32 },
+    LineOutOfRange {
+        line: u32,
+        len: u32,
+    },
     /// The same of an edit that stands in no line.
-    OutOfRange { len: u32 },
+    OutOfRange {
+        len: u32,
+    },
     /// The net of a script has no peer of the name that a line says.
-    NoPeer { line: u32, name: Name },
+    NoPeer {
+        line: u32,
+        name: Name,
+    },
     /// The net has a peer of the name already.
-    PeerThere { line: u32, name: Name },
+    PeerThere {
+        line: u32,
+        name: Name,
+    },
     /// No packet of this number was made.
-    NoPacket { line: u32, packet: u32 },
+    NoPacket {
+        line: u32,
+        packet: u32,
+    },
     /// No event of the file has this id of a version.
     Unknown(Id),
     /// Two different events have this id.
     Clash(Id),
     /// The input ends within the frame of this number.
-    FrameCut { number: u32 },
+    FrameCut {
+        number: u32,
+    },
     /// The first byte of a frame is no kind of frame.
-    BadKind { number: u32, kind: u8 },
+    BadKind {
+        number: u32,
+        kind: u8,
+    },
     /// The body of a frame has `len` bytes, which are too many.
-    FrameTooLong { number: u32, len: u32 },
+    FrameTooLong {
+        number: u32,
+        len: u32,
+    },
     /// The body of a frame is none of its kind.
-    BadBody { number: u32 },
+    BadBody {
+        number: u32,
+    },
     /// The file has more than `most` bytes.
-    FileTooLong { name: &'a str, most: u64 },
+    FileTooLong {
+        name: &'a str,
+        most: u64,
+    },
     /// The file has more than `most` events.
-    FileTooMany { name: &'a str, most: u32 },
+    FileTooMany {
+        name: &'a str,
+        most: u32,
+    },
     /// The input has more than `most` bytes.
-    InputTooLong { most: u32 },
+    InputTooLong {
+        most: u32,
+    },
     /// There would be more than `most` events.
-    TooManyEvents { most: u32 },
+    TooManyEvents {
+        most: u32,
+    },
     /// The history has so many heads, more than one event may have parents.
-    TooManyHeads { heads: u32 },
+    TooManyHeads {
+        heads: u32,
+    },
 }
 
 impl Refusal<'_> {
@@ -158,7 +202,9 @@ impl Refusal<'_> {
                 format!(in alloc; "egw: line {line}: out of range, length {len}\n")
             }
             Refusal::OutOfRange { len } => format!(in alloc; "egw: out of range, length {len}\n"),
-            Refusal::NoPeer { line, name } => format!(in alloc; "egw: line {line}: no peer {name}\n"),
+            Refusal::NoPeer { line, name } => format!(in alloc;
+                "egw: line {line}: no peer {name}\n"
+            ),
             Refusal::PeerThere { line, name } => {
                 format!(in alloc; "egw: line {line}: peer {name} is there\n")
             }
@@ -192,12 +238,7 @@ impl Refusal<'_> {
     }
 }
 
-fn digest_line(
-    alloc: Global,
-    name: &str,
-    stored: &[u8],
-    found: &[u8],
-) -> Result<String, AllocError>
+fn digest_line(alloc: Global, name: &str, stored: &[u8], found: &[u8]) -> Result<String, AllocError>
     ensures { IfOk result (λ t. string_bytes t ≡ refusal_text (bad_digest name.now stored.now found.now)) }
 {
     let stored = hex::encode(alloc, stored)?;

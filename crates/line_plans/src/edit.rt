@@ -60,7 +60,9 @@ pub fn refuse_line<'a>(
         EditFault::OutOfMemory => Err(AllocError),
         EditFault::OutOfRange { len } => Ok(Reply::Refuses(Refusal::LineOutOfRange { line, len })),
         EditFault::TooManyHeads { heads } => Ok(Reply::Refuses(Refusal::TooManyHeads { heads })),
-        EditFault::Full { .. } => Ok(Reply::Refuses(Refusal::TooManyEvents { most: limits.events() })),
+        EditFault::Full { .. } => Ok(Reply::Refuses(Refusal::TooManyEvents {
+            most: limits.events(),
+        })),
     }
 }
 

@@ -93,7 +93,9 @@ fn took_plan<'a>(
         return Ok(Reply::Refuses(Refusal::Clash(*id)));
     }
     if any_graph_full(&took.refused) {
-        return Ok(Reply::Refuses(Refusal::TooManyEvents { most: limits.events() }));
+        return Ok(Reply::Refuses(Refusal::TooManyEvents {
+            most: limits.events(),
+        }));
     }
     received_plan(alloc, name, replica, took)
 }

@@ -27,11 +27,7 @@ use std::alloc::{AllocError, Global};
 use std::sync::ledger::Ledger;
 
 /// Why a step is refused.
-fn refuse_step<'a>(
-    limits: &Limits,
-    line: u32,
-    fault: NetFault,
-) -> Result<Reply<'a>, AllocError>
+fn refuse_step<'a>(limits: &Limits, line: u32, fault: NetFault) -> Result<Reply<'a>, AllocError>
     ensures told { StepRefuses limits.now line fault result }
     ensures plan { IfOk result IsTakenReply }
 {
@@ -39,9 +35,7 @@ fn refuse_step<'a>(
         NetFault::NoPeer(name) => Ok(Reply::Refuses(Refusal::NoPeer { line, name })),
         NetFault::PeerTwice(name) => Ok(Reply::Refuses(Refusal::PeerThere { line, name })),
         NetFault::NoPacket(packet) => Ok(Reply::Refuses(Refusal::NoPacket { line, packet })),
-        NetFault::OutOfRange { len } => {
-            refuse_line(limits, line, EditFault::OutOfRange { len })
-        }
+        NetFault::OutOfRange { len } => { refuse_line(limits, line, EditFault::OutOfRange { len }) }
         NetFault::TooManyHeads { heads } => {
             refuse_line(limits, line, EditFault::TooManyHeads { heads })
         }

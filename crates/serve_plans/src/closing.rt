@@ -82,6 +82,8 @@ pub fn close<'a>(
         Closing::Clash(id) => Ok(Reply::Refuses(Refusal::Clash(id))),
         Closing::BadFrame { number, fault } => Ok(Reply::Refuses(frame_refusal(number, fault)?)),
         Closing::CutFrame { number } => Ok(Reply::Refuses(Refusal::FrameCut { number })),
-        Closing::TooLong => Ok(Reply::Refuses(Refusal::InputTooLong { most: limits.input() })),
+        Closing::TooLong => Ok(Reply::Refuses(Refusal::InputTooLong {
+            most: limits.input(),
+        })),
     }
 }
