@@ -1,5 +1,6 @@
 //! The lines that the program prints of an edit and of a merge. Each ends with a newline. The only error is that memory ran out.
 ghost use Rattle.std.specs.Prelude.{◌≡◌, IfOk};
+ghost use Rattle.command_table.specs.Text;
 ghost use Rattle.command_texts.specs.Told.{took_text};
 
 use replica::Took;
@@ -7,7 +8,7 @@ use std::alloc::{AllocError, Global};
 
 /// How many events an edit made.
 pub fn made_text(alloc: Global, made: u64) -> Result<Vec<u8>, AllocError>
-    ensures { IfOk result (λ t. t.items ≡ Rattle.command_table.specs.Text.made_text made) }
+    ensures { IfOk result (λ t. t.items ≡ Text.made_text made) }
 {
     let text = format!(in alloc; "made {made}\n")?;
     Ok(text.into_bytes())
