@@ -1,13 +1,13 @@
 -- Which counts of faults moved in a run.
 use Rattle.std.proofs.Common.{◌≡◌, ◌≤◌, ℕ, arith}
 use Rattle.ew_outside.specs.Counts.{Rose, IsQuiet}
-use Rattle.command_table.specs.Headline.{Seen, Object, shelf, source, sink, faults_of}
+use Rattle.command_table.specs.Seen.{Seen, Object, shelf, source, sink, faults_of}
 
 -- no count of a fault moved
 pub record Calm (old new : Seen) : Type 0 where
-  pub shelf_same : new.shelf_faults ≡ old.shelf_faults
-  pub source_same : new.source_faults ≡ old.source_faults
-  pub sink_same : new.out_faults ≡ old.out_faults
+  pub shelf_same : new.shelf.faults ≡ old.shelf.faults
+  pub source_same : new.input.faults ≡ old.input.faults
+  pub sink_same : new.out.faults ≡ old.out.faults
 
 -- one object's count rose, and no other
 pub record Struck (object : Object) (old new : Seen) : Type 0 where

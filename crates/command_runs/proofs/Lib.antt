@@ -1,13 +1,10 @@
 pub mod Faults
-pub mod LineCourses
-pub mod LineRuns
-pub mod LineTables
 pub mod Outputs
 pub mod Replies
-pub mod SessionCourses
-pub mod SessionOutputs
-pub mod SessionRuns
-pub mod SessionTables
+pub mod Courses
+pub mod Outputting
+pub mod Runs
+pub mod Tables
 pub mod Starved
 pub mod Touches
 pub mod Lines

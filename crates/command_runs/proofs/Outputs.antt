@@ -1,8 +1,8 @@
 -- Lemmas on outputs that are written whole.
 use Rattle.std.proofs.Common.{ℕ, List, Option, Result, Ok, Err, arith}
-use Rattle.serve_plans.specs.Written.{Takes}
-use Rattle.serve_plans.proofs.Outputs.{front_of_all}
-use Rattle.command_table.specs.Outputs.{Tells}
+use Rattle.ew_outside.specs.Outputs.{Takes}
+use Rattle.ew_outside.proofs.Outputs.{front_of_all}
+use Rattle.ew_outside.specs.Outputs.{Tells}
 use Rattle.ew_outside.specs.Counts.{Counts}
 
 -- what writing a text tells

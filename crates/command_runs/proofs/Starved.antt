@@ -1,91 +1,95 @@
 -- A run for whose words there was no memory.
-use Rattle.std.proofs.Common.{◌≡◌, inr, ℕ, [], sym, subst, arith, Option, None, Some, Result, Err}
+use Rattle.std.proofs.Common.{◌≡◌, ◌≤◌, ap, List, ℕ, Bool, true, false, [], refl, sym, subst, arith, Option, None, Some, Result, Err}
 use Rattle.ew_model.specs.Limits.{LimitNumbers}
-use Rattle.command_table.specs.Sessions.{served}
+use Rattle.ew_outside.specs.Files.{Files}
+use Rattle.ew_outside.specs.Seen.{SinkSeen}
+use Rattle.ew_outside.specs.declared.fault.Fault.{Fault}
+use Rattle.ew_outside.specs.declared.fault.Fault.TheVariants as fault_is
+use Rattle.command_table.specs.Headline.{IsRunOf}
+use Rattle.command_table.specs.Lines.{session_of}
+use Rattle.command_table.specs.Reads.{needs_file, shape_of}
+use Rattle.command_table.specs.Refusals.{not_taken}
+use Rattle.command_table.specs.Seen.{Seen, TellsErr}
+use Rattle.command_table.specs.Sessions.{closed_by}
+use Rattle.command_table.specs.Table.{Text, Line, does, serves, refuses}
 use Rattle.command_table.specs.Text.{out_of_memory}
-use Rattle.command_table.specs.Table.{Text, Command, Line, does, serves}
-use Rattle.command_table.specs.Headline.{Seen, TellsErr, IsLineRun, IsRunOf, IsSessionRun}
-use Rattle.opened_files.proofs.Reading.{holds_edit_refused, holds_refused, takes_none}
-use Rattle.opened_files.specs.declared.reply.Plan.{Plan}
-use Rattle.opened_files.specs.declared.reply.Stop.TheVariants as stop
-use Rattle.serve_plans.specs.declared.halt.Halt.{Halt}
-use Rattle.serve_plans.specs.declared.halt.Halt.TheVariants as halt
-use Rattle.serve_plans.specs.Plans.{ReadsOn}
+use Rattle.opened_files.specs.declared.reply.Reply as code
+use Rattle.opened_files.proofs.Reading.{takes_none}
+use Rattle.serve_plans.specs.Plans.{ReadsOn, SendsReplies}
 use Rattle.serve_plans.proofs.Answers.{grows_none}
 use Rattle.serve_plans.proofs.Opening.{stopped_plans}
 use Rattle.serve_plans.proofs.Prompt.{prompt_none}
-use Rattle.command_runs.proofs.Faults.{Calm, calm_object}
-use Rattle.command_runs.proofs.SessionCourses.{SessionCourse, Starved}
-use Rattle.command_runs.proofs.SessionOutputs.{is_session}
-use Rattle.command_runs.proofs.SessionTables.{is_served}
-use Rattle.command_runs.proofs.SessionRuns.{always_so, among_so, later_so, none_taken, prompt_so}
+use Rattle.command_runs.specs.Lines.{Heard, IsReplyOf, MissesFor, PlansSome, SendsNone}
+use Rattle.command_runs.proofs.Faults.{Calm}
+use Rattle.command_runs.proofs.Lines.{command_some, file_refused}
+use Rattle.command_runs.proofs.Runs.{is_run}
 
-starved_line : (l : Option Command) (limits : LimitNumbers) (old new : Seen) (code : ℕ) → code ≡ 8 → Calm old new → new.files ≡ old.files → new.out ≡ old.out
-    → new.left ≡ old.left → new.loads ≡ old.loads
-    → TellsErr old new out_of_memory → IsLineRun l limits old new code
-starved_line l limits old new code eight calm files out left loads text = record {
-  told = λ _ _ _ _ _ _. record { answered = λ _ n8. absurd (n8 eight); failed = λ six. absurd (omega (arith, six, eight)); complete = λ _. inr eight };
-  alone = λ _ _ _ _ _. record { answered = λ _ n8. absurd (n8 eight); failed = λ six. absurd (omega (arith, six, eight)); complete = λ _. inr eight };
-  said = λ _ n8. absurd (n8 eight);
-  among = inr (omega (arith, eight), omega (arith, eight));
-  silent = λ zero. absurd (omega (arith, zero, eight));
-  fault = λ six. absurd (omega (arith, six, eight));
-  always = λ object rose. absurd (omega (arith, rose, calm_object old new calm object));
-  later = λ object. omega (arith, calm_object old new calm object);
-  memory = λ _. record { files = files; out = out; err = text };
-  nothing = λ _ _. (files, out);
-  flushed = λ zero. absurd (omega (arith, zero, eight));
-  usage = λ two. absurd (omega (arith, two, eight));
-  only_usage = λ _. inr eight;
-  missing = λ _ three. absurd (omega (arith, three, eight));
-  found = λ _ _ _ n8. absurd (n8 eight);
-  read = λ _ zero _ _. absurd (omega (arith, zero, eight));
-  unread = λ _. (left, calm.source_same);
-  few = takes_none _ old.left new.left left;
-  untouched = λ files _. holds_edit_refused l limits (Some files) _ (left, calm.source_same);
-  front = (0, loads);
-  loads = λ _ _ _ n8. absurd (n8 eight);
-}
+abbrev stopped : Result code.Reply Fault
+stopped = Err fault_is.OutOfMemory
 
-starved_session : (name : Text) (limits : LimitNumbers) (old new : Seen) (code : ℕ) → code ≡ 8 → Calm old new → new.files ≡ old.files → new.out ≡ old.out
-    → new.left ≡ old.left → new.loads ≡ old.loads
-    → TellsErr old new out_of_memory → IsSessionRun name limits old new code
-starved_session name limits old new code eight calm files out left loads text =
-    let planned : Result Plan Halt = Err (halt.Stopped stop.OutOfMemory) in
-    let course : SessionCourse planned old old new code = Starved (record { eight = eight; files = files; out = out; calm = calm; text = text }) in
-    let may = stopped_plans name limits old.out old.flushed (halt.Stopped stop.OutOfMemory) in
-    let reads : ReadsOn name limits old.files old.left new.left old.out old.out =
-    subst (λ x. ReadsOn name limits old.files old.left x old.out old.out) (sym left) (prompt_none name limits old.files old.left old.out) in
-    record {
-      told = λ m input f at is cut. is_served (served name limits m input f) planned m old old new code
-          (grows_none old.out (served name limits m input f).sent) at course;
-      some = (may.0, may.1, is_session may.0 planned old old new code may.2 course);
-      replies = λ m events input n at opens is rest few rose. absurd (omega (arith, calm.source_same, rose));
-      prompt = λ m events input at opens is. prompt_so name limits old old new m events input [] reads (none_taken old.out new.out out) at opens is;
-      among = among_so planned old old new code course;
-      silent = λ zero. absurd (omega (arith, zero, eight));
-      fault = λ six. absurd (omega (arith, six, eight));
-      always = always_so planned old old new code course;
-      later = later_so planned old old new code course;
-      memory = λ _. (files, text);
-      nothing = λ _ _. files;
-      flushed = λ zero. absurd (omega (arith, zero, eight));
-      missing = λ three. absurd (omega (arith, three, eight));
-      found = λ _ _ n8. absurd (n8 eight);
-      read = λ zero _ _ _ _ _. absurd (omega (arith, zero, eight));
-      few = takes_none _ old.left new.left left;
-      within = λ _. takes_none _ old.left new.left left;
-      refused = λ _. (left, calm.source_same);
-      untouched = λ m _. holds_refused name limits (Some m) _ (left, calm.source_same);
-      front = (0, loads);
-      loads = λ _ n8. absurd (n8 eight);
-    }
+some_session : (l : Option Line) (limits : LimitNumbers) (out : SinkSeen) → PlansSome l limits out out stopped
+some_session None limits out = (closed_by (refuses not_taken), refl, grows_none out.taken [])
+some_session (Some (does command)) limits out = command_some command limits out stopped tt
+some_session (Some (serves file)) limits out = stopped_plans file limits out.taken out.flushed fault_is.OutOfMemory
 
-pub starved_run : (l : Option Line) (limits : LimitNumbers) (old new : Seen) (code : ℕ) → code ≡ 8 → Calm old new → new.files ≡ old.files → new.out ≡ old.out
-    → new.left ≡ old.left → new.loads ≡ old.loads
+no_replies : (file : Text) (limits : LimitNumbers) (files : Option Files) (left left' out out' : Option (List ℕ)) (flushed : Option ℕ)
+    → SendsReplies file limits files left left' out out' flushed stopped
+no_replies file limits (Some m) (Some input) left' out out' flushed = tt
+no_replies file limits (Some m) None left' out out' flushed = tt
+no_replies file limits None left left' out out' flushed = tt
+
+heard_none : (l : Option Line) (limits : LimitNumbers) (old new : Seen) → new.input.left ≡ old.input.left → Heard l limits old.shelf old.input new.input old.out old.out stopped
+heard_none None limits old new left = tt
+heard_none (Some (does command)) limits old new left = tt
+heard_none (Some (serves file)) limits old new left =
+    let reads : ReadsOn file limits old.shelf.files old.input.left new.input.left old.out.taken old.out.taken =
+    subst (λ x. ReadsOn file limits old.shelf.files old.input.left x old.out.taken old.out.taken) (sym left) (prompt_none file limits old.shelf.files old.input.left old.out.taken) in
+    (no_replies file limits old.shelf.files old.input.left new.input.left old.out.taken old.out.taken old.out.flushed, reads, tt, tt)
+
+sent_none : (l : Option Line) (out : SinkSeen) → SendsNone l out out stopped
+sent_none None out = (refl, tt)
+sent_none (Some (does command)) out = (refl, tt)
+sent_none (Some (serves file)) out = tt
+
+no_reply : (l : Option Line) → IsReplyOf l stopped
+no_reply None = refl
+no_reply (Some l) = tt
+
+none_missed : (needs : Bool) (n : ℕ) → MissesFor needs n n stopped
+none_missed true n = omega arith
+none_missed false n = omega arith
+
+pub starved_run : (l : Option Line) (limits : LimitNumbers) (old new : Seen) (code : ℕ) → code ≡ 8 → Calm old new → new.shelf ≡ old.shelf → new.out ≡ old.out
+    → new.input.left ≡ old.input.left
     → TellsErr old new out_of_memory → IsRunOf l limits old new code
-starved_run None limits old new code eight calm files out left loads text = starved_line None limits old new code eight calm files out left loads text
-starved_run (Some (does command)) limits old new code eight calm files out left loads text =
-    starved_line (Some command) limits old new code eight calm files out left loads text
-starved_run (Some (serves name)) limits old new code eight calm files out left loads text =
-    starved_session name limits old new code eight calm files out left loads text
+starved_run l limits old new code eight calm shelf out left text =
+    is_run l limits stopped (Err fault_is.OutOfMemory) old old new code (record {
+      told = λ files bytes meaning at means. grows_none old.out.taken (session_of l limits files bytes meaning).sent;
+      some = some_session l limits old.out;
+      heard = heard_none l limits old new left;
+      sends = sent_none l old.out;
+      line = no_reply l;
+      read = tt;
+      unread = λ none. (left, calm.source_same);
+      same = refl;
+      cause = (refl, calm.source_same, refl);
+      misses = none_missed (needs_file l) old.shelf.misses;
+      front = (0, refl);
+      loads = tt;
+      lost = refl;
+      kept = tt;
+      few = takes_none _ old.input.left new.input.left left;
+      untouched = file_refused (shape_of l) limits old.shelf.files _ (left, calm.source_same);
+      which = refl;
+      files = ap (λ s. s.files) shelf;
+      out = ap (λ s. s.taken) out;
+      flushed = ap (λ s. s.flushed) out;
+      shelf_count = ap (λ s. s.faults) shelf;
+      sink_count = ap (λ s. s.faults) out;
+      no_miss = ap (λ s. s.misses) shelf;
+      no_load = ap (λ s. s.loads) shelf;
+      no_loss = ap (λ s. s.lost) shelf;
+      status = eight;
+      text = text;
+      silent = tt;
+    })

@@ -1,109 +1,115 @@
--- How a run ends, once its plan is made.
+-- How a run ends, once its reply is made.
 use Rattle.std.specs.Prelude.{◌≡◌, ◌≤◌, ⊤, ℕ, List, [], Option, None, Some, Result, Ok, Err, ◌⊎◌}
 use Rattle.std.specs.FinMap.{insert}
 use Rattle.std.specs.Io.KnownBytes.{Appends}
 use Rattle.ew_outside.specs.Files.{Files}
 use Rattle.ew_outside.specs.Counts.{Rose}
 use Rattle.ew_outside.specs.Bytes.{IsFlushed}
-use Rattle.command_table.specs.Outputs.{GrowsByFront}
+use Rattle.ew_outside.specs.Outputs.{GrowsByFront}
+use Rattle.ew_outside.specs.Seen.{SinkSeen}
+use Rattle.ew_outside.specs.declared.fault.Fault.{Fault}
+use Rattle.ew_outside.specs.declared.fault.Fault.TheVariants as fault_is
+use Rattle.command_table.specs.Refusals.{refusal_status, refusal_text}
 use Rattle.command_table.specs.Text.{shelf_failed, source_failed, sink_failed, out_of_memory}
-use Rattle.opened_files.specs.declared.reply.Plan.{Plan}
-use Rattle.opened_files.specs.declared.reply.Plan.TheVariants as plan
-use Rattle.opened_files.specs.declared.reply.Stop.{Stop}
-use Rattle.opened_files.specs.declared.reply.Stop.TheVariants as stop
-use Rattle.command_runs.specs.declared.ending.Ending.{Ending}
-use Rattle.command_runs.specs.declared.ending.Ending.TheVariants.{Done, Refused, ShelfFailed, SourceFailed, SinkFailed, OutOfMemory}
+use Rattle.command_texts.specs.Reasons.{refusal_view}
+use Rattle.command_texts.specs.declared.refusal.Refusal.{Refusal}
+use Rattle.opened_files.specs.declared.reply.Reply as code
+use Rattle.opened_files.specs.declared.reply.Reply.TheVariants as reply_is
+use Rattle.command_runs.specs.declared.ending.Told.{Told}
 
-abbrev pub end_of_stop : Stop → Ending
-end_of_stop stop.ShelfFailed = ShelfFailed
-end_of_stop stop.SourceFailed = SourceFailed
-end_of_stop stop.OutOfMemory = OutOfMemory
+-- what the reply stores, applied to a map
+abbrev pub files_after : code.Reply → Files → Files
+files_after (reply_is.Prints _) m = m
+files_after (reply_is.Stores _ name bytes) m = insert m name.now bytes.items
+files_after (reply_is.Refuses _) m = m
 
--- what the plan stores, applied to a map
-abbrev pub files_after : Plan → Files → Files
-files_after (plan.Prints _) m = m
-files_after (plan.Stores _ name bytes) m = insert m name.now bytes.items
-files_after (plan.Refuses _ _) m = m
+abbrev pub out_of : code.Reply → List ℕ
+out_of (reply_is.Prints out) = out.items
+out_of (reply_is.Stores out _ _) = out.items
+out_of (reply_is.Refuses _) = []
 
-abbrev pub out_of : Plan → List ℕ
-out_of (plan.Prints out) = out.items
-out_of (plan.Stores out _ _) = out.items
-out_of (plan.Refuses _ _) = []
-
--- the map is as after the plan, where it was told
-abbrev pub FilesAfter : Plan → Option Files → Option Files → Type 0
+-- the map is as after the reply, where it was known
+abbrev pub FilesAfter : code.Reply → Option Files → Option Files → Type 0
 FilesAfter p None new = ⊤
 FilesAfter p (Some m) new = new ≡ Some (files_after p m)
 
--- which ending a plan may have
-abbrev pub EndsPlan : Result Plan Stop → Ending → Type 0
-EndsPlan (Err e) ending = ending ≡ end_of_stop e
-EndsPlan (Ok (plan.Refuses status text)) ending = ending ≡ Refused status text
-EndsPlan (Ok (plan.Prints _)) Done = ⊤
-EndsPlan (Ok (plan.Prints _)) SinkFailed = ⊤
-EndsPlan (Ok (plan.Prints _)) _ = ⊥
-EndsPlan (Ok (plan.Stores _ _ _)) (Refused _ _) = ⊥
-EndsPlan (Ok (plan.Stores _ _ _)) SourceFailed = ⊥
-EndsPlan (Ok (plan.Stores _ _ _)) _ = ⊤
+-- a refusal is told with its status and its text, unless memory ran out
+abbrev pub IsTold : Refusal → Result (Option Told) Fault → Type 0
+IsTold why (Ok (Some told)) = (told.status ≡ refusal_status (refusal_view why)) × (told.text.items ≡ refusal_text (refusal_view why))
+IsTold why (Ok None) = ⊥
+IsTold why (Err fault) = fault ≡ fault_is.OutOfMemory
+
+-- which ending a reply may have
+abbrev pub EndsReply : Result code.Reply Fault → Result (Option Told) Fault → Type 0
+EndsReply (Err fault) ending = ending ≡ Err fault
+EndsReply (Ok (reply_is.Refuses why)) ending = IsTold why ending
+EndsReply (Ok (reply_is.Prints _)) (Ok None) = ⊤
+EndsReply (Ok (reply_is.Prints _)) (Err fault_is.Sink) = ⊤
+EndsReply (Ok (reply_is.Prints _)) _ = ⊥
+EndsReply (Ok (reply_is.Stores _ _ _)) (Ok (Some _)) = ⊥
+EndsReply (Ok (reply_is.Stores _ _ _)) (Err fault_is.Source) = ⊥
+EndsReply (Ok (reply_is.Stores _ _ _)) _ = ⊤
 
 -- what an ending leaves of the map
-abbrev pub EndFiles : Result Plan Stop → Ending → Option Files → Option Files → Type 0
+abbrev pub EndFiles : Result code.Reply Fault → Result (Option Told) Fault → Option Files → Option Files → Type 0
 EndFiles (Err _) _ old new = new ≡ old
-EndFiles (Ok p) Done old new = FilesAfter p old new
-EndFiles (Ok p) SinkFailed old new = FilesAfter p old new
-EndFiles (Ok p) ShelfFailed old new = (new ≡ old) ⊎ FilesAfter p old new
+EndFiles (Ok p) (Ok None) old new = FilesAfter p old new
+EndFiles (Ok p) (Err fault_is.Sink) old new = FilesAfter p old new
+EndFiles (Ok p) (Err fault_is.Shelf) old new = (new ≡ old) ⊎ FilesAfter p old new
 EndFiles (Ok p) _ old new = new ≡ old
 
 -- what an ending leaves of the output
-abbrev pub EndOut : Result Plan Stop → Ending → Option (List ℕ) → Option (List ℕ) → Option ℕ → Type 0
-EndOut (Ok p) Done old new flushed = Appends old new (out_of p) × IsFlushed new flushed
-EndOut (Ok p) SinkFailed old new flushed = GrowsByFront old new (out_of p)
+abbrev pub EndOut : Result code.Reply Fault → Result (Option Told) Fault → Option (List ℕ) → Option (List ℕ) → Option ℕ → Type 0
+EndOut (Ok p) (Ok None) old new flushed = Appends old new (out_of p) × IsFlushed new flushed
+EndOut (Ok p) (Err fault_is.Sink) old new flushed = GrowsByFront old new (out_of p)
 EndOut _ _ old new flushed = new ≡ old
 
--- nothing is flushed but at an end that is well
-abbrev pub EndFlushed : Ending → Option ℕ → Option ℕ → Type 0
-EndFlushed Done old new = ⊤
-EndFlushed _ old new = new ≡ old
+-- nothing is flushed but where the reply was carried out whole
+abbrev pub EndFlushed : Result code.Reply Fault → Result (Option Told) Fault → Option ℕ → Option ℕ → Type 0
+EndFlushed (Ok p) (Ok None) old new = ⊤
+EndFlushed _ _ old new = new ≡ old
 
--- nothing is flushed where there is no plan, or it isn't carried out whole
-abbrev pub KeepsFlushed : Result Plan Stop → Ending → Option ℕ → Option ℕ → Type 0
-KeepsFlushed (Err _) ending old new = new ≡ old
-KeepsFlushed (Ok p) ending old new = EndFlushed ending old new
-
--- which count moved while the plan was carried out
-abbrev pub EndShelfCount : Result Plan Stop → Ending → ℕ → ℕ → Type 0
-EndShelfCount (Ok _) ShelfFailed before now = (before ≤ now) × Rose before now
+-- which count moved while the reply was carried out
+abbrev pub EndShelfCount : Result code.Reply Fault → Result (Option Told) Fault → ℕ → ℕ → Type 0
+EndShelfCount (Ok _) (Err fault_is.Shelf) before now = (before ≤ now) × Rose before now
 EndShelfCount _ _ before now = now ≡ before
 
-abbrev pub EndSinkCount : Ending → ℕ → ℕ → Type 0
-EndSinkCount SinkFailed before now = (before ≤ now) × Rose before now
-EndSinkCount _ before now = now ≡ before
+abbrev pub EndSinkCount : Result code.Reply Fault → Result (Option Told) Fault → ℕ → ℕ → Type 0
+EndSinkCount (Ok _) (Err fault_is.Sink) before now = (before ≤ now) × Rose before now
+EndSinkCount _ _ before now = now ≡ before
 
-abbrev pub end_status : Ending → ℕ
-end_status Done = 0
-end_status (Refused status _) = status
-end_status OutOfMemory = 8
-end_status _ = 6
+-- what a fault is told as, and the status that it ends with
+abbrev pub fault_text : Fault → List ℕ
+fault_text fault_is.Shelf = shelf_failed
+fault_text fault_is.Source = source_failed
+fault_text fault_is.Sink = sink_failed
+fault_text fault_is.OutOfMemory = out_of_memory
 
-abbrev pub end_text : Ending → List ℕ
-end_text Done = []
-end_text (Refused _ text) = text.items
-end_text ShelfFailed = shelf_failed
-end_text SourceFailed = source_failed
-end_text SinkFailed = sink_failed
-end_text OutOfMemory = out_of_memory
+abbrev pub fault_status : Fault → ℕ
+fault_status fault_is.Shelf = 6
+fault_status fault_is.Source = 6
+fault_status fault_is.Sink = 6
+fault_status fault_is.OutOfMemory = 8
+
+abbrev pub end_status : Result (Option Told) Fault → ℕ
+end_status (Ok None) = 0
+end_status (Ok (Some told)) = told.status
+end_status (Err fault) = fault_status fault
+
+abbrev pub end_text : Result (Option Told) Fault → List ℕ
+end_text (Ok None) = []
+end_text (Ok (Some told)) = told.text.items
+end_text (Err fault) = fault_text fault
 
 -- nothing is said where the run is done
-abbrev pub SaysNone : Ending → Option (List ℕ) → Option (List ℕ) → ℕ → ℕ → Type 0
-SaysNone Done old new before now = (new ≡ old) × (now ≡ before)
-SaysNone _ old new before now = ⊤
-
-abbrev pub IsDoneOrSinkFailed : Ending → Type 0
-IsDoneOrSinkFailed Done = ⊤
-IsDoneOrSinkFailed SinkFailed = ⊤
-IsDoneOrSinkFailed _ = ⊥
+abbrev pub SaysNone : Result (Option Told) Fault → SinkSeen → SinkSeen → Type 0
+SaysNone (Ok None) old new = (new.taken ≡ old.taken) × (new.faults ≡ old.faults)
+SaysNone _ old new = ⊤
 
 -- what printing leaves of the output
-abbrev pub PrintLeaves : Ending → Option (List ℕ) → Option (List ℕ) → Option ℕ → List ℕ → Type 0
-PrintLeaves Done old new flushed bytes = Appends old new bytes × IsFlushed new flushed
-PrintLeaves _ old new flushed bytes = GrowsByFront old new bytes
+abbrev pub PrintLeaves : Result (Option Told) Fault → SinkSeen → SinkSeen → List ℕ → Type 0
+PrintLeaves (Ok None) old new bytes = Appends old.taken new.taken bytes × IsFlushed new.taken new.flushed × (new.faults ≡ old.faults)
+PrintLeaves (Ok (Some told)) old new bytes = ⊥
+PrintLeaves (Err fault_is.Sink) old new bytes =
+    GrowsByFront old.taken new.taken bytes × (new.flushed ≡ old.flushed) × ((old.faults ≤ new.faults) × Rose old.faults new.faults)
+PrintLeaves (Err fault) old new bytes = ⊥

@@ -4,10 +4,10 @@ use Rattle.std.specs.Global.{Vec}
 use Rattle.replica.specs.declared.fault.VersionFault.{VersionFault}
 use Rattle.replica.specs.declared.fault.VersionFault.TheVariants.{Unknown, OutOfMemory}
 use Rattle.command_table.specs.Table.{Reply, prints, refuses}
-use Rattle.command_table.specs.Text.{unknown}
+use Rattle.command_table.specs.Refusals.{unknown}
 
 -- the reply prints what was listed, or is refused for the id that isn't held
 abbrev pub Shows : Reply → Result (Vec ℕ) VersionFault → Type 0
 Shows reply (Ok text) = reply ≡ prints text.items
-Shows reply (Err (Unknown id)) = reply ≡ refuses 5 (unknown id)
+Shows reply (Err (Unknown id)) = reply ≡ refuses (unknown id)
 Shows reply (Err OutOfMemory) = ⊤

@@ -8,23 +8,23 @@ ghost use Rattle.command_table.specs.Table.{create_reply, listing_text, open_fil
 ghost use Rattle.ew_model.specs.Ancestors.{version_events};
 ghost use Rattle.ew_model.specs.Touches.{touches};
 ghost use Rattle.opened_files.specs.Touches.{TouchesAtMost, file_touches, listing_touches, touches_over};
-ghost use Rattle.opened_files.specs.Views.{IsCommandPlan, LostBy, MissesBy, ShelfCauses, plan_view, status_of};
+ghost use Rattle.opened_files.specs.Views.{IsTakenReply, LostBy, MissesBy, ShelfCauses, reply_view, reply_status};
 ghost use Rattle.ew_outside.specs.Counts.{next};
 ghost use Rattle.command_words.specs.Words.{listing_view};
 ghost use Rattle.command_runs.specs.Listings.{Shows};
 
-use command_texts::texts::{file_there_text, unknown_text};
+use command_texts::refusal::Refusal;
 use command_words::words::Listing;
 use event_file::encode;
 use ew_model::NoMem;
 use ew_model::id::Id;
 use ew_model::limits::Limits;
 use ew_model::steps::Steps;
-use ew_outside::Shelf;
+use ew_outside::{Fault, Shelf};
 use history_view::{check_text, heads_text, log_text, replay_text};
 use opened_files::load::{Loaded, load_whole};
 use opened_files::open::{Found, open};
-use opened_files::reply::{Plan, Stop};
+use opened_files::reply::Reply;
 use peer_exchange::ask;
 use peer_frames::encode as encode_frame;
 use replica::{Replica, VersionFault};
@@ -72,36 +72,33 @@ fn list<L: Ledger>(
     }
 }
 
-/// The plan that prints what was listed, or tells the id that isn't held.
-fn plan_of<'a>(alloc: Global, listed: Result<Vec<u8>, VersionFault>) -> Result<Plan<'a>, NoMem>
-    ensures told { (reply : table.Reply) → Shows reply listed → IfOk result (λ p. plan_view p ≡ reply) }
-    ensures found { IfOk result (λ p. status_of p ≢ 3) }
-    ensures plan { IfOk result IsCommandPlan }
+/// The reply that prints what was listed, or tells the id that isn't held.
+fn reply_of<'a>(listed: Result<Vec<u8>, VersionFault>) -> Result<Reply<'a>, NoMem>
+    ensures told { (reply : table.Reply) → Shows reply listed → IfOk result (λ p. reply_view p ≡ reply) }
+    ensures found { IfOk result (λ p. reply_status p ≢ 3) }
+    ensures plan { IfOk result IsTakenReply }
 {
     match listed {
-        Ok(text) => Ok(Plan::Prints(text)),
-        Err(VersionFault::Unknown(id)) => Ok(Plan::Refuses {
-            status: 5,
-            text: unknown_text(alloc, &id)?,
-        }),
+        Ok(text) => Ok(Reply::Prints(text)),
+        Err(VersionFault::Unknown(id)) => Ok(Reply::Refuses(Refusal::Unknown(id))),
         Err(VersionFault::OutOfMemory) => Err(NoMem),
     }
 }
 
-/// The plan that prints what is shown of a replica.
+/// The reply that prints what is shown of a replica.
 fn shown<'a, L: Ledger>(
     alloc: Global,
     listing: Listing,
     replica: Replica,
     steps: &mut Steps<L>,
-) -> Result<Plan<'a>, NoMem>
-    ensures told { IfOk result (λ p. plan_view p ≡ show_reply (listing_view listing) replica.held) }
-    ensures found { IfOk result (λ p. status_of p ≢ 3) }
-    ensures plan { IfOk result IsCommandPlan }
+) -> Result<Reply<'a>, NoMem>
+    ensures told { IfOk result (λ p. reply_view p ≡ show_reply (listing_view listing) replica.held) }
+    ensures found { IfOk result (λ p. reply_status p ≢ 3) }
+    ensures plan { IfOk result IsTakenReply }
     ensures most { steps.new ≤ steps.old + listing_touches (listing_view listing) replica.held }
 {
     let listed = list(alloc, &listing, &replica, steps);
-    plan_of(alloc, listed)
+    reply_of(listed)
 }
 
 /// Shows a file: its text now or at a version, its heads, its events, its replay, its numbers, or what it asks a
@@ -113,46 +110,43 @@ pub fn show<'a, H: Shelf, L: Ledger>(
     limits: &Limits,
     shelf: &mut H,
     steps: &mut Steps<L>,
-) -> Result<Plan<'a>, Stop>
-    ensures told { IfSome (H.files shelf.old) (λ m. IfOk result (λ p. plan_view p ≡ over_events (show_reply (listing_view listing)) (open_file name.now limits.now m))) }
-    ensures some { IfOk result (λ p. MayReplyTo (table.show (listing_view listing) name.now) limits.now (plan_view p)) }
-    ensures plan { IfOk result IsCommandPlan }
-    ensures same { H.files shelf.new ≡ H.files shelf.old }
-    ensures cause { ShelfCauses (H.faults shelf.old) (H.faults shelf.new) result }
-    ensures misses { MissesBy (H.misses shelf.old) (H.misses shelf.new) result }
-    ensures loads { H.loads shelf.new ≡ next (H.loads shelf.old) }
-    ensures lost { LostBy (H.lost shelf.old) (H.lost shelf.new) result }
-    ensures most { TouchesAtMost (λ m. file_touches name.now limits.now m + touches_over (listing_touches (listing_view listing)) (open_file name.now limits.now m)) (H.files shelf.old) steps.old steps.new }
+) -> Result<Reply<'a>, Fault>
+    ensures told { IfSome (H.seen shelf.old).files (λ m. IfOk result (λ p. reply_view p ≡ over_events (show_reply (listing_view listing)) (open_file name.now limits.now m))) }
+    ensures some { IfOk result (λ p. MayReplyTo (table.show (listing_view listing) name.now) limits.now (reply_view p)) }
+    ensures plan { IfOk result IsTakenReply }
+    ensures same { (H.seen shelf.new).files ≡ (H.seen shelf.old).files }
+    ensures cause { ShelfCauses (H.seen shelf.old).faults (H.seen shelf.new).faults result }
+    ensures misses { MissesBy (H.seen shelf.old).misses (H.seen shelf.new).misses result }
+    ensures loads { (H.seen shelf.new).loads ≡ next (H.seen shelf.old).loads }
+    ensures lost { LostBy (H.seen shelf.old).lost (H.seen shelf.new).lost result }
+    ensures most { TouchesAtMost (λ m. file_touches name.now limits.now m + touches_over (listing_touches (listing_view listing)) (open_file name.now limits.now m)) (H.seen shelf.old).files steps.old steps.new }
 {
     match open(alloc, name, limits, shelf, steps)? {
-        Found::Refused { status, text } => Ok(Plan::Refuses { status, text }),
+        Found::Refused(why) => Ok(Reply::Refuses(why)),
         Found::Open(replica) => {
-            let plan = shown(alloc, listing, replica, steps)?;
-            Ok(plan)
+            let reply = shown(alloc, listing, replica, steps)?;
+            Ok(reply)
         }
     }
 }
 
 /// Makes a file that isn't there: the file of no events.
-pub fn create<'a, H: Shelf>(alloc: Global, name: &'a str, shelf: &mut H) -> Result<Plan<'a>, Stop>
-    ensures told { IfSome (H.files shelf.old) (λ m. IfOk result (λ p. plan_view p ≡ create_reply name.now (whole_of 0 (get m name.now)))) }
-    ensures some { IfOk result (λ p. (file : File) × (plan_view p ≡ create_reply name.now file) × KeepsTo 0 file) }
-    ensures plan { IfOk result IsCommandPlan }
-    ensures same { H.files shelf.new ≡ H.files shelf.old }
-    ensures cause { ShelfCauses (H.faults shelf.old) (H.faults shelf.new) result }
-    ensures misses { H.misses shelf.old ≤ H.misses shelf.new }
-    ensures loads { H.loads shelf.new ≡ next (H.loads shelf.old) }
-    ensures lost { LostBy (H.lost shelf.old) (H.lost shelf.new) result }
+pub fn create<'a, H: Shelf>(alloc: Global, name: &'a str, shelf: &mut H) -> Result<Reply<'a>, Fault>
+    ensures told { IfSome (H.seen shelf.old).files (λ m. IfOk result (λ p. reply_view p ≡ create_reply name.now (whole_of 0 (get m name.now)))) }
+    ensures some { IfOk result (λ p. (file : File) × (reply_view p ≡ create_reply name.now file) × KeepsTo 0 file) }
+    ensures plan { IfOk result IsTakenReply }
+    ensures same { (H.seen shelf.new).files ≡ (H.seen shelf.old).files }
+    ensures cause { ShelfCauses (H.seen shelf.old).faults (H.seen shelf.new).faults result }
+    ensures misses { (H.seen shelf.old).misses ≤ (H.seen shelf.new).misses }
+    ensures loads { (H.seen shelf.new).loads ≡ next (H.seen shelf.old).loads }
+    ensures lost { LostBy (H.seen shelf.old).lost (H.seen shelf.new).lost result }
 {
     match load_whole(shelf, name, 0)? {
-        Loaded::Missing => Ok(Plan::Stores {
+        Loaded::Missing => Ok(Reply::Stores {
             out: Vec::new(alloc),
             name,
             bytes: encode(alloc, &[])?,
         }),
-        _ => Ok(Plan::Refuses {
-            status: 3,
-            text: file_there_text(alloc, name)?,
-        }),
+        _ => Ok(Reply::Refuses(Refusal::FileThere(name))),
     }
 }

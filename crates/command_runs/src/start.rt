@@ -1,15 +1,16 @@
 //! A run whose steps nobody counts, and what a process ends with.
 ghost use Rattle.std.specs.Prelude.{◌≡◌, ◌<◌, map, string_bytes};
 ghost use Rattle.std.specs.Process.{exit_status};
-ghost use Rattle.command_table.specs.Headline.{IsRun, seen};
-ghost use Rattle.command_table.specs.Outputs.{Tells};
+ghost use Rattle.command_table.specs.Headline.{IsRun};
+ghost use Rattle.command_table.specs.Seen.{seen};
+ghost use Rattle.ew_outside.specs.Outputs.{Tells};
 ghost use Rattle.command_table.specs.Text.{out_of_memory};
 
-use crate::ending::{Ending, tell};
+use crate::ending::tell;
 use crate::top::run;
 use ew_model::limits::Limits;
 use ew_model::steps::Steps;
-use ew_outside::{Shelf, Sink, Source};
+use ew_outside::{Fault, Shelf, Sink, Source};
 use std::alloc::Global;
 use std::process::ExitCode;
 use std::sync::ledger::{Blank, Ledger};
@@ -28,12 +29,7 @@ pub fn run_uncounted<L: Ledger, H: Shelf, S: Source, K: Sink, E: Sink>(
     requires name { blank.name ≡ L.name }
     requires parts { blank.parts ≡ L.parts }
     requires some { 0 < blank.parts }
-    ensures run { IsRun (map string_bytes words.now) limits.now
-        (seen (H.files shelf.old) (H.faults shelf.old) (H.misses shelf.old) (H.loads shelf.old) (H.lost shelf.old) (S.left input.old) (S.faults input.old)
-        (K.taken out.old) (K.flushed out.old) (K.faults out.old) (E.taken err.old) (E.faults err.old))
-        (seen (H.files shelf.new) (H.faults shelf.new) (H.misses shelf.new) (H.loads shelf.new) (H.lost shelf.new) (S.left input.new) (S.faults input.new)
-        (K.taken out.new) (K.flushed out.new) (K.faults out.new) (E.taken err.new) (E.faults err.new))
-        result }
+    ensures run { IsRun (map string_bytes words.now) limits.now (seen (H.seen shelf.old) (S.seen input.old) (K.seen out.old) (E.seen err.old)) (seen (H.seen shelf.new) (S.seen input.new) (K.seen out.new) (E.seen err.new)) result }
 {
     let mut steps = Steps::<L>::new(blank);
     run(alloc, words, limits, shelf, input, out, err, &mut steps)
@@ -53,12 +49,7 @@ pub fn run_process<L: Ledger, H: Shelf, S: Source, K: Sink, E: Sink>(
     requires name { blank.name ≡ L.name }
     requires parts { blank.parts ≡ L.parts }
     requires some { 0 < blank.parts }
-    ensures { IsRun (map string_bytes words.now) limits.now
-        (seen (H.files shelf.old) (H.faults shelf.old) (H.misses shelf.old) (H.loads shelf.old) (H.lost shelf.old) (S.left input.old) (S.faults input.old)
-        (K.taken out.old) (K.flushed out.old) (K.faults out.old) (E.taken err.old) (E.faults err.old))
-        (seen (H.files shelf.new) (H.faults shelf.new) (H.misses shelf.new) (H.loads shelf.new) (H.lost shelf.new) (S.left input.new) (S.faults input.new)
-        (K.taken out.new) (K.flushed out.new) (K.faults out.new) (E.taken err.new) (E.faults err.new))
-        (exit_status result) }
+    ensures { IsRun (map string_bytes words.now) limits.now (seen (H.seen shelf.old) (S.seen input.old) (K.seen out.old) (E.seen err.old)) (seen (H.seen shelf.new) (S.seen input.new) (K.seen out.new) (E.seen err.new)) (exit_status result) }
 {
     ExitCode::from(run_uncounted::<L, H, S, K, E>(
         alloc, blank, words, limits, shelf, input, out, err,
@@ -68,7 +59,7 @@ pub fn run_process<L: Ledger, H: Shelf, S: Source, K: Sink, E: Sink>(
 /// The end of a process that had no memory for its words.
 pub fn end_starved<E: Sink>(err: &mut E) -> ExitCode
     ensures status { exit_status result ≡ 8 }
-    ensures text { Tells (E.taken err.old) (E.taken err.new) (E.faults err.old) (E.faults err.new) out_of_memory }
+    ensures text { Tells (E.seen err.old).taken (E.seen err.new).taken (E.seen err.old).faults (E.seen err.new).faults out_of_memory }
 {
-    ExitCode::from(tell(Ending::OutOfMemory, err))
+    ExitCode::from(tell(Err(Fault::OutOfMemory), err))
 }

@@ -31,7 +31,7 @@ use Rattle.command_table.specs.Loads.{too_long, whole, whole_of}
 use Rattle.command_table.specs.MergeLaws.{HoldsBytes}
 use Rattle.peer_exchange.specs.Answering.{is_clash}
 use Rattle.command_table.specs.Table.{Text, Reply, prints, stores, refuses, Opened, opened, Answer, answer_of, judged, read_as, opened_as, open_file, over_events, over_both, is_graph_full, unless_clash, received_reply, outcome_text, merge_reply}
-use Rattle.command_table.specs.Text.{too_many_events}
+use Rattle.command_table.specs.Refusals.{too_many_events, refusal_status}
 use Rattle.ew_model.proofs.MergeByAnswers.{merge_unless_clash}
 use Rattle.command_table.proofs.Merges.{none_ends, appended_none}
 use Rattle.command_table.proofs.FileSizes.{file_length}
@@ -51,12 +51,12 @@ pub record Opens (limits : LimitNumbers) (files : Files) (name : Text) (events :
 abbrev pub status_in : Reply → ℕ
 status_in (prints _) = 0
 status_in (stores _ _ _) = 0
-status_in (refuses status _) = status
+status_in (refuses why) = refusal_status why
 
 pub answer_status : (r : Reply) (files : Files) → (answer_of r files).status ≡ status_in r
 answer_status (prints _) files = refl
 answer_status (stores _ _ _) files = refl
-answer_status (refuses status _) files = refl
+answer_status (refuses why) files = refl
 
 judged_opens : (reply : List Event → Reply) (name : Text) (events : List Event) (o : Option BadEvent) → status_in (over_events reply (judged name events o)) ≡ 0 → (o ≡ None) × (status_in (reply events) ≡ 0)
 judged_opens reply name events None h = (refl, h)
@@ -106,9 +106,9 @@ clash_none : (o : Option (Id × Refusal)) (reply : Reply) → status_in (unless_
 clash_none None reply h = (refl, h)
 clash_none (Some p) reply h = absurd (omega (arith, h))
 
-full_none : (b : Bool) (text : List ℕ) (reply : Reply) → status_in (if b then refuses 7 text else reply) ≡ 0 → b ≡ false
-full_none true text reply h = absurd (omega (arith, h))
-full_none false text reply h = refl
+full_none : (b : Bool) (most : ℕ) (reply : Reply) → status_in (if b then refuses (too_many_events most) else reply) ≡ 0 → b ≡ false
+full_none true most reply h = absurd (omega (arith, h))
+full_none false most reply h = refl
 
 -- what is printed and stored of a merge
 stored_or_not : (b : Bool) (text name bytes : List ℕ) (files : Files) → (answer_of (if b then stores text name bytes else prints text) files).out ≡ text
@@ -146,16 +146,16 @@ is_done limits files name other t is zero =
     let refusals = refused_in o.answers in
     let kept = received_reply name o.desk.held (accepted_in o.answers) (outcome_text (length one.0) o) in
     let full = list_any (λ (p : Id × Refusal). is_graph_full p.1) refusals in
-    let open_room : Reply = if full then refuses 7 (too_many_events limits.events) else kept in
+    let open_room : Reply = if full then refuses (too_many_events limits.events) else kept in
     let clear = clash_none (find (λ (p : Id × Refusal). is_clash p.1) refusals) open_room two.2 in
-    let room = full_none full (too_many_events limits.events) kept clear.1 in
+    let room = full_none full limits.events kept clear.1 in
     let none = none_ends o.answers clear.0 room in
     let whole = merge_unless_clash limits one.0 two.0 (good_from_none_bad one.0 one.1.good) (good_from_none_bad two.0 two.1.good) none in
     let same : reply ≡ kept =
     ap (over_both (merge_reply name limits) (open_file name limits files)) (opened_is other limits files two.0 two.1)
     ∙ ap (λ (x : Opened). over_both (merge_reply name limits) x (opened two.0)) (opened_is name limits files one.0 one.1)
     ∙ ap (λ (f : Option (Id × Refusal)). unless_clash f open_room) clear.0
-    ∙ ap (λ (b : Bool). if b then refuses 7 (too_many_events limits.events) else kept) room in
+    ∙ ap (λ (b : Bool). if b then refuses (too_many_events limits.events) else kept) room in
     let t_is : t ≡ answer_of kept files = is ∙ ap (λ (r : Reply). answer_of r files) same in
     let more = nat_lt 0 (accepted_in o.answers) in
     let text = outcome_text (length one.0) o in

@@ -65,3 +65,7 @@ unfoldable pub egw_app : App
 egw_app =
     then_app (then_app (then_app (then_app (then_app (then_app (then_app (then_app (then_app (then_app (then_app (then_app bare_app
     (file_app (codes "new"))) edit_app) cat_app) (file_app (codes "heads"))) (file_app (codes "log"))) (file_app (codes "replay"))) (file_app (codes "check"))) merge_app) (file_app (codes "ask"))) (file_app (codes "serve"))) net_app) make_app
+
+-- the usage: a line for each command
+abbrev pub usage : List ℕ
+usage = codes "usage: egw new FILE\n       egw edit FILE --agent NAME\n       egw cat FILE [--at VERSION]\n       egw heads FILE\n       egw log FILE\n       egw replay FILE\n       egw check FILE\n       egw merge FILE OTHER\n       egw ask FILE\n       egw serve FILE\n       egw net\n       egw make --seed N --count N\n"

@@ -5,11 +5,13 @@ pub mod Headline
 pub mod Lines
 pub mod Loads
 pub mod MergeLaws
-pub mod Outputs
+pub mod Outcomes
 pub mod PastLaws
 pub mod Possible
 pub mod Reads
+pub mod Refusals
 pub mod Scripts
+pub mod Seen
 pub mod Sequences
 pub mod Sessions
 pub mod Table

@@ -11,7 +11,7 @@ use Rattle.command_table.specs.Table.{Text, content, Command, ReadingOf, merge, 
 use Rattle.command_table.specs.Text.{received_text}
 
 -- what a command answers over files and an input
-abbrev pub command_answer : (command : Command) → LimitNumbers → Files → List ℕ → ReadingOf (Some command) → Answer
+abbrev pub command_answer : (command : Command) → LimitNumbers → Files → List ℕ → ReadingOf command → Answer
 command_answer command limits files input reading = answer_of (reply_to command limits files input reading) files
 
 -- Where a merge is done, each event of the other file was appended or was there before; none waits, and none is refused.

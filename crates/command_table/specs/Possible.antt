@@ -1,14 +1,14 @@
--- What a line may answer, over some bytes of each file and some input.
+-- What a line may come to, over some bytes of each file and some input.
 use Rattle.std.specs.Prelude.{◌≡◌, ◌≤◌, ◌⊎◌, ⊤, ℕ, List, length, Option, None, Some}
 use Rattle.ew_model.specs.FileLaws.{AreBytes}
 use Rattle.ew_model.specs.Limits.{LimitNumbers, most_file_bytes}
 use Rattle.peer_words.specs.Making.{made}
 use Rattle.command_table.specs.Loads.{File, whole}
 use Rattle.command_table.specs.Scripts.{Reading, Means, NetReading, MeansNet}
-use Rattle.command_table.specs.Text.{usage, input_too_long}
+use Rattle.command_table.specs.Refusals.{not_taken, input_too_long}
 use Rattle.command_table.specs.Framings.{Framing, IsFramingOf}
-use Rattle.command_table.specs.Sessions.{Session, served_as}
-use Rattle.command_table.specs.Table.{Text, Command, create, edit, show, merge, make, net, Reply, refuses, Opened, opened, refused, opened_as, create_reply, show_reply, merge_reply, make_reply, over_events, over_both, script_reply, net_script_reply}
+use Rattle.command_table.specs.Sessions.{Session, closed_by, served_as}
+use Rattle.command_table.specs.Table.{Text, Line, does, serves, Command, create, edit, show, merge, make, net, Reply, refuses, Opened, opened, refused, opened_as, create_reply, show_reply, merge_reply, make_reply, over_events, over_both, script_reply, net_script_reply}
 
 -- a file that was loaded whole is of bytes, at most so many; one that is missing or too long is any
 abbrev pub KeepsTo : ℕ → File → Type 0
@@ -21,15 +21,15 @@ MayOpen name limits o = (file : File) × (o ≡ opened_as name limits file) × K
 
 -- an edit is refused as its file is, or for an input that is too long, or answers by the meaning of some bytes of an input
 abbrev pub MayEdit : Text → Text → LimitNumbers → Opened → Reply → Type 0
-MayEdit name agent limits (refused status text) reply = reply ≡ refuses status text
+MayEdit name agent limits (refused why) reply = reply ≡ refuses why
 MayEdit name agent limits (opened events) reply =
-    (reply ≡ refuses 7 (input_too_long limits.input))
+    (reply ≡ refuses (input_too_long limits.input))
     ⊎ ((input : List ℕ) × (reading : Reading) × (length input ≤ limits.input) × Means input reading × (reply ≡ script_reply name agent limits events reading) × AreBytes input)
 
 -- a net is refused for an input that is too long, or answers by the meaning of some bytes of an input
 abbrev pub MayNet : LimitNumbers → Reply → Type 0
 MayNet limits reply =
-    (reply ≡ refuses 7 (input_too_long limits.input))
+    (reply ≡ refuses (input_too_long limits.input))
     ⊎ ((input : List ℕ) × (reading : NetReading) × (length input ≤ limits.input) × MeansNet input reading × (reply ≡ net_script_reply limits reading) × AreBytes input)
 
 -- the replies of a command, over some files within the bounds of their loads, and some input
@@ -43,13 +43,14 @@ MayReplyTo (merge name other) limits reply =
 MayReplyTo (make seed count) limits reply = reply ≡ make_reply limits (made limits seed count)
 MayReplyTo net limits reply = MayNet limits reply
 
--- the replies of a line
-abbrev pub MayReply : Option Command → LimitNumbers → Reply → Type 0
-MayReply None limits reply = reply ≡ refuses 2 usage
-MayReply (Some command) limits reply = MayReplyTo command limits reply
-
 -- what a session may come to, over some bytes of its file, some input, and its frames
 abbrev pub MayServe : Text → LimitNumbers → Session → Type 0
 MayServe name limits s =
     (file : File) × (input : List ℕ) × (f : Framing) × AreBytes input × IsFramingOf limits input f × (s ≡ served_as name limits input f (opened_as name limits file))
     × KeepsTo (most_file_bytes limits.events) file
+
+-- what a line may come to
+abbrev pub MayComeTo : Option Line → LimitNumbers → Session → Type 0
+MayComeTo None limits s = s ≡ closed_by (refuses not_taken)
+MayComeTo (Some (does command)) limits s = (reply : Reply) × MayReplyTo command limits reply × (s ≡ closed_by reply)
+MayComeTo (Some (serves file)) limits s = MayServe file limits s

@@ -1,45 +1,66 @@
--- What a line reads: how many loads it makes, and how much of the input it takes.
-use Rattle.std.specs.Prelude.{◌≡◌, ◌≤◌, ⊤, ℕ, List, [], ◌∷◌, take, drop, Option, None, Some}
+-- What a line reads: its files in the order of their loads, and how much of the input.
+use Rattle.std.specs.Prelude.{◌≡◌, ◌≤◌, ⊤, ℕ, Bool, true, false, List, [], ◌∷◌, take, drop, Option, None, Some}
 use Rattle.ew_model.specs.Limits.{LimitNumbers}
 use Rattle.ew_outside.specs.Files.{Files}
 use Rattle.ew_outside.specs.Counts.{next}
-use Rattle.command_table.specs.Table.{Text, Command, create, edit, show, merge, make, net, Opened, opened, refused, open_file}
+use Rattle.command_table.specs.Table.{Text, Line, does, serves, create, edit, show, merge, make, net, Opened, opened, refused, open_file}
 
--- the files that a line names, in the order of their loads
-abbrev pub files_of : Option Command → List Text
-files_of (Some (create name)) = name ∷ []
-files_of (Some (edit name agent)) = name ∷ []
-files_of (Some (show listing name)) = name ∷ []
-files_of (Some (merge name other)) = name ∷ other ∷ []
-files_of (Some (make seed count)) = []
-files_of (Some net) = []
-files_of None = []
+-- what a line reads
+pub record Shape : Type 0 where
+  -- the files that it names, in the order of their loads
+  pub files : List Text
+  -- status 3 says that one of these files is missing, and not that it is there
+  pub needs : Bool
+  -- the input is read
+  pub input : Bool
 
--- the other file of a merge comes behind one that is open
-abbrev pub loads_behind : Text → Text → Opened → List Text
-loads_behind name other (opened events) = name ∷ other ∷ []
-loads_behind name other (refused status text) = name ∷ []
+-- the shape of a line, which may not be taken
+abbrev pub shape_of : Option Line → Shape
+shape_of (Some (does (create file))) = record { files = file ∷ []; needs = false; input = false }
+shape_of (Some (does (edit file agent))) = record { files = file ∷ []; needs = true; input = true }
+shape_of (Some (does (show listing file))) = record { files = file ∷ []; needs = true; input = false }
+shape_of (Some (does (merge file other))) = record { files = file ∷ other ∷ []; needs = true; input = false }
+shape_of (Some (does (make seed count))) = record { files = []; needs = false; input = false }
+shape_of (Some (does net)) = record { files = []; needs = false; input = true }
+shape_of (Some (serves file)) = record { files = file ∷ []; needs = true; input = true }
+shape_of None = record { files = []; needs = false; input = false }
 
--- the files that a line loads: none behind one that is refused
-abbrev pub loads_of : Option Command → LimitNumbers → Files → List Text
-loads_of (Some (create name)) limits files = name ∷ []
-loads_of (Some (edit name agent)) limits files = name ∷ []
-loads_of (Some (show listing name)) limits files = name ∷ []
-loads_of (Some (merge name other)) limits files = loads_behind name other (open_file name limits files)
-loads_of (Some (make seed count)) limits files = []
-loads_of (Some net) limits files = []
-loads_of None limits files = []
+abbrev pub reads_input : Option Line → Bool
+reads_input l = (shape_of l).input
 
--- the count of loads after one of each of these files
-abbrev pub after_loads : List Text → ℕ → ℕ
-after_loads [] count = count
-after_loads (name ∷ names) count = after_loads names (next count)
+abbrev pub needs_file : Option Line → Bool
+needs_file l = (shape_of l).needs
+
+-- a count where a file is open, and another where it is refused
+abbrev pub if_open : Opened → ℕ → ℕ → ℕ
+if_open (opened events) more count = more
+if_open (refused why) more count = count
+
+-- the count after loads of these files up to the first that is refused
+abbrev pub loads_up_to_refused : List Text → LimitNumbers → Files → ℕ → ℕ
+loads_up_to_refused [] limits files count = count
+loads_up_to_refused (name ∷ []) limits files count = next count
+loads_up_to_refused (name ∷ other ∷ names) limits files count =
+    if_open (open_file name limits files) (loads_up_to_refused (other ∷ names) limits files (next count)) (next count)
+
+-- The count of loads is as after one load of each of these files up to the first that is refused. Nothing is said of two files where the
+-- shelf isn't known.
+abbrev pub CountsLoads : List Text → LimitNumbers → Option Files → ℕ → ℕ → Type 0
+CountsLoads [] limits files before now = now ≡ before
+CountsLoads (name ∷ []) limits files before now = now ≡ next before
+CountsLoads (name ∷ other ∷ names) limits (Some files) before now = now ≡ loads_up_to_refused (name ∷ other ∷ names) limits files before
+CountsLoads (name ∷ other ∷ names) limits None before now = ⊤
+
+-- the count after one load of each
+abbrev pub loads_of_all : List Text → ℕ → ℕ
+loads_of_all [] count = count
+loads_of_all (name ∷ names) count = loads_of_all names (next count)
 
 -- as many loads as a front of these files has were made
 abbrev pub LoadsFront : List Text → ℕ → ℕ → Type 0
-LoadsFront names before now = (n : ℕ) × (now ≡ after_loads (take n names) before)
+LoadsFront names before now = (n : ℕ) × (now ≡ loads_of_all (take n names) before)
 
--- no more bytes than these were taken from the front of an input that is told
+-- no more bytes than these were taken from the front of an input that is known
 abbrev pub TakesAtMost : ℕ → Option (List ℕ) → Option (List ℕ) → Type 0
 TakesAtMost most (Some input) new = (n : ℕ) × (n ≤ most) × (new ≡ Some (drop n input))
 TakesAtMost most None new = ⊤
@@ -51,14 +72,13 @@ LeavesInput old new before now = (new ≡ old) × (now ≡ before)
 -- it holds where a file is refused
 abbrev pub IfRefused : Opened → Type 0 → Type 0
 IfRefused (opened events) holds = ⊤
-IfRefused (refused status text) holds = holds
+IfRefused (refused why) holds = holds
 
--- it holds where the file of an edit is refused
-abbrev pub IfEditRefused : Option Command → LimitNumbers → Files → Type 0 → Type 0
-IfEditRefused (Some (create name)) limits files holds = ⊤
-IfEditRefused (Some (edit name agent)) limits files holds = IfRefused (open_file name limits files) holds
-IfEditRefused (Some (show listing name)) limits files holds = ⊤
-IfEditRefused (Some (merge name other)) limits files holds = ⊤
-IfEditRefused (Some (make seed count)) limits files holds = ⊤
-IfEditRefused (Some net) limits files holds = ⊤
-IfEditRefused None limits files holds = ⊤
+-- it holds where the first of these files is refused
+abbrev pub IfFirstRefused : List Text → LimitNumbers → Files → Type 0 → Type 0
+IfFirstRefused [] limits files holds = ⊤
+IfFirstRefused (name ∷ names) limits files holds = IfRefused (open_file name limits files) holds
+
+-- it holds of a line that needs its files, where the first is refused
+abbrev pub IfFileRefused : Shape → LimitNumbers → Files → Type 0 → Type 0
+IfFileRefused shape limits files holds = shape.needs ≡ true → IfFirstRefused shape.files limits files holds

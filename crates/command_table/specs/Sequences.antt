@@ -4,7 +4,9 @@ use Rattle.ew_model.specs.Limits.{LimitNumbers}
 use Rattle.ew_outside.specs.Files.{Files}
 use Rattle.command_table.specs.Table.{Text, Answer, line_of}
 use Rattle.command_table.specs.Lines.{Meaning, IsMeant, table}
-use Rattle.command_table.specs.Headline.{Seen, IsRun, IsAnswered}
+use Rattle.command_table.specs.Headline.{IsRun}
+use Rattle.command_table.specs.Outcomes.{IsAnswered}
+use Rattle.command_table.specs.Seen.{Seen}
 
 -- a run: its words, what its objects told before and after, and its status
 pub record Ran : Type 0 where
@@ -16,7 +18,7 @@ pub record Ran : Type 0 where
 -- each run begins with the map that the one before left; the streams are its own
 abbrev pub FollowOn : LimitNumbers → Option Files → List Ran → Type 0
 FollowOn limits files [] = ⊤
-FollowOn limits files (r ∷ rs) = (r.old.files ≡ files) × IsRun r.words limits r.old r.new r.status × FollowOn limits r.new.files rs
+FollowOn limits files (r ∷ rs) = (r.old.shelf.files ≡ files) × IsRun r.words limits r.old r.new r.status × FollowOn limits r.new.shelf.files rs
 
 -- a command line: its words, its input, and what the input means to it
 pub record CommandLine (limits : LimitNumbers) : Type 0 where
@@ -28,7 +30,7 @@ pub record CommandLine (limits : LimitNumbers) : Type 0 where
 -- the runs are of these command lines
 abbrev pub AreOf : {limits : LimitNumbers} → List (CommandLine limits) → List Ran → Type 0
 AreOf [] [] = ⊤
-AreOf (l ∷ ls) (r ∷ rs) = (r.words ≡ l.words) × (r.old.left ≡ Some l.input) × AreOf ls rs
+AreOf (l ∷ ls) (r ∷ rs) = (r.words ≡ l.words) × (r.old.input.left ≡ Some l.input) × AreOf ls rs
 AreOf _ _ = ⊥
 
 -- what the table answers to a line
@@ -43,7 +45,7 @@ NoneFails (r ∷ rs) = (r.status ≡ 6 → ⊥) × (r.status ≡ 8 → ⊥) × N
 -- the map after the runs
 abbrev pub files_at_end : Option Files → List Ran → Option Files
 files_at_end files [] = files
-files_at_end files (r ∷ rs) = files_at_end r.new.files rs
+files_at_end files (r ∷ rs) = files_at_end r.new.shelf.files rs
 
 -- the fold of the table
 abbrev pub table_files : (limits : LimitNumbers) → Files → List (CommandLine limits) → Files

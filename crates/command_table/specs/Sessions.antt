@@ -15,8 +15,8 @@ use Rattle.peer_exchange.specs.Answering.{Answered, answer_to}
 use Rattle.peer_exchange.specs.declared.reply.End.{End}
 use Rattle.peer_exchange.specs.declared.reply.End.TheVariants as end
 use Rattle.command_table.specs.Framings.{Framing}
-use Rattle.command_table.specs.Outputs.{Sends}
-use Rattle.command_table.specs.Text.{clash, input_too_long, frame_cut, bad_kind, frame_too_long, bad_body}
+use Rattle.ew_outside.specs.Outputs.{Sends}
+use Rattle.command_table.specs.Refusals.{clash, input_too_long, frame_cut, bad_kind, frame_too_long, bad_body}
 use Rattle.command_table.specs.Table.{Text, Reply, prints, stores, refuses, Opened, opened, refused, open_file, Answer, answer_of}
 
 -- the spellings of frames, one behind the other
@@ -46,6 +46,10 @@ pub record Session : Type 0 where
   pub sent : List ℕ
   pub closing : Reply
 
+-- nothing is sent before the end
+abbrev pub closed_by : Reply → Session
+closed_by reply = record { sent = []; closing = reply }
+
 -- a history with more events than were held before is stored, and then these bytes are printed; else they are printed alone
 abbrev pub closed_reply : Text → ℕ → List ℕ → List Event → Reply
 closed_reply name held_before out events = if nat_lt held_before (length events) then stores out name (file_of events) else prints out
@@ -53,15 +57,15 @@ closed_reply name held_before out events = if nat_lt held_before (length events)
 -- no bytes are left, or the next frame is cut
 abbrev pub refusal_at_end : List ℕ → ℕ → Option Reply
 refusal_at_end [] number = None
-refusal_at_end (b ∷ bytes) number = Some (refuses 5 (frame_cut number))
+refusal_at_end (b ∷ bytes) number = Some (refuses (frame_cut number))
 
 -- Why the frame of this number isn't answered: these bytes are no frame, or the input is too long, or it ends within the frame.
 abbrev pub stop_refusal : LimitNumbers → List ℕ → ℕ → List ℕ → Front → Option Reply
-stop_refusal limits input number rest (BadKind kind) = Some (refuses 5 (bad_kind number kind))
-stop_refusal limits input number rest (TooLong len) = Some (refuses 5 (frame_too_long number len))
-stop_refusal limits input number rest BadBody = Some (refuses 5 (bad_body number))
+stop_refusal limits input number rest (BadKind kind) = Some (refuses (bad_kind number kind))
+stop_refusal limits input number rest (TooLong len) = Some (refuses (frame_too_long number len))
+stop_refusal limits input number rest BadBody = Some (refuses (bad_body number))
 stop_refusal limits input number rest (Whole f behind) = None
-stop_refusal limits input number rest Partial = if nat_lt limits.input (length input) then Some (refuses 7 (input_too_long limits.input)) else refusal_at_end rest number
+stop_refusal limits input number rest Partial = if nat_lt limits.input (length input) then Some (refuses (input_too_long limits.input)) else refusal_at_end rest number
 
 -- the refusal, if there is one
 abbrev pub or_closed : Option Reply → Reply → Reply
@@ -71,7 +75,7 @@ or_closed (Some refusal) reply = refusal
 -- A Bye is answered once the history is stored. A clash is told, and nothing is stored. Where no frame ended the session, the input may be at fault.
 abbrev pub served_by : Text → LimitNumbers → List ℕ → Framing → ℕ → Exchange → Option End → Session
 served_by name limits input f held_before t (Some end.Bye) = record { sent = t.sent; closing = closed_reply name held_before t.last t.state.held }
-served_by name limits input f held_before t (Some (end.Clash x)) = record { sent = t.sent ++ t.last; closing = refuses 5 (clash x) }
+served_by name limits input f held_before t (Some (end.Clash x)) = record { sent = t.sent ++ t.last; closing = refuses (clash x) }
 served_by name limits input f held_before t None =
     record { sent = t.sent; closing = or_closed (stop_refusal limits input (suc (length f.frames)) f.rest f.stop) (closed_reply name held_before [] t.state.held) }
 
@@ -86,7 +90,7 @@ served_from name limits input f events = let t = exchanged (opened_state limits 
 -- a peer is served with the events of a file, which may be refused
 abbrev pub served_as : Text → LimitNumbers → List ℕ → Framing → Opened → Session
 served_as name limits input f (opened events) = served_from name limits input f events
-served_as name limits input f (refused status text) = record { sent = []; closing = refuses status text }
+served_as name limits input f (refused why) = closed_by (refuses why)
 
 -- a peer is served with a file of a map
 abbrev pub served : Text → LimitNumbers → Files → List ℕ → Framing → Session
@@ -96,7 +100,7 @@ served name limits files input f = served_as name limits input f (open_file name
 abbrev pub printed_by : Reply → List ℕ
 printed_by (prints out) = out
 printed_by (stores out name bytes) = out
-printed_by (refuses status text) = []
+printed_by (refuses why) = []
 
 -- what a session answers: the output is what was sent, and what is printed at last
 abbrev pub session_answer : Session → Files → Answer

@@ -9,8 +9,8 @@ use Rattle.clap.specs.ValueTests.{is_unsigned_in}
 use Rattle.clap.specs.Words.{Row, Kinds, first_of, fault_of, subcommand_of}
 use Rattle.ew_model.specs.declared.id.Id.{Id}
 use Rattle.ew_model.specs.declared.event.Event.{Event}
-use Rattle.ew_model.specs.declared.verdict.Refusal.{Refusal}
-use Rattle.ew_model.specs.declared.verdict.Refusal.TheVariants as why
+use Rattle.ew_model.specs.declared.verdict as verdict
+use Rattle.ew_model.specs.declared.verdict.Refusal.TheVariants as cause
 use Rattle.ew_model.specs.Limits.{LimitNumbers, most_file_bytes}
 use Rattle.ew_model.specs.Names.{is_name}
 use Rattle.ew_model.specs.Texts.{text_at, text_of}
@@ -41,7 +41,8 @@ use Rattle.command_table.specs.Cli.{egw_app, most_made, most_seed}
 use Rattle.command_table.specs.Loads.{File, missing, too_long, whole, whole_of}
 use Rattle.command_table.specs.VersionWords.{version_in}
 use Rattle.command_table.specs.Scripts.{Reading, Means, script, bad_line, NetReading, MeansNet, net_script, bad_net_line, Edited, ran, stopped_at, edited_by}
-use Rattle.command_table.specs.Text.{bad_line as bad_line_text, line_out_of_range, out_of_range, too_many_heads, too_many_events, made_text, input_too_long, no_packet, no_peer, peer_there, unknown, clash, received_text, usage, no_file, file_there, short_file, no_event_file, unknown_version, bad_digest, bad_field, bad_event, file_too_long, file_too_many}
+use Rattle.command_table.specs.Text.{made_text, received_text}
+use Rattle.command_table.specs.Refusals.{Refusal, refusal_status, refusal_text, not_taken, no_file, file_there, short_file, no_event_file, unknown_version, bad_digest, bad_field, bad_event, unreadable, line_out_of_range, out_of_range, no_peer, peer_there, no_packet, unknown, clash, file_too_long, file_too_many, input_too_long, too_many_events, too_many_heads}
 
 abbrev pub Text : Type 0
 Text = List ℕ
@@ -137,32 +138,32 @@ line_of words = where_none (fault_of egw_app words) (line_in (subcommand_of egw_
 pub data Reply : Type 0 where
   prints : (out : List ℕ) → Reply
   stores : (out name bytes : List ℕ) → Reply
-  refuses : (status : ℕ) (text : List ℕ) → Reply
+  refuses : (why : Refusal) → Reply
 
 -- a file as it was opened: its events, which are good, or why it can't be
 pub data Opened : Type 0 where
   opened : (events : List Event) → Opened
-  refused : (status : ℕ) (text : List ℕ) → Opened
+  refused : (why : Refusal) → Opened
 
 -- open where no event is bad
 abbrev pub judged : Text → List Event → Option BadEvent → Opened
 judged name events None = opened events
-judged name events (Some bad) = refused 4 (bad_event name bad.position bad.verdict)
+judged name events (Some bad) = refused (bad_event name bad.position bad.verdict)
 
 -- by what the bytes are found to be
 abbrev pub read_as : Text → LimitNumbers → FileFinding → Opened
 read_as name limits (IsFile events) = judged name events (first_bad events)
-read_as name limits (Short len) = refused 4 (short_file name len)
-read_as name limits BadMagic = refused 4 (no_event_file name)
-read_as name limits (BadVersion version) = refused 4 (unknown_version name version)
-read_as name limits (BadDigest stored found) = refused 4 (bad_digest name stored found)
-read_as name limits (BadRecord offset kind) = refused 4 (bad_field name offset kind)
-read_as name limits (TooMany count) = refused 7 (file_too_many name limits.events)
+read_as name limits (Short len) = refused (short_file name len)
+read_as name limits BadMagic = refused (no_event_file name)
+read_as name limits (BadVersion version) = refused (unknown_version name version)
+read_as name limits (BadDigest stored found) = refused (bad_digest name stored found)
+read_as name limits (BadRecord offset kind) = refused (bad_field name offset kind)
+read_as name limits (TooMany count) = refused (file_too_many name limits.events)
 
 -- by the bytes that the shelf has for the name
 abbrev pub opened_as : Text → LimitNumbers → File → Opened
-opened_as name limits missing = refused 3 (no_file name)
-opened_as name limits too_long = refused 7 (file_too_long name (most_file_bytes limits.events))
+opened_as name limits missing = refused (no_file name)
+opened_as name limits too_long = refused (file_too_long name (most_file_bytes limits.events))
 opened_as name limits (whole bytes) = read_as name limits (file_finding limits.events bytes)
 
 abbrev pub open_file : Text → LimitNumbers → Files → Opened
@@ -171,7 +172,7 @@ open_file name limits files = opened_as name limits (whole_of (most_file_bytes l
 -- a command over the events of a file
 abbrev pub over_events : (List Event → Reply) → Opened → Reply
 over_events reply (opened events) = reply events
-over_events reply (refused status text) = refuses status text
+over_events reply (refused why) = refuses why
 
 -- what is shown of events
 abbrev pub listing_text : Listing → List Event → List ℕ
@@ -191,14 +192,14 @@ unknown_in listing events = None
 -- a reply, unless an id is unknown
 abbrev pub unless_unknown : Option Id → Reply → Reply
 unless_unknown None reply = reply
-unless_unknown (Some id) reply = refuses 5 (unknown id)
+unless_unknown (Some id) reply = refuses (unknown id)
 
 abbrev pub show_reply : Listing → List Event → Reply
 show_reply listing events = unless_unknown (unknown_in listing events) (prints (listing_text listing events))
 
 abbrev pub create_reply : Text → File → Reply
 create_reply name missing = stores [] name (file_of [])
-create_reply name found = refuses 3 (file_there name)
+create_reply name found = refuses (file_there name)
 
 -- a history with more events is stored, and their number printed
 abbrev pub made_reply : Text → ℕ → List Event → Reply
@@ -207,9 +208,9 @@ made_reply name old events =
 
 -- why a line of a script is refused
 abbrev pub line_refusal : LimitNumbers → ℕ → EditRefusal → Reply
-line_refusal limits line (OutOfRange len) = refuses 5 (line_out_of_range line len)
-line_refusal limits line (TooManyHeads heads) = refuses 7 (too_many_heads heads)
-line_refusal limits line (Full count) = refuses 7 (too_many_events limits.events)
+line_refusal limits line (OutOfRange len) = refuses (line_out_of_range line len)
+line_refusal limits line (TooManyHeads heads) = refuses (too_many_heads heads)
+line_refusal limits line (Full count) = refuses (too_many_events limits.events)
 
 -- what was made of a file's events
 abbrev pub edited_reply : Text → LimitNumbers → ℕ → Edited → Reply
@@ -218,30 +219,30 @@ edited_reply name limits old (stopped_at line why) = line_refusal limits line wh
 
 -- a script, over the events of a file
 abbrev pub script_reply : Text → Text → LimitNumbers → List Event → Reading → Reply
-script_reply name agent limits events (bad_line line) = refuses 5 (bad_line_text line)
+script_reply name agent limits events (bad_line line) = refuses (unreadable line)
 script_reply name agent limits events (script edits) = edited_reply name limits (length events) (edited_by limits agent events edits)
 
 -- an input, which may be too long
 abbrev pub input_reply : Text → Text → LimitNumbers → List ℕ → Reading → List Event → Reply
 input_reply name agent limits input reading events =
-    if nat_lt limits.input (length input) then refuses 7 (input_too_long limits.input)
+    if nat_lt limits.input (length input) then refuses (input_too_long limits.input)
     else script_reply name agent limits events reading
 
 -- the history holds as many events as it may
-abbrev pub is_graph_full : Refusal → Bool
-is_graph_full why.GraphFull = true
+abbrev pub is_graph_full : verdict.Refusal.Refusal → Bool
+is_graph_full cause.GraphFull = true
 is_graph_full refusal = false
 
 -- a reply, unless an event clashes
-abbrev pub unless_clash : Option (Id × Refusal) → Reply → Reply
+abbrev pub unless_clash : Option (Id × verdict.Refusal.Refusal) → Reply → Reply
 unless_clash None reply = reply
-unless_clash (Some p) reply = refuses 5 (clash p.0)
+unless_clash (Some p) reply = refuses (clash p.0)
 
 -- a merge is refused for the first clash, and else where the history is full
-abbrev pub unless_refused : LimitNumbers → List (Id × Refusal) → Reply → Reply
+abbrev pub unless_refused : LimitNumbers → List (Id × verdict.Refusal.Refusal) → Reply → Reply
 unless_refused limits refusals reply =
     unless_clash (find (λ p. is_clash p.1) refusals)
-    (if list_any (λ p. is_graph_full p.1) refusals then refuses 7 (too_many_events limits.events) else reply)
+    (if list_any (λ p. is_graph_full p.1) refusals then refuses (too_many_events limits.events) else reply)
 
 -- a history to which events were appended is stored
 abbrev pub received_reply : Text → List Event → ℕ → List ℕ → Reply
@@ -266,9 +267,9 @@ over_both reply file other = over_events (λ events. over_events (reply events) 
 
 -- why the making of a history stopped
 abbrev pub stop_reply : LimitNumbers → EditRefusal → Reply
-stop_reply limits (OutOfRange len) = refuses 5 (out_of_range len)
-stop_reply limits (TooManyHeads heads) = refuses 7 (too_many_heads heads)
-stop_reply limits (Full count) = refuses 7 (too_many_events limits.events)
+stop_reply limits (OutOfRange len) = refuses (out_of_range len)
+stop_reply limits (TooManyHeads heads) = refuses (too_many_heads heads)
+stop_reply limits (Full count) = refuses (too_many_events limits.events)
 
 -- a history that was made is told of
 abbrev pub make_reply : LimitNumbers → Made → Reply
@@ -277,9 +278,9 @@ make_reply limits (Stopped why) = stop_reply limits why
 
 -- why a line of a net script is refused
 abbrev pub net_refusal : LimitNumbers → ℕ → machine.Refusal → Reply
-net_refusal limits line (NoPeer name) = refuses 5 (no_peer line name)
-net_refusal limits line (PeerTwice name) = refuses 5 (peer_there line name)
-net_refusal limits line (NoPacket packet) = refuses 5 (no_packet line packet)
+net_refusal limits line (NoPeer name) = refuses (no_peer line name)
+net_refusal limits line (PeerTwice name) = refuses (peer_there line name)
+net_refusal limits line (NoPacket packet) = refuses (no_packet line packet)
 net_refusal limits line (NoEdit why) = line_refusal limits line why
 
 -- what the steps of a net script came to: all that they print, or the first refusal and nothing else
@@ -289,56 +290,35 @@ net_run_reply limits (Broke line why) = net_refusal limits line why
 
 -- a net script, whose run begins without peers; every line is read before the first is run
 abbrev pub net_script_reply : LimitNumbers → NetReading → Reply
-net_script_reply limits (bad_net_line line) = refuses 5 (bad_line_text line)
+net_script_reply limits (bad_net_line line) = refuses (unreadable line)
 net_script_reply limits (net_script steps) = net_run_reply limits (net_run (empty_network limits) steps)
 
 -- an input, which may be too long
 abbrev pub net_reply : LimitNumbers → List ℕ → NetReading → Reply
-net_reply limits input reading = if nat_lt limits.input (length input) then refuses 7 (input_too_long limits.input) else net_script_reply limits reading
+net_reply limits input reading = if nat_lt limits.input (length input) then refuses (input_too_long limits.input) else net_script_reply limits reading
 
--- what an input is read as: a net script by a net, and an edit script by every other command and a line that isn't taken
-abbrev pub ReadingOf : Option Command → Type 0
-ReadingOf (Some net) = NetReading
-ReadingOf line = Reading
+-- what an input is read as: a net script by a net, and an edit script by every other command
+abbrev pub ReadingOf : Command → Type 0
+ReadingOf net = NetReading
+ReadingOf command = Reading
 
--- the input means this to the line
-abbrev pub MeansTo : (line : Option Command) → List ℕ → ReadingOf line → Type 0
-MeansTo (Some net) input reading = MeansNet input reading
-MeansTo (Some (create name)) input reading = Means input reading
-MeansTo (Some (edit name agent)) input reading = Means input reading
-MeansTo (Some (show listing name)) input reading = Means input reading
-MeansTo (Some (merge name other)) input reading = Means input reading
-MeansTo (Some (make seed count)) input reading = Means input reading
-MeansTo None input reading = Means input reading
+-- the input means this to the command
+abbrev pub MeansTo : (command : Command) → List ℕ → ReadingOf command → Type 0
+MeansTo net input reading = MeansNet input reading
+MeansTo (create name) input reading = Means input reading
+MeansTo (edit name agent) input reading = Means input reading
+MeansTo (show listing name) input reading = Means input reading
+MeansTo (merge name other) input reading = Means input reading
+MeansTo (make seed count) input reading = Means input reading
 
 -- what a command does over files and an input, and what the input means
-abbrev pub reply_to : (command : Command) → LimitNumbers → Files → List ℕ → ReadingOf (Some command) → Reply
+abbrev pub reply_to : (command : Command) → LimitNumbers → Files → List ℕ → ReadingOf command → Reply
 reply_to (create name) limits files input reading = create_reply name (whole_of 0 (get files name))
 reply_to (edit name agent) limits files input reading = over_events (input_reply name agent limits input reading) (open_file name limits files)
 reply_to (show listing name) limits files input reading = over_events (show_reply listing) (open_file name limits files)
 reply_to (merge name other) limits files input reading = over_both (merge_reply name limits) (open_file name limits files) (open_file other limits files)
 reply_to (make seed count) limits files input reading = make_reply limits (made limits seed count)
 reply_to net limits files input reading = net_reply limits input reading
-
--- the commands that read the input
-abbrev pub reads_input : Option Command → Bool
-reads_input (Some (create name)) = false
-reads_input (Some (edit name agent)) = true
-reads_input (Some (show listing name)) = false
-reads_input (Some (merge name other)) = false
-reads_input (Some (make seed count)) = false
-reads_input (Some net) = true
-reads_input None = false
-
--- the commands whose status 3 says that a file is missing
-abbrev pub needs_file : Option Command → Bool
-needs_file (Some (create name)) = false
-needs_file (Some (edit name agent)) = true
-needs_file (Some (show listing name)) = true
-needs_file (Some (merge name other)) = true
-needs_file (Some (make seed count)) = false
-needs_file (Some net) = false
-needs_file None = false
 
 -- what a run answers: its status, what it prints, what it says on the error output, and the files after it
 pub record Answer : Type 0 where
@@ -351,9 +331,4 @@ pub record Answer : Type 0 where
 abbrev pub answer_of : Reply → Files → Answer
 answer_of (prints out) files = record { status = 0; out = out; err = []; files = files }
 answer_of (stores out name bytes) files = record { status = 0; out = out; err = []; files = insert files name bytes }
-answer_of (refuses status text) files = record { status = status; out = []; err = text; files = files }
-
--- what a command does, or a line that isn't taken
-abbrev pub reply_of : (line : Option Command) → LimitNumbers → Files → List ℕ → ReadingOf line → Reply
-reply_of None limits files input reading = refuses 2 usage
-reply_of (Some command) limits files input reading = reply_to command limits files input reading
+answer_of (refuses why) files = record { status = refusal_status why; out = []; err = refusal_text why; files = files }

@@ -1,2 +1,3 @@
--- What is told of received events.
+-- What is told of received events, and what the reasons stand for.
+pub mod Reasons
 pub mod Told

@@ -31,11 +31,7 @@ impl Narrow {
 }
 
 impl Sink for Narrow {
-    ghost taken = { λ s. Some s.sink.bytes.taken };
-
-    ghost flushed = { λ s. Some s.sink.bytes.flushed };
-
-    ghost faults = { λ s. s.sink.calls.faults };
+    ghost seen = { λ s. record { taken = Some s.sink.bytes.taken; flushed = Some s.sink.bytes.flushed; faults = s.sink.calls.faults } };
 
     fn write(&mut self, piece: &[u8]) -> Result<usize, Failed> {
         let count = piece.len().min(self.piece.max(1));

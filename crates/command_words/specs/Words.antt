@@ -1,6 +1,4 @@
 -- What the words of a command line were read as.
-use Rattle.std.specs.Prelude.{◌≡◌, ⊤, true, Option, Some}
-use Rattle.ew_model.specs.Names.{is_name}
 use Rattle.command_table.specs.Table.{Listing, content, past, head_ids, log, replay, numbers, question, Command, create, edit, show, merge, make, net, Line, does, serves}
 use Rattle.command_words.specs.declared.words as words
 use Rattle.command_words.specs.declared.words.Listing.TheVariants as shown
@@ -21,7 +19,7 @@ listing_view shown.Question = question
 -- the command that the words were read as
 abbrev pub command_view : Taken → Command
 command_view (taken.New name) = create name.now
-command_view (taken.Edit name agent) = edit name.now agent.now
+command_view (taken.Edit name agent) = edit name.now agent
 command_view (taken.Show listing name) = show (listing_view listing) name.now
 command_view (taken.Merge name other) = merge name.now other.now
 command_view (taken.Make seed count) = make seed count
@@ -30,12 +28,3 @@ command_view taken.Net = net
 abbrev pub line_view : words.Line.Line → Line
 line_view (line.Does command) = does (command_view command)
 line_view (line.Serves name) = serves name.now
-
--- the agent of an edit is a name
-abbrev pub IsNamed : Option Command → Type 0
-IsNamed (Some (edit name agent)) = is_name agent ≡ true
-IsNamed _ = ⊤
-
-abbrev pub IsNamedLine : Option Line → Type 0
-IsNamedLine (Some (does command)) = IsNamed (Some command)
-IsNamedLine _ = ⊤

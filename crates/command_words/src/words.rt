@@ -4,7 +4,7 @@ ghost use Rattle.std.specs.Option.{option_map};
 ghost use Rattle.clap.specs.Words.{first_of, found_of, rows_of, subcommand_rows_of};
 ghost use Rattle.command_table.specs.Table.{cat_line, command_in, create, edit_line, file_line, line_in, line_of, make_line, merge_line, number_up_to, show};
 ghost use Rattle.command_table.specs.Table as table;
-ghost use Rattle.command_words.specs.Words.{IsNamed, IsNamedLine, command_view, line_view, listing_view};
+ghost use Rattle.command_words.specs.Words.{command_view, line_view, listing_view};
 
 use crate::cli::{MOST_MADE, MOST_SEED, egw_command};
 use clap::ArgMatches;
@@ -37,8 +37,7 @@ pub enum Listing {
 #[derive(Debug, Drop)]
 pub enum Taken<'a> {
     New(&'a str),
-    /// The agent is a name.
-    Edit { file: &'a str, agent: &'a str },
+    Edit { file: &'a str, agent: Name },
     Show { listing: Listing, file: &'a str },
     Merge { file: &'a str, other: &'a str },
     Make { seed: u64, count: u32 },
@@ -68,16 +67,12 @@ fn read_new<'a>(values: &ArgMatches<'a>) -> Option<Taken<'a>>
 }
 
 fn read_edit<'a>(values: &ArgMatches<'a>) -> Option<Taken<'a>>
-    ensures line { option_map command_view result ≡ edit_line (rows_of (found_of values.now)) }
-    ensures named { IsNamed (option_map command_view result) }
+    ensures { option_map command_view result ≡ edit_line (rows_of (found_of values.now)) }
 {
     let file = value(values, "file")?;
     let agent = value(values, "agent")?;
-    if Name::read(agent.as_bytes()).is_ok() {
-        Some(Taken::Edit { file, agent })
-    } else {
-        None
-    }
+    let agent = Name::read(agent.as_bytes()).ok()?;
+    Some(Taken::Edit { file, agent })
 }
 
 /// The text as a whole, or that of a version, where the word is one.
@@ -95,8 +90,7 @@ fn content_at(alloc: Global, word: Option<&str>) -> Result<Option<Listing>, Allo
 }
 
 fn read_cat<'a>(alloc: Global, values: &ArgMatches<'a>) -> Result<Option<Taken<'a>>, AllocError>
-    ensures line { IfOk result (λ l. option_map command_view l ≡ cat_line (rows_of (found_of values.now))) }
-    ensures named { IfOk result (λ l. IsNamed (option_map command_view l)) }
+    ensures { IfOk result (λ l. option_map command_view l ≡ cat_line (rows_of (found_of values.now))) }
 {
     let Some(file) = value(values, "file") else {
         return Ok(None);
@@ -108,16 +102,14 @@ fn read_cat<'a>(alloc: Global, values: &ArgMatches<'a>) -> Result<Option<Taken<'
 }
 
 fn read_show<'a>(listing: Listing, values: &ArgMatches<'a>) -> Option<Taken<'a>>
-    ensures line { option_map command_view result ≡ file_line (show (listing_view listing)) (rows_of (found_of values.now)) }
-    ensures named { IsNamed (option_map command_view result) }
+    ensures { option_map command_view result ≡ file_line (show (listing_view listing)) (rows_of (found_of values.now)) }
 {
     let file = value(values, "file")?;
     Some(Taken::Show { listing, file })
 }
 
 fn read_merge<'a>(values: &ArgMatches<'a>) -> Option<Taken<'a>>
-    ensures line { option_map command_view result ≡ merge_line (rows_of (found_of values.now)) }
-    ensures named { IsNamed (option_map command_view result) }
+    ensures { option_map command_view result ≡ merge_line (rows_of (found_of values.now)) }
 {
     let file = value(values, "file")?;
     let other = value(values, "other")?;
@@ -135,8 +127,7 @@ fn number_up_to(word: &str, most: u64) -> Option<u64>
 }
 
 fn read_make<'a>(values: &ArgMatches<'a>) -> Option<Taken<'a>>
-    ensures line { option_map command_view result ≡ make_line (rows_of (found_of values.now)) }
-    ensures named { IsNamed (option_map command_view result) }
+    ensures { option_map command_view result ≡ make_line (rows_of (found_of values.now)) }
 {
     let seed = number_up_to(value(values, "seed")?, MOST_SEED)?;
     let count = number_up_to(value(values, "count")?, MOST_MADE)?;
@@ -152,42 +143,21 @@ fn read_command<'a>(
     values: &ArgMatches<'a>,
 ) -> Result<Option<Taken<'a>>, AllocError>
     ensures command { IfOk result (λ c. option_map command_view c ≡ command_in name.now (rows_of (found_of values.now))) }
-    ensures named { IfOk result (λ c. IsNamed (option_map command_view c)) }
 {
-    if name == "new" {
-        return Ok(read_new(values));
+    match name {
+        "new" => Ok(read_new(values)),
+        "edit" => Ok(read_edit(values)),
+        "cat" => read_cat(alloc, values),
+        "heads" => Ok(read_show(Listing::Heads, values)),
+        "log" => Ok(read_show(Listing::Log, values)),
+        "replay" => Ok(read_show(Listing::Replay, values)),
+        "check" => Ok(read_show(Listing::Numbers, values)),
+        "merge" => Ok(read_merge(values)),
+        "ask" => Ok(read_show(Listing::Question, values)),
+        "make" => Ok(read_make(values)),
+        "net" => Ok(Some(Taken::Net)),
+        _ => Ok(None),
     }
-    if name == "edit" {
-        return Ok(read_edit(values));
-    }
-    if name == "cat" {
-        return read_cat(alloc, values);
-    }
-    if name == "heads" {
-        return Ok(read_show(Listing::Heads, values));
-    }
-    if name == "log" {
-        return Ok(read_show(Listing::Log, values));
-    }
-    if name == "replay" {
-        return Ok(read_show(Listing::Replay, values));
-    }
-    if name == "check" {
-        return Ok(read_show(Listing::Numbers, values));
-    }
-    if name == "merge" {
-        return Ok(read_merge(values));
-    }
-    if name == "ask" {
-        return Ok(read_show(Listing::Question, values));
-    }
-    if name == "make" {
-        return Ok(read_make(values));
-    }
-    if name == "net" {
-        return Ok(Some(Taken::Net));
-    }
-    Ok(None)
 }
 
 fn read_serve<'a>(values: &ArgMatches<'a>) -> Option<Line<'a>>
@@ -198,8 +168,7 @@ fn read_serve<'a>(values: &ArgMatches<'a>) -> Option<Line<'a>>
 }
 
 fn read_matches<'a>(alloc: Global, matches: &ArgMatches<'a>) -> Result<Option<Line<'a>>, AllocError>
-    ensures line { IfOk result (λ l. option_map line_view l ≡ line_in (subcommand_rows_of matches.now)) }
-    ensures named { IfOk result (λ l. IsNamedLine (option_map line_view l)) }
+    ensures { IfOk result (λ l. option_map line_view l ≡ line_in (subcommand_rows_of matches.now)) }
 {
     let Some((name, values)) = matches.subcommand() else {
         return Ok(None);
@@ -215,8 +184,7 @@ fn read_matches<'a>(alloc: Global, matches: &ArgMatches<'a>) -> Result<Option<Li
 
 /// Takes the words, or `None` where `clap` doesn't, the agent is no name or the version isn't in its grammar.
 pub fn read_words<'a>(alloc: Global, words: &'a [String]) -> Result<Option<Line<'a>>, AllocError>
-    ensures line { IfOk result (λ l. option_map line_view l ≡ line_of (map string_bytes words.now)) }
-    ensures named { IfOk result (λ l. IsNamedLine (option_map line_view l)) }
+    ensures { IfOk result (λ l. option_map line_view l ≡ line_of (map string_bytes words.now)) }
 {
     let command = egw_command(alloc)?;
     match command.try_get_matches_from(words) {

@@ -36,7 +36,7 @@ use Rattle.command_table.specs.MergeLaws.{command_answer}
 use Rattle.command_table.specs.Scripts.{Reading}
 use Rattle.command_table.specs.Sessions.{Exchange, Session, bytes_of, closed_reply, exchanged, opened_state, or_closed, served, served_as, served_by, served_from, session_answer}
 use Rattle.command_table.specs.Table.{Text, Answer, Reply, Opened, opened, open_file, over_events, prints, question, refuses, show, show_reply, stores, answer_of}
-use Rattle.command_table.specs.Text.{input_too_long}
+use Rattle.command_table.specs.Refusals.{input_too_long}
 use Rattle.command_table.proofs.FileSizes.{file_length}
 use Rattle.command_table.proofs.MergedFiles.{IsStorable, Opens, opened_is, opens, read_again, status_in, storable, not_longer}
 use Rattle.arrival_laws.proofs.Answered.{each_swapped}
@@ -90,7 +90,7 @@ answered_so limits files name events input counts f e same short =
     let said : List ℕ = bytes_of (replies limits events counts) in
     let close = λ (b c : Bool). session_answer (record {
       sent = said ++ [];
-      closing = or_closed (if b then Some (refuses 7 (input_too_long limits.input)) else None) (if c then stores [] name (file_of events) else prints []);
+      closing = or_closed (if b then Some (refuses (input_too_long limits.input)) else None) (if c then stores [] name (file_of events) else prints []);
     }) files in
     ap (λ (o : Opened). session_answer (served_as name limits input f o) files) e
     ∙ ap (λ (g : Framing). session_answer (served_from name limits input g events) files) same

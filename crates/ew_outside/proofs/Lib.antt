@@ -1,2 +1,3 @@
 -- Lemmas of the outside.
 pub mod NamedFiles
+pub mod Outputs

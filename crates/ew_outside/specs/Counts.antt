@@ -11,6 +11,10 @@ next n = min (n + 1) (2 ^ 64 - 1)
 abbrev pub Rose : ℕ → ℕ → Type 0
 Rose before now = next before ≤ now
 
+-- the count rose, or stands at its last value; it never fell
+abbrev pub Rises : ℕ → ℕ → Type 0
+Rises before now = (before ≤ now) × Rose before now
+
 -- the count didn't rise, and would have shown it
 abbrev pub IsQuiet : ℕ → ℕ → Type 0
 IsQuiet before now = (now ≡ before) × (now < 2 ^ 64 - 1)

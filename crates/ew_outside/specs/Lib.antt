@@ -4,3 +4,6 @@ pub mod Bytes
 pub mod Files
 pub mod FileMap
 pub mod Memory
+pub mod Seen
+pub mod Faults
+pub mod Outputs

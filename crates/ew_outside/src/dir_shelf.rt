@@ -3,7 +3,7 @@ ghost use Rattle.std.specs.Prelude.{◌≡◌, ◌≢◌, ◌+◌, ◌<◌, ◌�
 ghost use Rattle.std.specs.Io.KnownBytes.{Appends};
 ghost use Rattle.std.specs.IoError.{error_kind};
 
-use crate::opened_files::{OpenedFile, OpenedFiles};
+use crate::loaded_files::{OpenedFile, OpenedFiles};
 use crate::{Counter, Shelf, ShelfFault};
 use std::alloc::Global;
 use std::fs::{File, Metadata, OpenFile, Permissions};
@@ -57,15 +57,7 @@ impl<R: Files<File = File>> DirShelf<R> {
 }
 
 impl<R: Files<File = File>> Shelf for DirShelf<R> {
-    ghost files = { λ _. None };
-
-    ghost faults = { λ s. s.faults };
-
-    ghost misses = { λ s. s.misses };
-
-    ghost loads = { λ s. s.loads };
-
-    ghost lost = { λ s. s.lost };
+    ghost seen = { λ s. record { files = None; faults = s.faults; misses = s.misses; loads = s.loads; lost = s.lost } };
 
     /// `None` is for a file that isn't there. Whatever else the system refuses is a fault. A store stands on what was opened here.
     fn load(&mut self, name: &str, max: usize) -> Result<Option<Vec<u8>>, ShelfFault> {

@@ -68,15 +68,7 @@ impl MemShelf {
 }
 
 impl Shelf for MemShelf {
-    ghost files = { λ s. Some s.files };
-
-    ghost faults = { λ s. s.calls.faults };
-
-    ghost misses = { λ s. s.misses };
-
-    ghost loads = { λ s. s.loads };
-
-    ghost lost = { λ s. s.lost };
+    ghost seen = { λ s. record { files = Some s.files; faults = s.calls.faults; misses = s.misses; loads = s.loads; lost = s.lost } };
 
     fn load(&mut self, name: &str, max: usize) -> Result<Option<Vec<u8>>, ShelfFault>
         requires { max < 2 ^ 62 }

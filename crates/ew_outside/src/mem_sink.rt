@@ -28,11 +28,7 @@ impl MemSink {
 }
 
 impl Sink for MemSink {
-    ghost taken = { λ s. Some s.bytes.taken };
-
-    ghost flushed = { λ s. Some s.bytes.flushed };
-
-    ghost faults = { λ s. s.calls.faults };
+    ghost seen = { λ s. record { taken = Some s.bytes.taken; flushed = Some s.bytes.flushed; faults = s.calls.faults } };
 
     fn write(&mut self, piece: &[u8]) -> Result<usize, Failed>
         ensures bytes { WriteTakes (Some self.old.bytes.taken) (Some self.new.bytes.taken) result piece.now }

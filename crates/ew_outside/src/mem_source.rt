@@ -27,9 +27,7 @@ impl MemSource {
 }
 
 impl Source for MemSource {
-    ghost left = { λ s. Some s.left };
-
-    ghost faults = { λ s. s.calls.faults };
+    ghost seen = { λ s. record { left = Some s.left; faults = s.calls.faults } };
 
     fn read(&mut self, buf: &mut [u8]) -> Result<usize, Failed>
         ensures bytes { ReadTakes (Some self.old.left) (Some self.new.left) result buf.new }

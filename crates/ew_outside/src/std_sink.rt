@@ -27,11 +27,7 @@ impl<W: Write> StdSink<W> {
 }
 
 impl<W: Write> Sink for StdSink<W> {
-    ghost taken = { λ _. None };
-
-    ghost flushed = { λ _. None };
-
-    ghost faults = { λ s. s.faults };
+    ghost seen = { λ s. record { taken = None; flushed = None; faults = s.faults } };
 
     /// A writer that takes none of the bytes that it is given has failed.
     fn write(&mut self, piece: &[u8]) -> Result<usize, Failed>

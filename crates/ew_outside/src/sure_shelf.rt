@@ -31,15 +31,7 @@ impl SureShelf {
 }
 
 impl Shelf for SureShelf {
-    ghost files = { λ s. Some s.files };
-
-    ghost faults = { λ _. 0 };
-
-    ghost misses = { λ s. s.misses };
-
-    ghost loads = { λ s. s.loads };
-
-    ghost lost = { λ _. 0 };
+    ghost seen = { λ s. record { files = Some s.files; faults = 0; misses = s.misses; loads = s.loads; lost = 0 } };
 
     fn load(&mut self, name: &str, max: usize) -> Result<Option<Vec<u8>>, ShelfFault>
         requires { max < 2 ^ 62 }

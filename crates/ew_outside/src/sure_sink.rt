@@ -27,11 +27,7 @@ impl SureSink {
 }
 
 impl Sink for SureSink {
-    ghost taken = { λ s. Some s.bytes.taken };
-
-    ghost flushed = { λ s. Some s.bytes.flushed };
-
-    ghost faults = { λ s. s.faults };
+    ghost seen = { λ s. record { taken = Some s.bytes.taken; flushed = Some s.bytes.flushed; faults = s.faults } };
 
     fn write(&mut self, piece: &[u8]) -> Result<usize, Failed>
         ensures bytes { WriteTakes (Some self.old.bytes.taken) (Some self.new.bytes.taken) result piece.now }

@@ -22,9 +22,7 @@ impl SureSource {
 }
 
 impl Source for SureSource {
-    ghost left = { λ s. Some s.left };
-
-    ghost faults = { λ _. 0 };
+    ghost seen = { λ s. record { left = Some s.left; faults = 0 } };
 
     fn read(&mut self, buf: &mut [u8]) -> Result<usize, Failed>
         ensures bytes { ReadTakes (Some self.old.left) (Some self.new.left) result buf.new }

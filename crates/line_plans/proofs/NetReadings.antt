@@ -11,9 +11,9 @@ use Rattle.peer_words.specs.Runs.{net_run}
 use Rattle.peer_words.specs.Machine.{empty_network}
 use Rattle.command_table.specs.Scripts.{NetReading, net_script, bad_net_line, MeansNet}
 use Rattle.command_table.specs.Table.{refuses, net_run_reply, net_script_reply}
-use Rattle.command_table.specs.Text.{bad_line as bad_line_text}
-use Rattle.opened_files.specs.declared.reply.Plan.{Plan}
-use Rattle.opened_files.specs.Views.{plan_view}
+use Rattle.command_table.specs.Refusals.{unreadable}
+use Rattle.opened_files.specs.declared.reply.Reply as code
+use Rattle.opened_files.specs.Views.{reply_view}
 use Rattle.line_plans.specs.Nets.{MayNetScript, PlansNetScript}
 use Rattle.line_plans.proofs.OneStep.{lines_mean_one_step}
 
@@ -35,17 +35,17 @@ means_net_once input (bad_net_line j) (bad_net_line k) left right = ap bad_net_l
 
 module _ (limits : LimitNumbers) (input : List ℕ) where
   -- an input with a bad line
-  pub bad_script : (line : ℕ) (text : List ℕ) → IsFirstBadNetLine input line → text ≡ bad_line_text line → (reading : NetReading) → MeansNet input reading → refuses 5 text ≡ net_script_reply limits reading
-  bad_script line text bad is reading means = subst (λ r. refuses 5 text ≡ net_script_reply limits r) (means_net_once input (bad_net_line line) reading bad means) (ap (refuses 5) is)
+  pub bad_script : (line : ℕ) → IsFirstBadNetLine input line → (reading : NetReading) → MeansNet input reading → refuses (unreadable line) ≡ net_script_reply limits reading
+  bad_script line bad reading means = subst (λ r. refuses (unreadable line) ≡ net_script_reply limits r) (means_net_once input (bad_net_line line) reading bad means) refl
 
   -- a script whose steps were run, or one of them refused
-  pub steps_script : (steps : List (ℕ × NetStep)) (result : Result Plan AllocError) → IsNetScript input (numbered_steps steps)
-      → IfOk result (λ p. plan_view p ≡ net_run_reply limits (net_run (empty_network limits) steps)) → PlansNetScript limits input result
-  steps_script steps (Ok p) is told = λ reading means. subst (λ r. plan_view p ≡ net_script_reply limits r) (means_net_once input (net_script steps) reading is means) told
+  pub steps_script : (steps : List (ℕ × NetStep)) (result : Result code.Reply AllocError) → IsNetScript input (numbered_steps steps)
+      → IfOk result (λ p. reply_view p ≡ net_run_reply limits (net_run (empty_network limits) steps)) → PlansNetScript limits input result
+  steps_script steps (Ok p) is told = λ reading means. subst (λ r. reply_view p ≡ net_script_reply limits r) (means_net_once input (net_script steps) reading is means) told
   steps_script steps (Err e) is told = tt
 
-  pub may_script : (steps : List (ℕ × NetStep)) (result : Result Plan AllocError) → IsNetScript input (numbered_steps steps)
-      → IfOk result (λ p. plan_view p ≡ net_run_reply limits (net_run (empty_network limits) steps)) → MayNetScript limits input result
+  pub may_script : (steps : List (ℕ × NetStep)) (result : Result code.Reply AllocError) → IsNetScript input (numbered_steps steps)
+      → IfOk result (λ p. reply_view p ≡ net_run_reply limits (net_run (empty_network limits) steps)) → MayNetScript limits input result
   may_script steps (Ok p) is told = (net_script steps, is, told)
   may_script steps (Err e) is told = tt
 

@@ -8,63 +8,68 @@ use Rattle.ew_model.specs.Kept.{ReplicaState}
 use Rattle.ew_model.specs.Edits.{Edit}
 use Rattle.ew_model.specs.Scripts.{Numbered, IsScript}
 use Rattle.command_table.specs.Possible.{MayOpen, MayEdit, MayReplyTo}
+use Rattle.command_table.specs.Refusals.{Refusal}
 use Rattle.command_table.specs.Scripts.{script}
 use Rattle.command_table.specs.Table.{Text, edit, refuses, opened, refused, script_reply}
-use Rattle.opened_files.specs.declared.reply.Plan.{Plan}
-use Rattle.opened_files.specs.declared.reply.Stop.{Stop}
-use Rattle.opened_files.specs.declared.reply.Stop.TheVariants.{ShelfFailed, SourceFailed, OutOfMemory}
-use Rattle.opened_files.specs.Views.{LostBy, plan_view}
+use Rattle.opened_files.specs.declared.reply.Reply as code
+use Rattle.ew_outside.specs.declared.fault.Fault.{Fault}
+use Rattle.ew_outside.specs.declared.fault.Fault.TheVariants as fault_is
+use Rattle.opened_files.specs.Views.{LostBy, reply_view}
 use Rattle.line_plans.specs.Edits.{MayScript, edits_reply}
 use Rattle.line_plans.specs.Sources.{Causes, KeepsInput, SourceCauses}
 
 module _ (name : Text) (limits : LimitNumbers) where
   -- an edit of a file that is refused, or open
-  pub refused_edits : (agent : Text) (status : ℕ) (text : List ℕ) → MayOpen name limits (refused status text) → MayReplyTo (edit name agent) limits (refuses status text)
-  refused_edits agent status text may = (may.0, subst (λ o. MayEdit name agent limits o (refuses status text)) may.1 refl, may.2)
+  pub refused_edits : (agent : Text) (why : Refusal) → MayOpen name limits (refused why) → MayReplyTo (edit name agent) limits (refuses why)
+  refused_edits agent why may = (may.0, subst (λ o. MayEdit name agent limits o (refuses why)) may.1 refl, may.2)
 
-  pub opened_edits : (agent : Text) (held : List Event) (result : Result Plan Stop) → MayOpen name limits (opened held) → IfOk result (λ p. MayEdit name agent limits (opened held) (plan_view p))
-      → IfOk result (λ p. MayReplyTo (edit name agent) limits (plan_view p))
-  opened_edits agent held (Ok p) may some = (may.0, subst (λ o. MayEdit name agent limits o (plan_view p)) may.1 some, may.2)
+  pub opened_edits : (agent : Text) (held : List Event) (result : Result code.Reply Fault) → MayOpen name limits (opened held) → IfOk result (λ p. MayEdit name agent limits (opened held) (reply_view p))
+      → IfOk result (λ p. MayReplyTo (edit name agent) limits (reply_view p))
+  opened_edits agent held (Ok p) may some = (may.0, subst (λ o. MayEdit name agent limits o (reply_view p)) may.1 some, may.2)
   opened_edits agent held (Err e) may some = tt
 
 -- a script whose edits were tried
-pub may_script : (name agent input : List ℕ) (r : ReplicaState) (items : List (Numbered Edit)) (result : Result Plan AllocError) → IsScript input items
-    → IfOk result (λ p. plan_view p ≡ edits_reply name agent r items) → MayScript name agent r input result
+pub may_script : (name agent input : List ℕ) (r : ReplicaState) (items : List (Numbered Edit)) (result : Result code.Reply AllocError) → IsScript input items
+    → IfOk result (λ p. reply_view p ≡ edits_reply name agent r items) → MayScript name agent r input result
 may_script name agent input r items (Ok p) is told = (script items, is, told)
 may_script name agent input r items (Err e) is told = tt
 
 -- an input that isn't too long
-pub may_edit : (name agent input given : List ℕ) (limits : LimitNumbers) (r : ReplicaState) (p : Plan) → r.limits ≡ limits → length input ≤ limits.input → AreBytes given → given ≡ input → MayScript name agent r given (Ok p)
-    → MayEdit name agent limits (opened r.held) (plan_view p)
+pub may_edit : (name agent input given : List ℕ) (limits : LimitNumbers) (r : ReplicaState) (p : code.Reply) → r.limits ≡ limits → length input ≤ limits.input → AreBytes given → given ≡ input → MayScript name agent r given (Ok p)
+    → MayEdit name agent limits (opened r.held) (reply_view p)
 may_edit name agent input given limits r p same short bytes is some =
     let most : length given ≤ limits.input = subst (λ xs. length xs ≤ limits.input) (sym is) short in
     inr (given, some.0, most, some.1, some.2 ∙ ap (λ (l : LimitNumbers). script_reply name agent l r.held some.0) same, bytes)
 
 -- ---- the input, where a load failed
 
-pub keeps_same : (left : Option (List ℕ)) (result : Result Plan Stop) → KeepsInput left left result
+pub keeps_same : (left : Option (List ℕ)) (result : Result code.Reply Fault) → KeepsInput left left result
 keeps_same left (Ok p) = tt
-keeps_same left (Err ShelfFailed) = refl
-keeps_same left (Err SourceFailed) = tt
-keeps_same left (Err OutOfMemory) = tt
+keeps_same left (Err fault_is.Shelf) = refl
+keeps_same left (Err fault_is.Source) = tt
+keeps_same left (Err fault_is.Sink) = tt
+keeps_same left (Err fault_is.OutOfMemory) = tt
 
 -- no load fails where the source alone is read
-pub source_keeps : (old new : Option (List ℕ)) (before now : ℕ) (result : Result Plan Stop) → SourceCauses before now result → KeepsInput old new result
+pub source_keeps : (old new : Option (List ℕ)) (before now : ℕ) (result : Result code.Reply Fault) → SourceCauses before now result → KeepsInput old new result
 source_keeps old new before now (Ok p) cause = tt
-source_keeps old new before now (Err ShelfFailed) cause = absurd cause
-source_keeps old new before now (Err SourceFailed) cause = tt
-source_keeps old new before now (Err OutOfMemory) cause = tt
+source_keeps old new before now (Err fault_is.Shelf) cause = absurd cause
+source_keeps old new before now (Err fault_is.Source) cause = tt
+source_keeps old new before now (Err fault_is.Sink) cause = absurd cause
+source_keeps old new before now (Err fault_is.OutOfMemory) cause = tt
 
 -- ---- the counts, where the file is open and the source alone is read from then on
 
-pub causes_of_source : (before now source source' : ℕ) (result : Result Plan Stop) → now ≡ before → SourceCauses source source' result → Causes before now source source' result
+pub causes_of_source : (before now source source' : ℕ) (result : Result code.Reply Fault) → now ≡ before → SourceCauses source source' result → Causes before now source source' result
 causes_of_source before now source source' (Ok p) same cause = (same, cause)
-causes_of_source before now source source' (Err ShelfFailed) same cause = absurd cause
-causes_of_source before now source source' (Err SourceFailed) same cause = (same, cause)
-causes_of_source before now source source' (Err OutOfMemory) same cause = (same, cause)
+causes_of_source before now source source' (Err fault_is.Shelf) same cause = absurd cause
+causes_of_source before now source source' (Err fault_is.Source) same cause = (same, cause)
+causes_of_source before now source source' (Err fault_is.Sink) same cause = absurd cause
+causes_of_source before now source source' (Err fault_is.OutOfMemory) same cause = (same, cause)
 
-pub lost_of_source : (before now source source' : ℕ) (result : Result Plan Stop) → now ≡ before → SourceCauses source source' result → LostBy before now result
+pub lost_of_source : (before now source source' : ℕ) (result : Result code.Reply Fault) → now ≡ before → SourceCauses source source' result → LostBy before now result
 lost_of_source before now source source' (Ok p) same cause = same
-lost_of_source before now source source' (Err ShelfFailed) same cause = absurd cause
-lost_of_source before now source source' (Err SourceFailed) same cause = same
-lost_of_source before now source source' (Err OutOfMemory) same cause = same
+lost_of_source before now source source' (Err fault_is.Shelf) same cause = absurd cause
+lost_of_source before now source source' (Err fault_is.Source) same cause = same
+lost_of_source before now source source' (Err fault_is.Sink) same cause = absurd cause
+lost_of_source before now source source' (Err fault_is.OutOfMemory) same cause = same

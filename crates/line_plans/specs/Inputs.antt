@@ -2,7 +2,7 @@
 use Rattle.std.specs.Prelude.{◌≡◌, ◌≤◌, ⊤, ℕ, List, [], length, Option, Some, Result, Ok, nat_lt, if◌then◌else◌}
 use Rattle.line_plans.specs.declared.input.Input.{Input}
 use Rattle.line_plans.specs.declared.input.Input.TheVariants as input
-use Rattle.opened_files.specs.declared.reply.Stop.{Stop}
+use Rattle.ew_outside.specs.declared.fault.Fault.{Fault}
 
 -- an input under a bound
 pub data Bytes : Type 0 where
@@ -19,7 +19,7 @@ input_view input.TooLong = too_long
 input_view (input.Whole bytes) = whole bytes.items
 
 -- a whole input was read to its end
-abbrev pub EndsInput : Option (List ℕ) → Option (List ℕ) → Result Input Stop → Type 0
+abbrev pub EndsInput : Option (List ℕ) → Option (List ℕ) → Result Input Fault → Type 0
 EndsInput (Some old) new (Ok (input.Whole _)) = new ≡ Some []
 EndsInput _ new _ = ⊤
 

@@ -10,24 +10,22 @@ ghost use Rattle.command_table.specs.Scripts.{Means};
 ghost use Rattle.command_table.specs.Table as table;
 ghost use Rattle.command_table.specs.Table.{input_reply, made_reply, open_file, opened, over_events};
 ghost use Rattle.opened_files.specs.Touches.{TouchesAtMost, file_touches};
-ghost use Rattle.opened_files.specs.Views.{IsCommandPlan, LostBy, MissesBy, plan_view, status_of};
+ghost use Rattle.opened_files.specs.Views.{IsTakenReply, LostBy, MissesBy, reply_view, reply_status};
 ghost use Rattle.line_plans.specs.Sources.{Causes, KeepsInput, PlansBy, ReadsAll, SourceCauses};
 ghost use Rattle.ew_outside.specs.Counts.{next};
 
 use crate::input::{Input, read_input};
-use command_texts::texts::{
-    bad_line_text, input_too_long_text, line_out_of_range_text, made_text, too_many_events_text,
-    too_many_heads_text,
-};
+use command_texts::refusal::Refusal;
+use command_texts::texts::made_text;
 use event_words::edit::Edit;
 use event_words::script::{ScriptFault, read_script};
 use ew_model::limits::Limits;
 use ew_model::name::Name;
 use ew_model::steps::Steps;
-use ew_outside::{Shelf, Source};
+use ew_outside::{Fault, Shelf, Source};
 use opened_files::open::{Found, open};
-use opened_files::reply::{Plan, Stop};
-use opened_files::store::store_plan;
+use opened_files::reply::Reply;
+use opened_files::store::store_reply;
 use replica::{EditFault, Replica};
 use std::alloc::{AllocError, Global};
 use std::sync::ledger::Ledger;
@@ -49,30 +47,22 @@ fn do_edit<L: Ledger>(
     }
 }
 
-/// Why a line is refused, as a plan.
+/// Why a line is refused.
 pub fn refuse_line<'a>(
-    alloc: Global,
     limits: &Limits,
     line: u32,
     fault: EditFault,
-) -> Result<Plan<'a>, AllocError>
+) -> Result<Reply<'a>, AllocError>
     ensures told { LineRefuses limits.now line fault result }
-    ensures plan { IfOk result IsCommandPlan }
+    ensures plan { IfOk result IsTakenReply }
 {
     match fault {
         EditFault::OutOfMemory => Err(AllocError),
-        EditFault::OutOfRange { len } => Ok(Plan::Refuses {
-            status: 5,
-            text: line_out_of_range_text(alloc, line, len)?,
-        }),
-        EditFault::TooManyHeads { heads } => Ok(Plan::Refuses {
-            status: 7,
-            text: too_many_heads_text(alloc, heads)?,
-        }),
-        EditFault::Full { .. } => Ok(Plan::Refuses {
-            status: 7,
-            text: too_many_events_text(alloc, limits.events())?,
-        }),
+        EditFault::OutOfRange { len } => Ok(Reply::Refuses(Refusal::LineOutOfRange { line, len })),
+        EditFault::TooManyHeads { heads } => Ok(Reply::Refuses(Refusal::TooManyHeads { heads })),
+        EditFault::Full { .. } => Ok(Reply::Refuses(Refusal::TooManyEvents {
+            most: limits.events(),
+        })),
     }
 }
 
@@ -83,16 +73,16 @@ fn do_edits<'a, L: Ledger>(
     agent: Name,
     edits: &[(u32, Edit)],
     steps: &mut Steps<L>,
-) -> Result<Option<Plan<'a>>, AllocError>
+) -> Result<Option<Reply<'a>>, AllocError>
     requires { replica.old.waiting ≡ [] }
     ensures done { EditsTo agent (numbered_edits edits.now) replica.old replica.new result }
-    ensures plan { IfOk result (λ o. IfSome o IsCommandPlan) }
+    ensures plan { IfOk result (λ o. IfSome o IsTakenReply) }
     ensures steps { steps.new ≡ steps.old }
 {
     let limits = replica.limits();
     for (line, edit) in edits {
         if let Err(fault) = do_edit(replica, agent, edit, steps) {
-            return Ok(Some(refuse_line(alloc, &limits, *line, fault)?));
+            return Ok(Some(refuse_line(&limits, *line, fault)?));
         }
     }
     Ok(None)
@@ -104,16 +94,16 @@ fn made_plan<'a>(
     name: &'a str,
     replica: &Replica,
     before: u32,
-) -> Result<Plan<'a>, AllocError>
-    ensures told { IfOk result (λ p. plan_view p ≡ made_reply name.now before replica.now.held) }
-    ensures plan { IfOk result IsCommandPlan }
+) -> Result<Reply<'a>, AllocError>
+    ensures told { IfOk result (λ p. reply_view p ≡ made_reply name.now before replica.now.held) }
+    ensures plan { IfOk result IsTakenReply }
 {
     let count = replica.count();
     if before < count {
         let out = made_text(alloc, u64::from(count - before))?;
-        store_plan(alloc, name, replica, out)
+        store_reply(alloc, name, replica, out)
     } else {
-        Ok(Plan::Prints(made_text(alloc, 0)?))
+        Ok(Reply::Prints(made_text(alloc, 0)?))
     }
 }
 
@@ -125,11 +115,11 @@ fn run_edits<'a, L: Ledger>(
     replica: &mut Replica,
     edits: &[(u32, Edit)],
     steps: &mut Steps<L>,
-) -> Result<Plan<'a>, AllocError>
+) -> Result<Reply<'a>, AllocError>
     requires { replica.old.waiting ≡ [] }
-    ensures told { IfOk result (λ p. plan_view p ≡ edits_reply name.now agent replica.old (numbered_edits edits.now)) }
-    ensures plan { IfOk result IsCommandPlan }
-    ensures found { IfOk result (λ p. status_of p ≢ 3) }
+    ensures told { IfOk result (λ p. reply_view p ≡ edits_reply name.now agent replica.old (numbered_edits edits.now)) }
+    ensures plan { IfOk result IsTakenReply }
+    ensures found { IfOk result (λ p. reply_status p ≢ 3) }
     ensures steps { steps.new ≡ steps.old }
 {
     let before = replica.count();
@@ -147,24 +137,21 @@ fn run_script<'a, L: Ledger>(
     replica: &mut Replica,
     script: &[u8],
     steps: &mut Steps<L>,
-) -> Result<Plan<'a>, AllocError>
+) -> Result<Reply<'a>, AllocError>
     requires short { length script.now < 2 ^ 32 }
     requires none_waits { replica.old.waiting ≡ [] }
     ensures told { PlansScript name.now agent replica.old script.now result }
     ensures some { MayScript name.now agent replica.old script.now result }
     ensures fits { AreBytes script.now }
-    ensures plan { IfOk result IsCommandPlan }
-    ensures found { IfOk result (λ p. status_of p ≢ 3) }
+    ensures plan { IfOk result IsTakenReply }
+    ensures found { IfOk result (λ p. reply_status p ≢ 3) }
     ensures steps { steps.new ≡ steps.old }
 {
     let edits = match read_script(alloc, script) {
         Ok(edits) => edits,
         Err(ScriptFault::OutOfMemory) => return Err(AllocError),
         Err(ScriptFault::BadLine(line)) => {
-            return Ok(Plan::Refuses {
-                status: 5,
-                text: bad_line_text(alloc, line)?,
-            });
+            return Ok(Reply::Refuses(Refusal::Unreadable { line }));
         }
     };
     run_edits(alloc, name, agent, replica, &edits, steps)
@@ -179,24 +166,21 @@ fn take_input<'a, S: Source, L: Ledger>(
     replica: &mut Replica,
     input: &mut S,
     steps: &mut Steps<L>,
-) -> Result<Plan<'a>, Stop>
+) -> Result<Reply<'a>, Fault>
     requires limits { replica.old.limits ≡ limits.now }
     requires none_waits { replica.old.waiting ≡ [] }
-    ensures told { IfSome (S.left input.old) (λ xs. PlansInput name.now agent replica.old xs result) }
-    ensures some { IfOk result (λ p. MayEdit name.now agent limits.now (opened replica.old.held) (plan_view p)) }
-    ensures end { ReadsAll (S.left input.old) (S.left input.new) result }
-    ensures few { TakesAtMost (limits.now.input + 1) (S.left input.old) (S.left input.new) }
-    ensures cause { SourceCauses (S.faults input.old) (S.faults input.new) result }
-    ensures found { IfOk result (λ p. status_of p ≢ 3) }
-    ensures plan { IfOk result IsCommandPlan }
+    ensures told { IfSome (S.seen input.old).left (λ xs. PlansInput name.now agent replica.old xs result) }
+    ensures some { IfOk result (λ p. MayEdit name.now agent limits.now (opened replica.old.held) (reply_view p)) }
+    ensures end { ReadsAll (S.seen input.old).left (S.seen input.new).left result }
+    ensures few { TakesAtMost (limits.now.input + 1) (S.seen input.old).left (S.seen input.new).left }
+    ensures cause { SourceCauses (S.seen input.old).faults (S.seen input.new).faults result }
+    ensures found { IfOk result (λ p. reply_status p ≢ 3) }
+    ensures plan { IfOk result IsTakenReply }
     ensures steps { steps.new ≡ steps.old }
 {
     let most = limits.input();
     match read_input(alloc, input, most)? {
-        Input::TooLong => Ok(Plan::Refuses {
-            status: 7,
-            text: input_too_long_text(alloc, most)?,
-        }),
+        Input::TooLong => Ok(Reply::Refuses(Refusal::InputTooLong { most })),
         Input::Whole(script) => Ok(run_script(alloc, name, agent, replica, &script, steps)?),
     }
 }
@@ -210,23 +194,23 @@ pub fn edit<'a, H: Shelf, S: Source, L: Ledger>(
     shelf: &mut H,
     input: &mut S,
     steps: &mut Steps<L>,
-) -> Result<Plan<'a>, Stop>
-    ensures told { PlansBy Means (λ files xs reading. over_events (input_reply name.now agent limits.now xs reading) (open_file name.now limits.now files)) (H.files shelf.old) (S.left input.old) result }
-    ensures some { IfOk result (λ p. MayReplyTo (table.edit name.now agent) limits.now (plan_view p)) }
-    ensures plan { IfOk result IsCommandPlan }
-    ensures same { H.files shelf.new ≡ H.files shelf.old }
-    ensures end { ReadsAll (S.left input.old) (S.left input.new) result }
-    ensures cause { Causes (H.faults shelf.old) (H.faults shelf.new) (S.faults input.old) (S.faults input.new) result }
-    ensures misses { MissesBy (H.misses shelf.old) (H.misses shelf.new) result }
-    ensures few { TakesAtMost (limits.now.input + 1) (S.left input.old) (S.left input.new) }
-    ensures kept { KeepsInput (S.left input.old) (S.left input.new) result }
-    ensures untouched { IfSome (H.files shelf.old) (λ m. IfRefused (open_file name.now limits.now m) (LeavesInput (S.left input.old) (S.left input.new) (S.faults input.old) (S.faults input.new))) }
-    ensures loads { H.loads shelf.new ≡ next (H.loads shelf.old) }
-    ensures lost { LostBy (H.lost shelf.old) (H.lost shelf.new) result }
-    ensures most { TouchesAtMost (file_touches name.now limits.now) (H.files shelf.old) steps.old steps.new }
+) -> Result<Reply<'a>, Fault>
+    ensures told { PlansBy Means (λ files xs reading. over_events (input_reply name.now agent limits.now xs reading) (open_file name.now limits.now files)) (H.seen shelf.old).files (S.seen input.old).left result }
+    ensures some { IfOk result (λ p. MayReplyTo (table.edit name.now agent) limits.now (reply_view p)) }
+    ensures plan { IfOk result IsTakenReply }
+    ensures same { (H.seen shelf.new).files ≡ (H.seen shelf.old).files }
+    ensures end { ReadsAll (S.seen input.old).left (S.seen input.new).left result }
+    ensures cause { Causes (H.seen shelf.old).faults (H.seen shelf.new).faults (S.seen input.old).faults (S.seen input.new).faults result }
+    ensures misses { MissesBy (H.seen shelf.old).misses (H.seen shelf.new).misses result }
+    ensures few { TakesAtMost (limits.now.input + 1) (S.seen input.old).left (S.seen input.new).left }
+    ensures kept { KeepsInput (S.seen input.old).left (S.seen input.new).left result }
+    ensures untouched { IfSome (H.seen shelf.old).files (λ m. IfRefused (open_file name.now limits.now m) (LeavesInput (S.seen input.old).left (S.seen input.new).left (S.seen input.old).faults (S.seen input.new).faults)) }
+    ensures loads { (H.seen shelf.new).loads ≡ next (H.seen shelf.old).loads }
+    ensures lost { LostBy (H.seen shelf.old).lost (H.seen shelf.new).lost result }
+    ensures most { TouchesAtMost (file_touches name.now limits.now) (H.seen shelf.old).files steps.old steps.new }
 {
     match open(alloc, name, limits, shelf, steps)? {
-        Found::Refused { status, text } => Ok(Plan::Refuses { status, text }),
+        Found::Refused(why) => Ok(Reply::Refuses(why)),
         Found::Open(mut replica) => {
             take_input(alloc, name, agent, limits, &mut replica, input, steps)
         }

@@ -4,8 +4,7 @@ ghost use Rattle.line_plans.specs.Inputs.{input_view, input_of, EndsInput, IsWit
 ghost use Rattle.line_plans.specs.Sources.{SourceCauses};
 ghost use Rattle.command_table.specs.Reads.{TakesAtMost};
 
-use ew_outside::{Failed, Source};
-use opened_files::reply::Stop;
+use ew_outside::{Failed, Fault, Source};
 use std::alloc::Global;
 
 /// The input, or that there is more of it.
@@ -18,12 +17,12 @@ pub enum Input {
 const PIECE: usize = 4096;
 
 /// Reads to the end, but at most one byte more than `most`.
-pub fn read_input<S: Source>(alloc: Global, source: &mut S, most: u32) -> Result<Input, Stop>
-    ensures told { IfSome (S.left source.old) (λ xs. IfOk result (λ i. input_view i ≡ input_of most xs)) }
+pub fn read_input<S: Source>(alloc: Global, source: &mut S, most: u32) -> Result<Input, Fault>
+    ensures told { IfSome (S.seen source.old).left (λ xs. IfOk result (λ i. input_view i ≡ input_of most xs)) }
     ensures short { IfOk result (IsWithin most) }
-    ensures end { EndsInput (S.left source.old) (S.left source.new) result }
-    ensures few { TakesAtMost (most + 1) (S.left source.old) (S.left source.new) }
-    ensures cause { SourceCauses (S.faults source.old) (S.faults source.new) result }
+    ensures end { EndsInput (S.seen source.old).left (S.seen source.new).left result }
+    ensures few { TakesAtMost (most + 1) (S.seen source.old).left (S.seen source.new).left }
+    ensures cause { SourceCauses (S.seen source.old).faults (S.seen source.new).faults result }
 {
     let bound = most as usize;
     let mut bytes = Vec::new(alloc);
@@ -32,7 +31,7 @@ pub fn read_input<S: Source>(alloc: Global, source: &mut S, most: u32) -> Result
         let room = (bound + 1 - bytes.len()).min(PIECE);
         let count = match source.read(&mut buffer[..room]) {
             Ok(count) => count,
-            Err(Failed) => return Err(Stop::SourceFailed),
+            Err(Failed) => return Err(Fault::Source),
         };
         if count == 0 {
             return Ok(Input::Whole(bytes));

@@ -2,7 +2,7 @@
 ghost use Rattle.std.specs.Prelude.{◌≡◌, ◌≢◌, ◌≤◌, ◌+◌, [], ◌∷◌, find, IfOk, IfSome};
 ghost use Rattle.std.specs.List.{list_any};
 ghost use Rattle.std.specs.Option.{option_copied};
-ghost use Rattle.line_plans.specs.Merging.{took_reply, LoadsAll};
+ghost use Rattle.line_plans.specs.Merging.{took_reply};
 ghost use Rattle.command_texts.specs.Told.{took_text};
 ghost use Rattle.command_table.specs.Loads.{File};
 ghost use Rattle.command_table.specs.Possible.{KeepsTo, MayReplyTo};
@@ -12,46 +12,47 @@ ghost use Rattle.ew_model.specs.Limits.{most_file_bytes};
 ghost use Rattle.ew_model.specs.Rounds.{most_touches};
 ghost use Rattle.opened_files.specs.Touches.{TouchesAtMost, file_touches, merge_touches, touches_over};
 ghost use Rattle.peer_exchange.specs.Answering as answering;
-ghost use Rattle.opened_files.specs.Views.{IsCommandPlan, LostBy, MissesBy, ShelfCauses, plan_view, status_of};
-ghost use Rattle.command_table.specs.Reads.{LoadsFront, loads_behind};
+ghost use Rattle.opened_files.specs.Views.{IsTakenReply, LostBy, MissesBy, ShelfCauses, reply_view, reply_status};
+ghost use Rattle.command_table.specs.Reads.{CountsLoads, LoadsFront};
 ghost use Rattle.ew_outside.specs.Counts.{next};
 
 use crate::taking::take;
-use command_texts::texts::{clash_text, received_text, too_many_events_text};
+use command_texts::refusal::Refusal;
+use command_texts::texts::received_text;
 use event_graph::Graph;
 use ew_model::id::Id;
 use ew_model::limits::Limits;
 use ew_model::steps::Steps;
-use ew_model::verdict::Refusal;
-use ew_outside::Shelf;
+use ew_model::verdict;
+use ew_outside::{Fault, Shelf};
 use opened_files::open::{Found, open, open_graph};
-use opened_files::reply::{Plan, Stop};
-use opened_files::store::store_plan;
+use opened_files::reply::Reply;
+use opened_files::store::store_reply;
 use replica::{Replica, Took};
 use std::alloc::{AllocError, Global};
 use std::sync::ledger::Ledger;
 
-fn is_clash(why: Refusal) -> bool
+fn is_clash(why: verdict::Refusal) -> bool
     ensures { result ≡ answering.is_clash why }
 {
-    matches!(why, Refusal::Clash)
+    matches!(why, verdict::Refusal::Clash)
 }
 
-fn is_graph_full(why: Refusal) -> bool
+fn is_graph_full(why: verdict::Refusal) -> bool
     ensures { result ≡ table.is_graph_full why }
 {
-    matches!(why, Refusal::GraphFull)
+    matches!(why, verdict::Refusal::GraphFull)
 }
 
 /// The first refused event that has the id of another.
-fn first_clash(refused: &[(Id, Refusal)]) -> Option<&(Id, Refusal)>
+fn first_clash(refused: &[(Id, verdict::Refusal)]) -> Option<&(Id, verdict::Refusal)>
     ensures { option_copied result ≡ find (λ p. answering.is_clash p.1) refused.now }
 {
     refused.iter().find(|p| is_clash(p.1))
 }
 
 /// Whether an event was refused because the history is full.
-fn any_graph_full(refused: &[(Id, Refusal)]) -> bool
+fn any_graph_full(refused: &[(Id, verdict::Refusal)]) -> bool
     ensures { result ≡ list_any (λ p. table.is_graph_full p.1) refused.now }
 {
     refused.iter().any(|p| is_graph_full(p.1))
@@ -63,16 +64,16 @@ fn received_plan<'a>(
     name: &'a str,
     replica: &Replica,
     took: &Took,
-) -> Result<Plan<'a>, AllocError>
-    ensures told { IfOk result (λ p. plan_view p ≡ received_reply name.now replica.now.held took.now.accepted (took_text took.now)) }
-    ensures plan { IfOk result IsCommandPlan }
-    ensures found { IfOk result (λ p. status_of p ≢ 3) }
+) -> Result<Reply<'a>, AllocError>
+    ensures told { IfOk result (λ p. reply_view p ≡ received_reply name.now replica.now.held took.now.accepted (took_text took.now)) }
+    ensures plan { IfOk result IsTakenReply }
+    ensures found { IfOk result (λ p. reply_status p ≢ 3) }
 {
     let out = received_text(alloc, took)?;
     if took.accepted == 0 {
-        Ok(Plan::Prints(out))
+        Ok(Reply::Prints(out))
     } else {
-        store_plan(alloc, name, replica, out)
+        store_reply(alloc, name, replica, out)
     }
 }
 
@@ -83,22 +84,18 @@ fn took_plan<'a>(
     limits: &Limits,
     replica: &Replica,
     took: &Took,
-) -> Result<Plan<'a>, AllocError>
-    ensures told { IfOk result (λ p. plan_view p ≡ took_reply name.now limits.now replica.now.held took.now) }
-    ensures plan { IfOk result IsCommandPlan }
-    ensures found { IfOk result (λ p. status_of p ≢ 3) }
+) -> Result<Reply<'a>, AllocError>
+    ensures told { IfOk result (λ p. reply_view p ≡ took_reply name.now limits.now replica.now.held took.now) }
+    ensures plan { IfOk result IsTakenReply }
+    ensures found { IfOk result (λ p. reply_status p ≢ 3) }
 {
     if let Some((id, _)) = first_clash(&took.refused) {
-        return Ok(Plan::Refuses {
-            status: 5,
-            text: clash_text(alloc, id)?,
-        });
+        return Ok(Reply::Refuses(Refusal::Clash(*id)));
     }
     if any_graph_full(&took.refused) {
-        return Ok(Plan::Refuses {
-            status: 7,
-            text: too_many_events_text(alloc, limits.events())?,
-        });
+        return Ok(Reply::Refuses(Refusal::TooManyEvents {
+            most: limits.events(),
+        }));
     }
     received_plan(alloc, name, replica, took)
 }
@@ -111,12 +108,12 @@ fn receive<'a, L: Ledger>(
     replica: &mut Replica,
     other: Graph,
     steps: &mut Steps<L>,
-) -> Result<Plan<'a>, AllocError>
+) -> Result<Reply<'a>, AllocError>
     requires limits { replica.old.limits ≡ limits.now }
     requires none_waits { replica.old.waiting ≡ [] }
-    ensures told { IfOk result (λ p. plan_view p ≡ merge_reply name.now limits.now replica.old.held other) }
-    ensures plan { IfOk result IsCommandPlan }
-    ensures found { IfOk result (λ p. status_of p ≢ 3) }
+    ensures told { IfOk result (λ p. reply_view p ≡ merge_reply name.now limits.now replica.old.held other) }
+    ensures plan { IfOk result IsTakenReply }
+    ensures found { IfOk result (λ p. reply_status p ≢ 3) }
     ensures most { steps.new ≤ steps.old + most_touches limits.now replica.old.held [] other }
 {
     let took = take(replica, other, steps)?;
@@ -127,26 +124,26 @@ fn receive<'a, L: Ledger>(
 fn take_other<'a, H: Shelf, L: Ledger>(
     alloc: Global,
     name: &'a str,
-    other: &str,
+    other: &'a str,
     limits: &Limits,
     replica: &mut Replica,
     shelf: &mut H,
     steps: &mut Steps<L>,
-) -> Result<Plan<'a>, Stop>
+) -> Result<Reply<'a>, Fault>
     requires limits { replica.old.limits ≡ limits.now }
     requires none_waits { replica.old.waiting ≡ [] }
-    ensures told { IfSome (H.files shelf.old) (λ m. IfOk result (λ p. plan_view p ≡ over_events (merge_reply name.now limits.now replica.old.held) (open_file other.now limits.now m))) }
-    ensures some { IfOk result (λ p. (file : File) × (plan_view p ≡ over_events (merge_reply name.now limits.now replica.old.held) (opened_as other.now limits.now file)) × KeepsTo (most_file_bytes limits.now.events) file) }
-    ensures plan { IfOk result IsCommandPlan }
-    ensures same { H.files shelf.new ≡ H.files shelf.old }
-    ensures cause { ShelfCauses (H.faults shelf.old) (H.faults shelf.new) result }
-    ensures misses { MissesBy (H.misses shelf.old) (H.misses shelf.new) result }
-    ensures loads { H.loads shelf.new ≡ next (H.loads shelf.old) }
-    ensures lost { LostBy (H.lost shelf.old) (H.lost shelf.new) result }
-    ensures most { TouchesAtMost (λ m. merge_touches other.now limits.now m replica.old.held) (H.files shelf.old) steps.old steps.new }
+    ensures told { IfSome (H.seen shelf.old).files (λ m. IfOk result (λ p. reply_view p ≡ over_events (merge_reply name.now limits.now replica.old.held) (open_file other.now limits.now m))) }
+    ensures some { IfOk result (λ p. (file : File) × (reply_view p ≡ over_events (merge_reply name.now limits.now replica.old.held) (opened_as other.now limits.now file)) × KeepsTo (most_file_bytes limits.now.events) file) }
+    ensures plan { IfOk result IsTakenReply }
+    ensures same { (H.seen shelf.new).files ≡ (H.seen shelf.old).files }
+    ensures cause { ShelfCauses (H.seen shelf.old).faults (H.seen shelf.new).faults result }
+    ensures misses { MissesBy (H.seen shelf.old).misses (H.seen shelf.new).misses result }
+    ensures loads { (H.seen shelf.new).loads ≡ next (H.seen shelf.old).loads }
+    ensures lost { LostBy (H.seen shelf.old).lost (H.seen shelf.new).lost result }
+    ensures most { TouchesAtMost (λ m. merge_touches other.now limits.now m replica.old.held) (H.seen shelf.old).files steps.old steps.new }
 {
     match open_graph(alloc, other, limits, shelf, steps)? {
-        Found::Refused { status, text } => Ok(Plan::Refuses { status, text }),
+        Found::Refused(why) => Ok(Reply::Refuses(why)),
         Found::Open(other) => {
             let plan = receive(alloc, name, limits, replica, other, steps)?;
             Ok(plan)
@@ -158,24 +155,24 @@ fn take_other<'a, H: Shelf, L: Ledger>(
 pub fn merge<'a, H: Shelf, L: Ledger>(
     alloc: Global,
     name: &'a str,
-    other: &str,
+    other: &'a str,
     limits: &Limits,
     shelf: &mut H,
     steps: &mut Steps<L>,
-) -> Result<Plan<'a>, Stop>
-    ensures told { IfSome (H.files shelf.old) (λ m. IfOk result (λ p. plan_view p ≡ over_both (merge_reply name.now limits.now) (open_file name.now limits.now m) (open_file other.now limits.now m))) }
-    ensures some { IfOk result (λ p. MayReplyTo (table.merge name.now other.now) limits.now (plan_view p)) }
-    ensures plan { IfOk result IsCommandPlan }
-    ensures same { H.files shelf.new ≡ H.files shelf.old }
-    ensures cause { ShelfCauses (H.faults shelf.old) (H.faults shelf.new) result }
-    ensures misses { MissesBy (H.misses shelf.old) (H.misses shelf.new) result }
-    ensures front { LoadsFront (name.now ∷ other.now ∷ []) (H.loads shelf.old) (H.loads shelf.new) }
-    ensures loads { LoadsAll (λ m. loads_behind name.now other.now (open_file name.now limits.now m)) (H.files shelf.old) (H.loads shelf.old) (H.loads shelf.new) result }
-    ensures lost { LostBy (H.lost shelf.old) (H.lost shelf.new) result }
-    ensures most { TouchesAtMost (λ m. file_touches name.now limits.now m + touches_over (merge_touches other.now limits.now m) (open_file name.now limits.now m)) (H.files shelf.old) steps.old steps.new }
+) -> Result<Reply<'a>, Fault>
+    ensures told { IfSome (H.seen shelf.old).files (λ m. IfOk result (λ p. reply_view p ≡ over_both (merge_reply name.now limits.now) (open_file name.now limits.now m) (open_file other.now limits.now m))) }
+    ensures some { IfOk result (λ p. MayReplyTo (table.merge name.now other.now) limits.now (reply_view p)) }
+    ensures plan { IfOk result IsTakenReply }
+    ensures same { (H.seen shelf.new).files ≡ (H.seen shelf.old).files }
+    ensures cause { ShelfCauses (H.seen shelf.old).faults (H.seen shelf.new).faults result }
+    ensures misses { MissesBy (H.seen shelf.old).misses (H.seen shelf.new).misses result }
+    ensures front { LoadsFront (name.now ∷ other.now ∷ []) (H.seen shelf.old).loads (H.seen shelf.new).loads }
+    ensures loads { IfOk result (λ p. CountsLoads (name.now ∷ other.now ∷ []) limits.now (H.seen shelf.old).files (H.seen shelf.old).loads (H.seen shelf.new).loads) }
+    ensures lost { LostBy (H.seen shelf.old).lost (H.seen shelf.new).lost result }
+    ensures most { TouchesAtMost (λ m. file_touches name.now limits.now m + touches_over (merge_touches other.now limits.now m) (open_file name.now limits.now m)) (H.seen shelf.old).files steps.old steps.new }
 {
     match open(alloc, name, limits, shelf, steps)? {
-        Found::Refused { status, text } => Ok(Plan::Refuses { status, text }),
+        Found::Refused(why) => Ok(Reply::Refuses(why)),
         Found::Open(mut replica) => {
             take_other(alloc, name, other, limits, &mut replica, shelf, steps)
         }

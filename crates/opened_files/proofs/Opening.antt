@@ -14,7 +14,7 @@ use Rattle.opened_files.specs.declared.open.Found.TheVariants as found
 -- bytes that were read are what the shelf has
 pub loaded_whole : (name : Text) (limits : LimitNumbers) (bytes : List ℕ) (f : Found Given) → IsReadAs name limits (file_finding limits.events bytes) f → IsLoadedAs name limits (whole bytes) f
 loaded_whole name limits bytes (found.Open given) read = (bytes, refl, read.0, read.1)
-loaded_whole name limits bytes (found.Refused status text) read = (read.0, ⊎_elim (λ four. inr (inl four)) (λ seven. inr (inr (inr seven))) read.1)
+loaded_whole name limits bytes (found.Refused why) read = (read.0, ⊎_elim (λ four. inr (inl four)) (λ seven. inr (inr (inr seven))) read.1)
 
 -- a file whose events were given is opened by how these are judged
 pub opened_given : (name : Text) (limits : LimitNumbers) (file : File) (given : Given) → IsLoadedAs name limits file (found.Open given) → (o : Opened)

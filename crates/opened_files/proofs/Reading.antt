@@ -5,12 +5,12 @@ use Rattle.std.specs.Io.KnownBytes.{Consumes, Keeps}
 use Rattle.ew_model.specs.declared.event.Event.{Event}
 use Rattle.ew_model.specs.Limits.{LimitNumbers}
 use Rattle.ew_outside.specs.Files.{Files}
-use Rattle.command_table.specs.Reads.{TakesAtMost, IfRefused, IfEditRefused}
-use Rattle.command_table.specs.Table.{Text, Command, create, edit, show, merge, make, net, Opened, opened, refused, open_file}
+use Rattle.command_table.specs.Reads.{TakesAtMost, IfRefused}
+use Rattle.command_table.specs.Table.{Text, Opened, opened, refused, open_file}
 
-if_refused : (o : Opened) (holds : Type 0) → holds → IfRefused o holds
+pub if_refused : (o : Opened) (holds : Type 0) → holds → IfRefused o holds
 if_refused (opened events) holds h = tt
-if_refused (refused status text) holds h = h
+if_refused (refused why) holds h = h
 
 -- where it holds anyway
 pub holds_refused : (name : Text) (limits : LimitNumbers) (files : Option Files) (holds : Type 0) → holds → IfSome files (λ m. IfRefused (open_file name limits m) holds)
@@ -22,16 +22,6 @@ pub open_not_refused : (name : Text) (limits : LimitNumbers) (held : List Event)
     → IfSome files (λ m. IfRefused (open_file name limits m) holds)
 open_not_refused name limits held (Some m) holds is = subst (λ o. IfRefused o holds) is tt
 open_not_refused name limits held None holds is = tt
-
-pub holds_edit_refused : (l : Option Command) (limits : LimitNumbers) (files : Option Files) (holds : Type 0) → holds → IfSome files (λ m. IfEditRefused l limits m holds)
-holds_edit_refused (Some (create name)) limits (Some m) holds h = tt
-holds_edit_refused (Some (edit name agent)) limits (Some m) holds h = if_refused (open_file name limits m) holds h
-holds_edit_refused (Some (show listing name)) limits (Some m) holds h = tt
-holds_edit_refused (Some (merge name other)) limits (Some m) holds h = tt
-holds_edit_refused (Some (make seed count)) limits (Some m) holds h = tt
-holds_edit_refused (Some net) limits (Some m) holds h = tt
-holds_edit_refused None limits (Some m) holds h = tt
-holds_edit_refused l limits None holds h = tt
 
 pub takes_none : (most : ℕ) (old new : Option (List ℕ)) → new ≡ old → TakesAtMost most old new
 takes_none most (Some input) new same = (0, omega arith, same)

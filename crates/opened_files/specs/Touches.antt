@@ -31,7 +31,7 @@ file_touches name limits files = load_touches limits (whole_of (most_file_bytes 
 -- none behind a file that is refused
 abbrev pub touches_over : (List Event → ℕ) → Opened → ℕ
 touches_over count (opened events) = count events
-touches_over count (refused status text) = 0
+touches_over count (refused why) = 0
 
 -- a past text is walked over its version's events, and a replay over all
 abbrev pub listing_touches : Listing → List Event → ℕ
@@ -49,13 +49,12 @@ TouchesAtMost most (Some files) before now = now ≤ before + most files
 TouchesAtMost most None before now = ⊤
 
 -- a run of a command takes no more: an edit walks nothing but the load, and of a net no number is claimed
-abbrev pub CommandTakes : Option Command → LimitNumbers → Option Files → ℕ → ℕ → Type 0
-CommandTakes (Some (create name)) limits files before now = TouchesAtMost (λ m. 0) files before now
-CommandTakes (Some (edit name agent)) limits files before now = TouchesAtMost (file_touches name limits) files before now
-CommandTakes (Some (show listing name)) limits files before now =
+abbrev pub CommandTakes : Command → LimitNumbers → Option Files → ℕ → ℕ → Type 0
+CommandTakes (create name) limits files before now = TouchesAtMost (λ m. 0) files before now
+CommandTakes (edit name agent) limits files before now = TouchesAtMost (file_touches name limits) files before now
+CommandTakes (show listing name) limits files before now =
     TouchesAtMost (λ m. file_touches name limits m + touches_over (listing_touches listing) (open_file name limits m)) files before now
-CommandTakes (Some (merge name other)) limits files before now =
+CommandTakes (merge name other) limits files before now =
     TouchesAtMost (λ m. file_touches name limits m + touches_over (merge_touches other limits m) (open_file name limits m)) files before now
-CommandTakes (Some (make seed count)) limits files before now = TouchesAtMost (λ m. made_touches limits seed count) files before now
-CommandTakes (Some net) limits files before now = ⊤
-CommandTakes None limits files before now = TouchesAtMost (λ m. 0) files before now
+CommandTakes (make seed count) limits files before now = TouchesAtMost (λ m. made_touches limits seed count) files before now
+CommandTakes net limits files before now = ⊤

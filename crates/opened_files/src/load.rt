@@ -28,13 +28,13 @@ fn is_above(bytes: &[u8], most: u64) -> bool
 /// Loads a file of at most `most` bytes.
 pub fn load_whole<H: Shelf>(shelf: &mut H, name: &str, most: u64) -> Result<Loaded, ShelfFault>
     requires { most < 2 ^ 62 }
-    ensures told { IfSome (H.files shelf.old) (λ m. IfOk result (λ l. loaded_view l ≡ whole_of most (get m name.now))) }
+    ensures told { IfSome (H.seen shelf.old).files (λ m. IfOk result (λ l. loaded_view l ≡ whole_of most (get m name.now))) }
     ensures short { IfOk result (λ l. KeepsTo most (loaded_view l)) }
-    ensures same { H.files shelf.new ≡ H.files shelf.old }
-    ensures cause { CountsFaults (H.faults shelf.old) (H.faults shelf.new) result }
-    ensures misses { LoadMisses (H.misses shelf.old) (H.misses shelf.new) result }
-    ensures loads { H.loads shelf.new ≡ next (H.loads shelf.old) }
-    ensures lost { CountsFaults (H.lost shelf.old) (H.lost shelf.new) result }
+    ensures same { (H.seen shelf.new).files ≡ (H.seen shelf.old).files }
+    ensures cause { CountsFaults (H.seen shelf.old).faults (H.seen shelf.new).faults result }
+    ensures misses { LoadMisses (H.seen shelf.old).misses (H.seen shelf.new).misses result }
+    ensures loads { (H.seen shelf.new).loads ≡ next (H.seen shelf.old).loads }
+    ensures lost { CountsFaults (H.seen shelf.old).lost (H.seen shelf.new).lost result }
 {
     match shelf.load(name, most as usize)? {
         None => Ok(Loaded::Missing),

@@ -1,10 +1,10 @@
-//! Plans that store the events of a replica.
+//! Replies that store the events of a replica.
 ghost use Rattle.std.specs.Prelude.{◌≡◌, ◌≢◌, IfOk};
 ghost use Rattle.ew_model.specs.File.{file_of};
 ghost use Rattle.command_table.specs.Table.{stores};
-ghost use Rattle.opened_files.specs.Views.{IsCommandPlan, plan_view, status_of};
+ghost use Rattle.opened_files.specs.Views.{IsTakenReply, reply_status, reply_view};
 
-use crate::reply::Plan;
+use crate::reply::Reply;
 use crate::written::written;
 use replica::Replica;
 use std::alloc::{AllocError, Global};
@@ -18,16 +18,16 @@ fn file_bytes(alloc: Global, replica: &Replica) -> Result<Vec<u8>, AllocError>
 }
 
 /// Stores a replica's events and prints a text.
-pub fn store_plan<'a>(
+pub fn store_reply<'a>(
     alloc: Global,
     name: &'a str,
     replica: &Replica,
     out: Vec<u8>,
-) -> Result<Plan<'a>, AllocError>
-    ensures told { IfOk result (λ p. plan_view p ≡ stores out.items name.now (file_of replica.now.held)) }
-    ensures plan { IfOk result IsCommandPlan }
-    ensures found { IfOk result (λ p. status_of p ≢ 3) }
+) -> Result<Reply<'a>, AllocError>
+    ensures told { IfOk result (λ p. reply_view p ≡ stores out.items name.now (file_of replica.now.held)) }
+    ensures plan { IfOk result IsTakenReply }
+    ensures found { IfOk result (λ p. reply_status p ≢ 3) }
 {
     let bytes = file_bytes(alloc, replica)?;
-    Ok(Plan::Stores { out, name, bytes })
+    Ok(Reply::Stores { out, name, bytes })
 }

@@ -13,10 +13,10 @@ use Rattle.peer_frames.specs.Cutting.Front.{Whole}
 use Rattle.peer_exchange.specs.Answering.{Answered, answer_to}
 use Rattle.peer_exchange.specs.declared.reply.End.{End}
 use Rattle.peer_exchange.specs.declared.reply.End.TheVariants as end
-use Rattle.command_table.specs.Outputs.{GrowsByFront}
+use Rattle.ew_outside.specs.Outputs.{GrowsByFront}
 use Rattle.command_table.specs.Sessions.{Exchange, exchanged, then_exchanged, bytes_of}
 use Rattle.serve_plans.specs.Serving.{sent_by, sent_of, Replies, StaysOrFlushed, Spoken, Closes, Closed, Broken, AnswersAll, IsByFrame}
-use Rattle.serve_plans.specs.declared.halt.Halt.{Halt}
+use Rattle.ew_outside.specs.declared.fault.Fault.{Fault}
 use Rattle.serve_plans.specs.declared.closing.Closing.{Closing}
 use Rattle.serve_plans.specs.declared.closing.Closing.TheVariants as closing
 use Rattle.serve_plans.proofs.Cutting.{begins_one, frame_takes}
@@ -71,11 +71,11 @@ module _ (limits : LimitNumbers) (r now : ReplicaState) (bytes : List ℕ) (f : 
   pub broken_one : GrowsByFront out out' (sent_of a a.end) → Broken limits r bytes out out'
   broken_one h = record { frames = f ∷ []; rest = rest; begins = begins_one limits bytes f rest found; breaks = subst (GrowsByFront out out') (sym (sent_one a a.end)) h }
 
-ok_is_not : (o : Option Closing) → IsErr {T = Option Closing} {E = Halt} (Ok o) → ⊥
+ok_is_not : (o : Option Closing) → IsErr {T = Option Closing} {E = Fault} (Ok o) → ⊥
 ok_is_not o h = absurd (let t : false ≡ true = h in cc)
 
 -- no frame was answered
-pub replies_none : (a : Answered) (now : ReplicaState) (out : Option (List ℕ)) (flushed : Option ℕ) (r : Result (Option Closing) Halt) → IsErr r
+pub replies_none : (a : Answered) (now : ReplicaState) (out : Option (List ℕ)) (flushed : Option ℕ) (r : Result (Option Closing) Fault) → IsErr r
     → Replies a now out out flushed flushed r
 replies_none a now out flushed (Ok o) h = absurd (ok_is_not o h)
 replies_none a now out flushed (Err halt) h = grows_none out (sent_of a a.end)
@@ -115,7 +115,7 @@ module _ (limits kept : LimitNumbers) (start mid now : ReplicaState) (bytes rest
         by_frame (answer_to mid f) now out' out'' flushed' flushed'' c told,
       )
 
-  pub broken_next : (number : ℕ) (r : Result (Option Closing) Halt) → IsErr r → GrowsByFront out' out'' (sent_of (answer_to mid f) (answer_to mid f).end)
+  pub broken_next : (number : ℕ) (r : Result (Option Closing) Fault) → IsErr r → GrowsByFront out' out'' (sent_of (answer_to mid f) (answer_to mid f).end)
       → AnswersAll limits start now bytes tail out out'' flushed flushed'' before number r
   broken_next number (Ok o) err h = absurd (ok_is_not o err)
   broken_next number (Err halt) err h = broken_on limits start mid bytes rest out out' flushed flushed' before after s out''
@@ -129,7 +129,7 @@ found_next limits bytes kept f r o is some found = subst (λ x. IfSome (said x k
 
 -- what was taken is behind what was
 pub answers_grow : (limits : LimitNumbers) (start now : ReplicaState) (bytes rest : List ℕ) (out out' : Option (List ℕ)) (flushed flushed' : Option ℕ)
-    (before number : ℕ) (r : Result (Option Closing) Halt)
+    (before number : ℕ) (r : Result (Option Closing) Fault)
     → AnswersAll limits start now bytes rest out out' flushed flushed' before number r → (more : List ℕ) × Appends out out' more
 answers_grow limits start now bytes rest out out' flushed flushed' before number (Ok None) h = ((exchanged start h.0.frames).sent, h.0.sent)
 answers_grow limits start now bytes rest out out' flushed flushed' before number (Ok (Some c)) h =

@@ -15,12 +15,12 @@ use Rattle.peer_frames.proofs.Cuts.{faults_stay}
 use Rattle.peer_exchange.specs.declared.reply.End.{End}
 use Rattle.peer_exchange.specs.declared.reply.End.TheVariants as end
 use Rattle.ew_outside.specs.Bytes.{IsFlushed}
-use Rattle.command_table.specs.Outputs.{Sends}
+use Rattle.ew_outside.specs.Outputs.{Sends}
 use Rattle.command_table.specs.Framings.{BeginWith, Framing, IsFramingOf}
 use Rattle.command_table.specs.Sessions.{Exchange, exchanged, opened_state, Session, served_by, served_from, closed_reply, stop_refusal, refusal_at_end, or_closed}
 use Rattle.command_table.specs.Table.{Text, Reply, refuses}
-use Rattle.command_table.specs.Text.{bad_body, bad_kind, frame_too_long, input_too_long, frame_cut}
-use Rattle.serve_plans.specs.Plans.{ClosesAs, fault_text}
+use Rattle.command_table.specs.Refusals.{Refusal, refusal_status, bad_body, bad_kind, frame_too_long, input_too_long, frame_cut}
+use Rattle.serve_plans.specs.Plans.{ClosesAs, frame_refusal}
 use Rattle.serve_plans.specs.Serving.{FaultFound, Closes, sent_by}
 use Rattle.serve_plans.specs.declared.closing.Closing.{Closing}
 use Rattle.serve_plans.specs.declared.closing.Closing.TheVariants as closing
@@ -78,6 +78,13 @@ module _ (name : Text) (limits : LimitNumbers) (events : List Event) (input : Li
       ∙ talked_ended (opened_state limits events) frames more e ended in
       ap (λ (s : Exchange). served_by name limits input x before s s.end) same ∙ ap (λ o. served_by name limits input x before t o) ended
 
+-- no frame is refused with another status than 5
+pub bad_frame : (number : ℕ) (why : FrameFault) (told_as : Refusal) → frame_refusal number why ≡ Some told_as → refusal_status told_as ≡ 5
+bad_frame number (fault.BadKind kind) told_as is = sym (ap refusal_status (some_is (bad_kind number kind) told_as is))
+bad_frame number (fault.TooLong len) told_as is = sym (ap refusal_status (some_is (frame_too_long number len) told_as is))
+bad_frame number fault.BadBody told_as is = sym (ap refusal_status (some_is (bad_body number) told_as is))
+bad_frame number fault.OutOfMemory told_as is = absurd cc
+
 pub take_none : (k : ℕ) (xs : List ℕ) → xs ≡ [] → take k xs ≡ []
 take_none zero xs e = refl
 take_none (suc k) [] e = refl
@@ -119,40 +126,40 @@ module _ (name : Text) (limits : LimitNumbers) (events : List Event) (now : Repl
       let is = one Partial (subst (λ bs. Finds limits bs Partial) (sym whole) found) refl in
       (is.0, is.1 ∙ whole, is.2)
 
-  bad_kind_served : (kind number : ℕ) (text : Text) → said.end ≡ None → Sends out out' flushed said.sent → number ≡ suc (length frames)
-      → Finds limits rest (BadKind kind) → fault_text number (fault.BadKind kind) ≡ Some text → reply ≡ refuses 5 text → IsServedAs all out out' flushed reply
-  bad_kind_served kind number text ended sent count found told planned =
+  bad_kind_served : (kind number : ℕ) (told_as : Refusal) → said.end ≡ None → Sends out out' flushed said.sent → number ≡ suc (length frames)
+      → Finds limits rest (BadKind kind) → frame_refusal number (fault.BadKind kind) ≡ Some told_as → reply ≡ refuses told_as → IsServedAs all out out' flushed reply
+  bad_kind_served kind number told_as ended sent count found told planned =
       let is = one (BadKind kind) (faults_stay limits rest left (BadKind kind) refl found) refl in
       served_as_is all _ out out' flushed reply (same_cut name limits events (read ++ more) x frames (rest ++ left) (BadKind kind) is.0 is.1 is.2 ended)
-      (planned ∙ ap (refuses 5) (sym (some_is (bad_kind number kind) text told) ∙ ap (λ n. bad_kind n kind) count)) sent
+      (planned ∙ ap refuses (sym (some_is (bad_kind number kind) told_as told) ∙ ap (λ n. bad_kind n kind) count)) sent
 
-  too_long_served : (len number : ℕ) (text : Text) → said.end ≡ None → Sends out out' flushed said.sent → number ≡ suc (length frames)
-      → Finds limits rest (TooLong len) → fault_text number (fault.TooLong len) ≡ Some text → reply ≡ refuses 5 text → IsServedAs all out out' flushed reply
-  too_long_served len number text ended sent count found told planned =
+  too_long_served : (len number : ℕ) (told_as : Refusal) → said.end ≡ None → Sends out out' flushed said.sent → number ≡ suc (length frames)
+      → Finds limits rest (TooLong len) → frame_refusal number (fault.TooLong len) ≡ Some told_as → reply ≡ refuses told_as → IsServedAs all out out' flushed reply
+  too_long_served len number told_as ended sent count found told planned =
       let is = one (TooLong len) (faults_stay limits rest left (TooLong len) refl found) refl in
       served_as_is all _ out out' flushed reply (same_cut name limits events (read ++ more) x frames (rest ++ left) (TooLong len) is.0 is.1 is.2 ended)
-      (planned ∙ ap (refuses 5) (sym (some_is (frame_too_long number len) text told) ∙ ap (λ n. frame_too_long n len) count)) sent
+      (planned ∙ ap refuses (sym (some_is (frame_too_long number len) told_as told) ∙ ap (λ n. frame_too_long n len) count)) sent
 
-  bad_body_served : (number : ℕ) (text : Text) → said.end ≡ None → Sends out out' flushed said.sent → number ≡ suc (length frames) → Finds limits rest BadBody
-      → fault_text number fault.BadBody ≡ Some text → reply ≡ refuses 5 text → IsServedAs all out out' flushed reply
-  bad_body_served number text ended sent count found told planned =
+  bad_body_served : (number : ℕ) (told_as : Refusal) → said.end ≡ None → Sends out out' flushed said.sent → number ≡ suc (length frames) → Finds limits rest BadBody
+      → frame_refusal number fault.BadBody ≡ Some told_as → reply ≡ refuses told_as → IsServedAs all out out' flushed reply
+  bad_body_served number told_as ended sent count found told planned =
       let is = one BadBody (faults_stay limits rest left BadBody refl found) refl in
       served_as_is all _ out out' flushed reply (same_cut name limits events (read ++ more) x frames (rest ++ left) BadBody is.0 is.1 is.2 ended)
-      (planned ∙ ap (refuses 5) (sym (some_is (bad_body number) text told) ∙ ap bad_body count)) sent
+      (planned ∙ ap refuses (sym (some_is (bad_body number) told_as told) ∙ ap bad_body count)) sent
 
-  fault_served : (why : FrameFault) (number : ℕ) (text : Text) → said.end ≡ None → Sends out out' flushed said.sent → number ≡ suc (length frames)
-      → FaultFound limits rest why → fault_text number why ≡ Some text → reply ≡ refuses 5 text → IsServedAs all out out' flushed reply
-  fault_served (fault.BadKind kind) number text ended sent count found told planned = bad_kind_served kind number text ended sent count found told planned
-  fault_served (fault.TooLong len) number text ended sent count found told planned = too_long_served len number text ended sent count found told planned
-  fault_served fault.BadBody number text ended sent count found told planned = bad_body_served number text ended sent count found told planned
-  fault_served fault.OutOfMemory number text ended sent count found told planned = absurd cc
+  fault_served : (why : FrameFault) (number : ℕ) (told_as : Refusal) → said.end ≡ None → Sends out out' flushed said.sent → number ≡ suc (length frames)
+      → FaultFound limits rest why → frame_refusal number why ≡ Some told_as → reply ≡ refuses told_as → IsServedAs all out out' flushed reply
+  fault_served (fault.BadKind kind) number told_as ended sent count found told planned = bad_kind_served kind number told_as ended sent count found told planned
+  fault_served (fault.TooLong len) number told_as ended sent count found told planned = too_long_served len number told_as ended sent count found told planned
+  fault_served fault.BadBody number told_as ended sent count found told planned = bad_body_served number told_as ended sent count found told planned
+  fault_served fault.OutOfMemory number told_as ended sent count found told planned = absurd cc
 
   -- the input isn't too long, and ends within a frame
   cut_refusal : (bs : List ℕ) (b : Bool) (count : ℕ) → (bs ≡ [] → ⊥) → b ≡ false
-      → or_closed (if b then Some (refuses 7 (input_too_long limits.input)) else refusal_at_end bs count)
-      (closed_reply name (length events) [] said.state.held) ≡ refuses 5 (frame_cut count)
+      → or_closed (if b then Some (refuses (input_too_long limits.input)) else refusal_at_end bs count)
+      (closed_reply name (length events) [] said.state.held) ≡ refuses (frame_cut count)
   cut_refusal [] b count some few = absurd (some refl)
-  cut_refusal (y ∷ bs) b count some few = ap (λ c. or_closed (if c then Some (refuses 7 (input_too_long limits.input)) else refusal_at_end (y ∷ bs) count)
+  cut_refusal (y ∷ bs) b count some few = ap (λ c. or_closed (if c then Some (refuses (input_too_long limits.input)) else refusal_at_end (y ∷ bs) count)
       (closed_reply name (length events) [] said.state.held)) few
 
   not_long : more ≡ [] → nat_lt limits.input (length (read ++ more)) ≡ false
@@ -172,14 +179,14 @@ module _ (name : Text) (limits : LimitNumbers) (events : List Event) (now : Repl
   closes_served (closing.CutFrame number) behind h planned =
       let is = one_partial (take_none (limits.input - length read) more behind) h.3 in
       served_as_is all _ out out' flushed reply (same_cut name limits events (read ++ more) x frames rest Partial is.0 is.1 is.2 h.0)
-      (planned ∙ ap (λ n. refuses 5 (frame_cut n)) h.2 ∙ sym
+      (planned ∙ ap (λ n. refuses (frame_cut n)) h.2 ∙ sym
       (cut_refusal rest (nat_lt limits.input (length (read ++ more))) (suc (length frames)) h.4 (not_long behind)))
       (sends said.sent h.1 (ap (sent_by said) h.0))
   closes_served closing.End behind h planned =
       let is = one_partial (take_none (limits.input - length read) more behind) h.3 in
       served_as_is all _ out out' flushed reply (same_cut name limits events (read ++ more) x frames [] Partial is.0 (is.1 ∙ h.4) is.2 h.0)
       (planned ∙ ap (λ (r : ReplicaState). closed_reply name (length events) [] r.held) (sym h.2)
-      ∙ sym (ap (λ b. or_closed (if b then Some (refuses 7 (input_too_long limits.input)) else refusal_at_end [] (suc (length frames)))
+      ∙ sym (ap (λ b. or_closed (if b then Some (refuses (input_too_long limits.input)) else refusal_at_end [] (suc (length frames)))
       (closed_reply name (length events) [] said.state.held)) (not_long behind))) (sends said.sent h.1 (ap (sent_by said) h.0))
   closes_served closing.TooLong behind h planned =
       let full : limits.input - length read ≡ 0 = omega (arith, behind.0) in
@@ -187,5 +194,5 @@ module _ (name : Text) (limits : LimitNumbers) (events : List Event) (now : Repl
       let long : nat_lt limits.input (length (read ++ more)) ≡ true =
       lt-ltb limits.input (length (read ++ more)) (omega (arith, behind.0, behind.1, length-append read more)) in
       served_as_is all _ out out' flushed reply (same_cut name limits events (read ++ more) x frames rest Partial is.0 is.1 is.2 h.0)
-      (planned ∙ sym (ap (λ b. or_closed (if b then Some (refuses 7 (input_too_long limits.input)) else refusal_at_end rest (suc (length frames)))
+      (planned ∙ sym (ap (λ b. or_closed (if b then Some (refuses (input_too_long limits.input)) else refusal_at_end rest (suc (length frames)))
       (closed_reply name (length events) [] said.state.held)) long)) (sends said.sent h.1 (ap (sent_by said) h.0))

@@ -20,18 +20,19 @@ use Rattle.peer_exchange.specs.declared.reply.End.TheVariants as end
 use Rattle.command_table.specs.Framings.{BeginWith, Framing, IsFramingOf}
 use Rattle.command_table.specs.Reads.{TakesAtMost}
 use Rattle.command_table.specs.Sessions.{Exchange, exchanged, then_exchanged, is_bye}
+use Rattle.command_table.specs.Refusals.{Refusal, refusal_status}
 use Rattle.command_table.specs.Table.{Text, prints, stores, refuses}
 use Rattle.opened_files.proofs.Reading.{takes_few, takes_none}
-use Rattle.opened_files.specs.declared.reply.Plan.{Plan}
-use Rattle.opened_files.specs.declared.reply.Plan.TheVariants as plan
-use Rattle.opened_files.specs.Views.{plan_view, status_of}
-use Rattle.serve_plans.specs.declared.halt.Halt.{Halt}
+use Rattle.opened_files.specs.declared.reply.Reply as code
+use Rattle.opened_files.specs.declared.reply.Reply.TheVariants as reply_is
+use Rattle.opened_files.specs.Views.{reply_view, reply_status}
+use Rattle.ew_outside.specs.declared.fault.Fault.{Fault}
 use Rattle.serve_plans.specs.declared.closing.Closing.{Closing}
 use Rattle.serve_plans.specs.declared.closing.Closing.TheVariants as closing
 use Rattle.serve_plans.specs.Plans.{ClosesAs, ReadsAll, ReadsNone, ReadsWithin}
 use Rattle.serve_plans.specs.Serving.{Closed, IsSpent, MayBeRead, ReadsTo, PlansTalk}
 use Rattle.serve_plans.proofs.Cutting.{begins_goes_on, begins_more}
-use Rattle.serve_plans.proofs.Closings.{cut_of}
+use Rattle.serve_plans.proofs.Closings.{bad_frame, cut_of}
 
 -- ---- a Bye
 
@@ -72,13 +73,13 @@ nothing_left : (input read : List ℕ) (left : Option (List ℕ)) → Consumes (
 nothing_left input read None taken none = absurd taken
 nothing_left input read (Some rest) taken none = ap Some none
 
-refused_status : (p : Plan) (status : ℕ) (text : Text) → plan_view p ≡ refuses status text → status_of p ≡ status
-refused_status (plan.Prints out) status text h = absurd cc
-refused_status (plan.Stores out name bytes) status text h = absurd cc
-refused_status (plan.Refuses n t) status text h = cc
+refused_status : (p : code.Reply) (why : Refusal) → reply_view p ≡ refuses why → reply_status p ≡ refusal_status why
+refused_status (reply_is.Prints out) why h = absurd cc
+refused_status (reply_is.Stores out name bytes) why h = absurd cc
+refused_status (reply_is.Refuses x) why h = cc
 
-not_well : (p : Plan) (status : ℕ) (text : Text) → plan_view p ≡ refuses status text → 0 < status → status_of p ≡ 0 → ⊥
-not_well p status text told some well = absurd (omega (arith, refused_status p status text told, some, well))
+not_well : (p : code.Reply) (why : Refusal) → reply_view p ≡ refuses why → 0 < refusal_status why → reply_status p ≡ 0 → ⊥
+not_well p why told some well = absurd (omega (arith, refused_status p why told, some, well))
 
 not_false : (b : Bool) → b ≡ true → b ≡ false → ⊥
 not_false b h k = absurd cc
@@ -95,15 +96,15 @@ module _ (name : Text) (limits : LimitNumbers) (start : ReplicaState) (input : L
       let goes = begins_goes_on limits (take limits.input input) h.frames x.frames (h.rest ++ behind) x.rest x.stop begins is.begins is.found is.none in
       subst (λ fs. list_any is_bye fs ≡ true) (sym goes.whole) (any_front h.frames goes.more (said_bye start h.frames h.closes.0))
 
-  well_left : (now : ReplicaState) (c : Closing) (p : Plan) (read : List ℕ) → MayBeRead limits read → ReadsTo limits read (Some input) left c
+  well_left : (now : ReplicaState) (c : Closing) (p : code.Reply) (read : List ℕ) → MayBeRead limits read → ReadsTo limits read (Some input) left c
       → Closed limits start now read out out' flushed flushed' 0 c
-      → ClosesAs name limits (length start.held) now.held c (plan_view p) → status_of p ≡ 0 → (x : Framing) → IsFramingOf limits input x
+      → ClosesAs name limits (length start.held) now.held c (reply_view p) → reply_status p ≡ 0 → (x : Framing) → IsFramingOf limits input x
       → list_any is_bye x.frames ≡ false → left ≡ Some []
   well_left now closing.End p read may taken h told well x is none = nothing_left input read left taken.0 taken.1
   well_left now (closing.CutFrame n) p read may taken h told well x is none = nothing_left input read left taken.0 taken.1
-  well_left now (closing.Clash y) p read may taken h told well x is none = absurd (not_well p 5 _ told (omega arith) well)
-  well_left now (closing.BadFrame n why) p read may taken h told well x is none = absurd (not_well p 5 told.0 told.2 (omega arith) well)
-  well_left now closing.TooLong p read may taken h told well x is none = absurd (not_well p 7 _ told (omega arith) well)
+  well_left now (closing.Clash y) p read may taken h told well x is none = absurd (not_well p _ told (omega arith) well)
+  well_left now (closing.BadFrame n why) p read may taken h told well x is none = (let five = bad_frame n why told.0 told.1 in absurd (not_well p told.0 told.2 (omega (arith, five)) well))
+  well_left now closing.TooLong p read may taken h told well x is none = absurd (not_well p _ told (omega arith) well)
   well_left now (closing.Bye bs) p read may taken h told well x is none = absurd (not_false (list_any is_bye x.frames) (said left taken) none)
     where
       said : (l : Option (List ℕ)) → Consumes (Some input) l read → list_any is_bye x.frames ≡ true
@@ -111,7 +112,7 @@ module _ (name : Text) (limits : LimitNumbers) (start : ReplicaState) (input : L
       said (Some rest) t = bye_said now read rest bs x may.short t h is
 
 pub reads_all : (name : Text) (limits : LimitNumbers) (start : ReplicaState) (left left' out out' : Option (List ℕ)) (flushed flushed' : Option ℕ)
-    (r : Result Plan Halt) → PlansTalk name limits start left left' out out' flushed flushed' r
+    (r : Result code.Reply Fault) → PlansTalk name limits start left left' out out' flushed flushed' r
     → ReadsAll limits left left' r
 reads_all name limits start (Some input) left' out out' flushed flushed' (Ok p) t =
     λ well x is none. well_left name limits start input left' out out' flushed flushed' t.0 t.1 p t.2.0 t.2.1 t.2.2 t.2.3 t.3 well x is none
@@ -120,28 +121,28 @@ reads_all name limits start None left' out out' flushed flushed' r t = tt
 
 -- ---- how much was read, by the status
 
-well_status : (p : Plan) (b : Bool) (name : Text) (out bytes : List ℕ) → plan_view p ≡ (if b then stores out name bytes else prints out) → status_of p ≡ 0
-well_status (plan.Prints o) b name out bytes h = refl
-well_status (plan.Stores o n bs) b name out bytes h = refl
-well_status (plan.Refuses n t) true name out bytes h = absurd cc
-well_status (plan.Refuses n t) false name out bytes h = absurd cc
+well_status : (p : code.Reply) (b : Bool) (name : Text) (out bytes : List ℕ) → reply_view p ≡ (if b then stores out name bytes else prints out) → reply_status p ≡ 0
+well_status (reply_is.Prints o) b name out bytes h = refl
+well_status (reply_is.Stores o n bs) b name out bytes h = refl
+well_status (reply_is.Refuses x) true name out bytes h = absurd cc
+well_status (reply_is.Refuses x) false name out bytes h = absurd cc
 
 module _ (name : Text) (limits : LimitNumbers) (before : ℕ) (held : List Event) where
   -- the statuses of a session whose file is open
-  closing_status : (c : Closing) (p : Plan) → ClosesAs name limits before held c (plan_view p) → (status_of p ≡ 0) ⊎ ((status_of p ≡ 5) ⊎ (status_of p ≡ 7))
+  closing_status : (c : Closing) (p : code.Reply) → ClosesAs name limits before held c (reply_view p) → (reply_status p ≡ 0) ⊎ ((reply_status p ≡ 5) ⊎ (reply_status p ≡ 7))
   closing_status closing.End p told = inl (well_status p (nat_lt before (length held)) name [] (file_of held) told)
   closing_status (closing.Bye bytes) p told = inl (well_status p (nat_lt before (length held)) name bytes.items (file_of held) told)
-  closing_status (closing.Clash x) p told = inr (inl (refused_status p 5 _ told))
-  closing_status (closing.BadFrame n why) p told = inr (inl (refused_status p 5 told.0 told.2))
-  closing_status (closing.CutFrame n) p told = inr (inl (refused_status p 5 _ told))
-  closing_status closing.TooLong p told = inr (inr (refused_status p 7 _ told))
+  closing_status (closing.Clash x) p told = inr (inl (refused_status p _ told))
+  closing_status (closing.BadFrame n why) p told = inr (inl (refused_status p told.0 told.2 ∙ bad_frame n why told.0 told.1))
+  closing_status (closing.CutFrame n) p told = inr (inl (refused_status p _ told))
+  closing_status closing.TooLong p told = inr (inr (refused_status p _ told))
 
-  taken_within : (read : List ℕ) (left left' : Option (List ℕ)) (c : Closing) (p : Plan) → length read ≤ limits.input → ReadsTo limits read left left' c
-      → ClosesAs name limits before held c (plan_view p) → (status_of p ≡ 0) ⊎ (status_of p ≡ 5) → TakesAtMost limits.input left left'
+  taken_within : (read : List ℕ) (left left' : Option (List ℕ)) (c : Closing) (p : code.Reply) → length read ≤ limits.input → ReadsTo limits read left left' c
+      → ClosesAs name limits before held c (reply_view p) → (reply_status p ≡ 0) ⊎ (reply_status p ≡ 5) → TakesAtMost limits.input left left'
   taken_within read left left' closing.End p short h told well = takes_few limits.input left left' read h.0 short
   taken_within read left left' (closing.CutFrame n) p short h told well = takes_few limits.input left left' read h.0 short
   taken_within read left left' closing.TooLong p short h told well =
-      let seven = refused_status p 7 _ told in
+      let seven = refused_status p _ told in
       absurd (omega (arith, seven, well))
   taken_within read left left' (closing.Bye bytes) p short h told well = takes_few limits.input left left' read h short
   taken_within read left left' (closing.Clash x) p short h told well = takes_few limits.input left left' read h short
@@ -149,7 +150,7 @@ module _ (name : Text) (limits : LimitNumbers) (before : ℕ) (held : List Event
 
 -- behind the limit a byte is read of an input that is too long alone
 pub reads_within : (name : Text) (limits : LimitNumbers) (start : ReplicaState) (left left' out out' : Option (List ℕ)) (flushed flushed' : Option ℕ)
-    (r : Result Plan Halt) → PlansTalk name limits start left left' out out' flushed flushed' r
+    (r : Result code.Reply Fault) → PlansTalk name limits start left left' out out' flushed flushed' r
     → ReadsWithin limits left left' r
 reads_within name limits start left left' out out' flushed flushed' (Ok p) t =
     λ well. taken_within name limits (length start.held) t.0.held t.2.0 left left' t.1 p t.2.1.short t.2.2 t.3 well
@@ -157,7 +158,7 @@ reads_within name limits start left left' out out' flushed flushed' (Err halt) t
 
 -- a session whose file is open has none of the statuses of one that is missing or bad
 pub reads_none : (name : Text) (limits : LimitNumbers) (start : ReplicaState) (left left' out out' : Option (List ℕ)) (flushed flushed' : Option ℕ)
-    (before now : ℕ) (r : Result Plan Halt) → PlansTalk name limits start left left' out out' flushed flushed' r
+    (before now : ℕ) (r : Result code.Reply Fault) → PlansTalk name limits start left left' out out' flushed flushed' r
     → ReadsNone left left' before now r
 reads_none name limits start left left' out out' flushed flushed' before now (Ok p) t = λ bad.
     let is = closing_status name limits (length start.held) t.0.held t.1 p t.3 in
@@ -165,6 +166,6 @@ reads_none name limits start left left' out out' flushed flushed' before now (Ok
 reads_none name limits start left left' out out' flushed flushed' before now (Err halt) t = tt
 
 -- nothing was read
-pub none_within : (limits : LimitNumbers) (left : Option (List ℕ)) (r : Result Plan Halt) → ReadsWithin limits left left r
+pub none_within : (limits : LimitNumbers) (left : Option (List ℕ)) (r : Result code.Reply Fault) → ReadsWithin limits left left r
 none_within limits left (Ok p) = λ well. takes_none limits.input left left refl
 none_within limits left (Err halt) = tt

@@ -9,4 +9,3 @@ pub mod Served
 pub mod Speaking
 pub mod Takes
 pub mod Talks
-pub mod Outputs

@@ -7,14 +7,14 @@ use Rattle.peer_frames.specs.Cutting.Front.{Partial}
 use Rattle.command_table.specs.Framings.{Framing, IsFramingOf}
 use Rattle.command_table.specs.Loads.{missing}
 use Rattle.command_table.specs.Possible.{MayOpen}
+use Rattle.command_table.specs.Refusals.{Refusal}
 use Rattle.command_table.specs.Sessions.{opened_state, served_as}
 use Rattle.command_table.specs.Table.{Text, refuses, refused, opened_as}
 use Rattle.opened_files.specs.declared.open.Found.{Found}
 use Rattle.opened_files.specs.declared.open.Found.TheVariants as found
-use Rattle.opened_files.specs.declared.reply.Plan.{Plan}
-use Rattle.opened_files.specs.declared.reply.Stop.{Stop}
-use Rattle.opened_files.specs.Views.{IsFresh, plan_view}
-use Rattle.serve_plans.specs.declared.halt.Halt.{Halt}
+use Rattle.opened_files.specs.declared.reply.Reply as code
+use Rattle.ew_outside.specs.declared.fault.Fault.{Fault}
+use Rattle.opened_files.specs.Views.{IsFresh, reply_view}
 use Rattle.serve_plans.specs.Plans.{MayPlan}
 use Rattle.serve_plans.proofs.Answers.{grows_none}
 use Rattle.serve_plans.proofs.Closings.{take_none}
@@ -29,22 +29,22 @@ nothing_framed : (limits : LimitNumbers) → IsFramingOf limits [] no_framing
 nothing_framed limits = record { begins = sym (take_none limits.input [] refl); found = finds_nothing limits; none = refl }
 
 -- the load failed
-pub stopped_plans : (name : Text) (limits : LimitNumbers) (out : Option (List ℕ)) (flushed : Option ℕ) (halt : Halt) → MayPlan name limits out out flushed (Err halt)
+pub stopped_plans : (name : Text) (limits : LimitNumbers) (out : Option (List ℕ)) (flushed : Option ℕ) (halt : Fault) → MayPlan name limits out out flushed (Err halt)
 stopped_plans name limits out flushed halt =
     (served_as name limits [] no_framing (opened_as name limits missing), (missing, [], no_framing, λ i. omega arith, nothing_framed limits, refl, tt), grows_none out _)
 
 -- the file is refused
-pub refused_plans : (name : Text) (limits : LimitNumbers) (out : Option (List ℕ)) (flushed : Option ℕ) (p : Plan) (status : ℕ) (text : Text)
-    → plan_view p ≡ refuses status text
-    → MayOpen name limits (refused status text) → MayPlan name limits out out flushed (Ok p)
-refused_plans name limits out flushed p status text told file = (
-  served_as name limits [] no_framing (refused status text),
+pub refused_plans : (name : Text) (limits : LimitNumbers) (out : Option (List ℕ)) (flushed : Option ℕ) (p : code.Reply) (why : Refusal)
+    → reply_view p ≡ refuses why
+    → MayOpen name limits (refused why) → MayPlan name limits out out flushed (Ok p)
+refused_plans name limits out flushed p why told file = (
+  served_as name limits [] no_framing (refused why),
   (file.0, [], no_framing, λ i. omega arith, nothing_framed limits, ap (served_as name limits [] no_framing) file.1, file.2),
   (told, (Appends-nil out, inl refl)),
 )
 
 -- the replica of a file that is open
-pub fresh_found : (limits : LimitNumbers) (result : Result (Found ReplicaState) Stop) (f : Found ReplicaState) (r : ReplicaState) → result ≡ Ok f → f ≡ found.Open r
+pub fresh_found : (limits : LimitNumbers) (result : Result (Found ReplicaState) Fault) (f : Found ReplicaState) (r : ReplicaState) → result ≡ Ok f → f ≡ found.Open r
     → IfOk result (λ x. IsFresh limits x) → r ≡ opened_state limits r.held
 fresh_found limits result f r is held fresh =
     let h = subst (λ x. IfOk x (λ y. IsFresh limits y)) is fresh in

@@ -10,11 +10,10 @@ use Rattle.ew_outside.specs.Bytes.{IsEnd}
 use Rattle.peer_frames.specs.Cutting.{Finds}
 use Rattle.peer_frames.specs.Cutting.Front.{Partial}
 use Rattle.command_table.specs.Sessions.{exchanged}
-use Rattle.opened_files.specs.declared.reply.Stop.TheVariants as stop
+use Rattle.ew_outside.specs.declared.fault.Fault.TheVariants as fault_is
 use Rattle.serve_plans.specs.Plans.{SinkCauses}
 use Rattle.serve_plans.specs.Serving.{Spoken, AnswersAll, IsPieceBehind, Closed, Broken, IsByFrame, IsSpent, MayBeRead, TakesFew, Reads, ReadsTo, Talks, EndsWith, Receives}
-use Rattle.serve_plans.specs.declared.halt.Halt.{Halt}
-use Rattle.serve_plans.specs.declared.halt.Halt.TheVariants.{Stopped, SinkFailed}
+use Rattle.ew_outside.specs.declared.fault.Fault.{Fault}
 use Rattle.serve_plans.specs.declared.closing.Closing.{Closing}
 use Rattle.serve_plans.specs.declared.closing.Closing.TheVariants as closing
 use Rattle.serve_plans.proofs.Cutting.{begins_short, bytes_join}
@@ -48,13 +47,13 @@ pub nothing_read : (left left' : Option (List ℕ)) (n most : ℕ) (buffer : Lis
 nothing_read left left' n most buffer none taken end some = (subst (λ k. Consumes left left' (take k buffer)) none taken, subst (λ k. IsEnd k left) none (end some))
 
 -- where the source failed, nothing was read
-keeps_of : (left left' : Option (List ℕ)) (before now most : ℕ) (buffer : List ℕ) (halt : Halt) → Receives left left' before now most buffer (Err halt) → Keeps left left'
-keeps_of left left' before now most buffer (Stopped stop.SourceFailed) h = h.0
-keeps_of left left' before now most buffer (Stopped stop.ShelfFailed) h = absurd h
-keeps_of left left' before now most buffer (Stopped stop.OutOfMemory) h = absurd h
-keeps_of left left' before now most buffer SinkFailed h = absurd h
+keeps_of : (left left' : Option (List ℕ)) (before now most : ℕ) (buffer : List ℕ) (halt : Fault) → Receives left left' before now most buffer (Err halt) → Keeps left left'
+keeps_of left left' before now most buffer fault_is.Source h = h.0
+keeps_of left left' before now most buffer fault_is.Shelf h = absurd h
+keeps_of left left' before now most buffer fault_is.OutOfMemory h = absurd h
+keeps_of left left' before now most buffer fault_is.Sink h = absurd h
 
-pub kept_none : (left left' : Option (List ℕ)) (before now most : ℕ) (buffer : List ℕ) (halt : Halt) → Receives left left' before now most buffer (Err halt)
+pub kept_none : (left left' : Option (List ℕ)) (before now most : ℕ) (buffer : List ℕ) (halt : Fault) → Receives left left' before now most buffer (Err halt)
     → Consumes left left' []
 kept_none left left' before now most buffer halt h = Consumes-kept left left left' [] (Consumes-nil left) (keeps_of left left' before now most buffer halt h)
 
@@ -141,7 +140,7 @@ module _ (limits : LimitNumbers) (start mid : ReplicaState) (left left' left'' o
   )
 
   -- the source failed
-  pub talks_failed : Keeps left' left'' → Talks limits start mid left left'' out out' flushed flushed' (Err (Stopped stop.SourceFailed))
+  pub talks_failed : Keeps left' left'' → Talks limits start mid left left'' out out' flushed flushed' (Err fault_is.Source)
   talks_failed kept = (s.read, may_read, Consumes-kept left left' left'' s.read s.taken kept, (rest, after, s.spoken, s.found))
 
   -- at most a piece was read behind what was answered
@@ -224,16 +223,16 @@ module _ (limits : LimitNumbers) (start mid : ReplicaState) (left left' left'' o
           talks_closed now c (subst (λ l. Closed l mid now (rest ++ piece) out' out'' flushed' flushed'' after c) same h.0) h.1
 
       -- the session is broken off: the source is out of reach here
-      pub piece_halts : (halt : Halt) (sink sink' : ℕ) → SinkCauses {T = Option Closing} sink sink' (Err halt)
+      pub piece_halts : (halt : Fault) (sink sink' : ℕ) → SinkCauses {T = Option Closing} sink sink' (Err halt)
           → AnswersAll kept mid now (rest ++ piece) tail out' out'' flushed' flushed'' after last (Err halt)
           → Talks limits start now left left'' out out'' flushed flushed'' (Err halt)
-      piece_halts (Stopped stop.SourceFailed) sink sink' cause h = absurd cause
-      piece_halts (Stopped stop.ShelfFailed) sink sink' cause h = absurd cause
-      piece_halts (Stopped stop.OutOfMemory) sink sink' cause h = talks_broken (subst (λ l. Broken l mid (rest ++ piece) out' out'') same h)
-      piece_halts SinkFailed sink sink' cause h = talks_broken (subst (λ l. Broken l mid (rest ++ piece) out' out'') same h)
+      piece_halts fault_is.Source sink sink' cause h = absurd cause
+      piece_halts fault_is.Shelf sink sink' cause h = absurd cause
+      piece_halts fault_is.OutOfMemory sink sink' cause h = talks_broken (subst (λ l. Broken l mid (rest ++ piece) out' out'') same h)
+      piece_halts fault_is.Sink sink sink' cause h = talks_broken (subst (λ l. Broken l mid (rest ++ piece) out' out'') same h)
 
       -- the same of what a step answers that stops there
-      pub piece_broken : (r : Result Closing Halt) (halt : Halt) (sink sink' : ℕ) → IsErrAnd r (λ y. y ≡ halt) → SinkCauses {T = Option Closing} sink sink' (Err halt)
+      pub piece_broken : (r : Result Closing Fault) (halt : Fault) (sink sink' : ℕ) → IsErrAnd r (λ y. y ≡ halt) → SinkCauses {T = Option Closing} sink sink' (Err halt)
           → AnswersAll kept mid now (rest ++ piece) tail out' out'' flushed' flushed'' after last (Err halt)
           → Talks limits start now left left'' out out'' flushed flushed'' r
       piece_broken (Ok c) halt sink sink' err cause h = absurd err

@@ -14,10 +14,9 @@ use Rattle.peer_frames.proofs.Cuts.{cuts_are_one, finds_nothing}
 use Rattle.command_table.specs.Sessions.{Exchange, exchanged, opened_state, IsReplied, IsPrompt}
 use Rattle.command_table.specs.Table.{Text, opened, open_file}
 use Rattle.command_table.proofs.Framings.{are_cut}
-use Rattle.opened_files.specs.declared.reply.Plan.{Plan}
-use Rattle.opened_files.specs.declared.reply.Stop.TheVariants as stop
-use Rattle.serve_plans.specs.declared.halt.Halt.{Halt}
-use Rattle.serve_plans.specs.declared.halt.Halt.TheVariants.{Stopped, SinkFailed}
+use Rattle.opened_files.specs.declared.reply.Reply as code
+use Rattle.ew_outside.specs.declared.fault.Fault.TheVariants as fault_is
+use Rattle.ew_outside.specs.declared.fault.Fault.{Fault}
 use Rattle.serve_plans.specs.Plans.{SendsReplies, ReadsOn}
 use Rattle.serve_plans.specs.Serving.{Spoken, IsPieceBehind, PlansTalk}
 use Rattle.serve_plans.proofs.Speaking.{any_flushed}
@@ -109,18 +108,18 @@ module _ (name : Text) (limits : LimitNumbers) (start : ReplicaState) (fresh : s
       }))
 
   -- where the source failed, exactly the frames that were read were answered, and none of them ends the session
-  pub sends_replies : (files : Option Files) (left : Option (List ℕ)) (flushed flushed' : Option ℕ) (r : Result Plan Halt)
+  pub sends_replies : (files : Option Files) (left : Option (List ℕ)) (flushed flushed' : Option ℕ) (r : Result code.Reply Fault)
       → IfSome files (λ m. opened start.held ≡ open_file name limits m)
       → PlansTalk name limits start left left' out out' flushed flushed' r → SendsReplies name limits files left left' out out' flushed' r
-  sends_replies (Some m) (Some input) flushed flushed' (Err (Stopped stop.SourceFailed)) is t = λ events n same gone short frames end cut.
+  sends_replies (Some m) (Some input) flushed flushed' (Err fault_is.Source) is t = λ events n same gone short frames end cut.
       let h = t.1 in
       let here = subst (λ bs. AreFrames limits bs frames end) (read_is h.0 input left' n h.2 gone short) cut in
       let s = h.3.2 in
       replies_of input h.0 h.3.0 flushed flushed' t.0 h.3.1 s (are_cut limits h.0 s.frames h.3.0 Partial s.begins h.3.3 refl) events
       (same_events start.held events (is ∙ same)) frames end here
-  sends_replies (Some m) (Some input) flushed flushed' (Err (Stopped stop.ShelfFailed)) is t = tt
-  sends_replies (Some m) (Some input) flushed flushed' (Err (Stopped stop.OutOfMemory)) is t = tt
-  sends_replies (Some m) (Some input) flushed flushed' (Err SinkFailed) is t = tt
+  sends_replies (Some m) (Some input) flushed flushed' (Err fault_is.Shelf) is t = tt
+  sends_replies (Some m) (Some input) flushed flushed' (Err fault_is.OutOfMemory) is t = tt
+  sends_replies (Some m) (Some input) flushed flushed' (Err fault_is.Sink) is t = tt
   sends_replies (Some m) (Some input) flushed flushed' (Ok p) is t = tt
   sends_replies (Some m) None flushed flushed' r is t = tt
   sends_replies None left flushed flushed' r is t = tt

@@ -10,18 +10,17 @@ use Rattle.ew_outside.specs.Bytes.{IsFlushed}
 use Rattle.ew_outside.specs.Files.{Files}
 use Rattle.peer_exchange.specs.declared.reply.End.{End}
 use Rattle.peer_exchange.specs.declared.reply.End.TheVariants as end
-use Rattle.command_table.specs.Outputs.{GrowsByFront}
+use Rattle.ew_outside.specs.Outputs.{GrowsByFront}
 use Rattle.command_table.specs.Framings.{BeginWith, Framing, IsFramingOf}
 use Rattle.command_table.specs.Sessions.{Exchange, exchanged, opened_state, Session, served_as, served_by, served_from}
 use Rattle.command_table.specs.Table.{Text, Reply, opened, open_file}
-use Rattle.opened_files.specs.declared.reply.Plan.{Plan}
-use Rattle.opened_files.specs.declared.reply.Stop.TheVariants as stop
-use Rattle.opened_files.specs.Views.{plan_view}
+use Rattle.opened_files.specs.declared.reply.Reply as code
+use Rattle.ew_outside.specs.declared.fault.Fault.TheVariants as fault_is
+use Rattle.opened_files.specs.Views.{reply_view}
 use Rattle.command_table.specs.Possible.{MayOpen, MayServe}
 use Rattle.command_table.specs.Reads.{TakesAtMost}
 use Rattle.opened_files.proofs.Reading.{takes_few}
-use Rattle.serve_plans.specs.declared.halt.Halt.{Halt}
-use Rattle.serve_plans.specs.declared.halt.Halt.TheVariants.{Stopped, SinkFailed}
+use Rattle.ew_outside.specs.declared.fault.Fault.{Fault}
 use Rattle.serve_plans.specs.declared.closing.Closing.{Closing}
 use Rattle.serve_plans.specs.declared.closing.Closing.TheVariants as closing
 use Rattle.serve_plans.specs.Plans.{ClosesAs, FollowsSession, Serves, MayPlan}
@@ -183,26 +182,26 @@ module _ (name : Text) (limits : LimitNumbers) (start : ReplicaState) (fresh : s
       (subst (λ r. Broken limits r read out out') fresh h))
 
   -- the same of one that was broken off
-  halted_told : (now : ReplicaState) (input : List ℕ) (halt : Halt) (x : Framing)
+  halted_told : (now : ReplicaState) (input : List ℕ) (halt : Fault) (x : Framing)
       → Talks limits start now (Some input) left' out out' flushed flushed' (Err halt) → IsFramingOf limits input x
       → GrowsByFront out out' (served_from name limits input x start.held).sent
-  halted_told now input (Stopped stop.SourceFailed) x h cut =
+  halted_told now input fault_is.Source x h cut =
       let s = h.3.2 in
       broken_told h.0 input x (read_whole h.0 input left' h.2) h.1 (broken_here limits start now h.0 h.3.0 out out' flushed flushed' 0 h.3.1 s) cut
-  halted_told now input (Stopped stop.ShelfFailed) x h cut = broken_told h.0 input x (few_whole h.0 input left' h.2) h.1 h.3 cut
-  halted_told now input (Stopped stop.OutOfMemory) x h cut = broken_told h.0 input x (few_whole h.0 input left' h.2) h.1 h.3 cut
-  halted_told now input SinkFailed x h cut = broken_told h.0 input x (few_whole h.0 input left' h.2) h.1 h.3 cut
+  halted_told now input fault_is.Shelf x h cut = broken_told h.0 input x (few_whole h.0 input left' h.2) h.1 h.3 cut
+  halted_told now input fault_is.OutOfMemory x h cut = broken_told h.0 input x (few_whole h.0 input left' h.2) h.1 h.3 cut
+  halted_told now input fault_is.Sink x h cut = broken_told h.0 input x (few_whole h.0 input left' h.2) h.1 h.3 cut
 
   -- what `serve` promises where files and input are told
-  pub serves_told : (files : Option Files) (r : Result Plan Halt) → IfSome files (λ m. opened start.held ≡ open_file name limits m)
+  pub serves_told : (files : Option Files) (r : Result code.Reply Fault) → IfSome files (λ m. opened start.held ≡ open_file name limits m)
       → PlansTalk name limits start left left' out out' flushed flushed' r
       → Serves name limits files left out out' flushed' r
   serves_told files r file h = serves files left r file h
     where
-      serves : (fs : Option Files) (l : Option (List ℕ)) (res : Result Plan Halt) → IfSome fs (λ m. opened start.held ≡ open_file name limits m)
+      serves : (fs : Option Files) (l : Option (List ℕ)) (res : Result code.Reply Fault) → IfSome fs (λ m. opened start.held ≡ open_file name limits m)
           → PlansTalk name limits start l left' out out' flushed flushed' res → Serves name limits fs l out out' flushed' res
       serves (Some m) (Some input) (Ok p) is t = λ x cut.
-          let s = closed_told t.0 input t.1 (plan_view p) x t.2 t.3 cut in
+          let s = closed_told t.0 input t.1 (reply_view p) x t.2 t.3 cut in
           subst (λ o. FollowsSession (served_as name limits input x o) out out' flushed' (Ok p)) is (s.closing, s.sends)
       serves (Some m) (Some input) (Err halt) is t =
           λ x cut. subst (λ o. GrowsByFront out out' (served_as name limits input x o).sent) is (halted_told t.0 input halt x t.1 cut)
@@ -224,17 +223,17 @@ module _ (name : Text) (limits : LimitNumbers) (start : ReplicaState) (fresh : s
         broken_served name limits start.held read [] out out' x.0 may.short x.1 (subst (λ r. Broken limits r read out out') fresh h),
       )
 
-  pub plans_some : (r : Result Plan Halt) → MayOpen name limits (opened start.held) → PlansTalk name limits start left left' out out' flushed flushed' r
+  pub plans_some : (r : Result code.Reply Fault) → MayOpen name limits (opened start.held) → PlansTalk name limits start left left' out out' flushed flushed' r
       → MayPlan name limits out out' flushed' r
   plans_some (Ok p) file t =
-      let m = closed_some t.0 t.1 (plan_view p) t.2 t.3 in
+      let m = closed_some t.0 t.1 (reply_view p) t.2 t.3 in
       (served_from name limits m.input m.cut start.held, may_serve m.input m.cut m.fits m.is_cut file, (m.served.closing, m.served.sends))
-  plans_some (Err (Stopped stop.SourceFailed)) file t =
+  plans_some (Err fault_is.Source) file t =
       let h = t.1 in
       halted_some h.0 h.1 (broken_here limits start t.0 h.0 h.3.0 out out' flushed flushed' 0 h.3.1 h.3.2) file
-  plans_some (Err (Stopped stop.ShelfFailed)) file t = halted_some t.1.0 t.1.1 t.1.3 file
-  plans_some (Err (Stopped stop.OutOfMemory)) file t = halted_some t.1.0 t.1.1 t.1.3 file
-  plans_some (Err SinkFailed) file t = halted_some t.1.0 t.1.1 t.1.3 file
+  plans_some (Err fault_is.Shelf) file t = halted_some t.1.0 t.1.1 t.1.3 file
+  plans_some (Err fault_is.OutOfMemory) file t = halted_some t.1.0 t.1.1 t.1.3 file
+  plans_some (Err fault_is.Sink) file t = halted_some t.1.0 t.1.1 t.1.3 file
 
 -- ---- how much was read
 
@@ -250,14 +249,14 @@ taken_few limits read left left' (closing.BadFrame n why) short h = takes_few (l
 
 -- no more than one byte behind the limit was taken
 pub talk_takes : (name : Text) (limits : LimitNumbers) (start : ReplicaState) (left left' out out' : Option (List ℕ)) (flushed flushed' : Option ℕ)
-    (r : Result Plan Halt) → PlansTalk name limits start left left' out out' flushed flushed' r
+    (r : Result code.Reply Fault) → PlansTalk name limits start left left' out out' flushed flushed' r
     → TakesAtMost (limits.input + 1) left left'
 talk_takes name limits start left left' out out' flushed flushed' (Ok p) h = taken_few limits h.2.0 left left' h.1 h.2.1.short h.2.2
-talk_takes name limits start left left' out out' flushed flushed' (Err (Stopped stop.SourceFailed)) h =
+talk_takes name limits start left left' out out' flushed flushed' (Err fault_is.Source) h =
     takes_few (limits.input + 1) left left' h.1.0 h.1.2 (omega (arith, h.1.1.short))
-talk_takes name limits start left left' out out' flushed flushed' (Err (Stopped stop.ShelfFailed)) h = takes_few (limits.input + 1) left left' h.1.2.0 h.1.2.2 h.1.2.1
-talk_takes name limits start left left' out out' flushed flushed' (Err (Stopped stop.OutOfMemory)) h = takes_few (limits.input + 1) left left' h.1.2.0 h.1.2.2 h.1.2.1
-talk_takes name limits start left left' out out' flushed flushed' (Err SinkFailed) h = takes_few (limits.input + 1) left left' h.1.2.0 h.1.2.2 h.1.2.1
+talk_takes name limits start left left' out out' flushed flushed' (Err fault_is.Shelf) h = takes_few (limits.input + 1) left left' h.1.2.0 h.1.2.2 h.1.2.1
+talk_takes name limits start left left' out out' flushed flushed' (Err fault_is.OutOfMemory) h = takes_few (limits.input + 1) left left' h.1.2.0 h.1.2.2 h.1.2.1
+talk_takes name limits start left left' out out' flushed flushed' (Err fault_is.Sink) h = takes_few (limits.input + 1) left left' h.1.2.0 h.1.2.2 h.1.2.1
 
 few_of : (limits : LimitNumbers) (read : List ℕ) (left left' : Option (List ℕ)) (c : Closing) → length read ≤ limits.input → ReadsTo limits read left left' c
     → TakesFew limits read left left'
@@ -271,12 +270,12 @@ few_of limits read left left' (closing.BadFrame n why) short h = (read, omega (a
 -- a session that was closed, for which there was no memory at last
 closed_stopped : (name : Text) (limits : LimitNumbers) (start now : ReplicaState) (left left' out out' : Option (List ℕ)) (flushed flushed' : Option ℕ)
     (c : Closing) → Talks limits start now left left' out out' flushed flushed' (Ok c)
-    → PlansTalk name limits start left left' out out' flushed flushed' (Err (Stopped stop.OutOfMemory))
+    → PlansTalk name limits start left left' out out' flushed flushed' (Err fault_is.OutOfMemory)
 closed_stopped name limits start now left left' out out' flushed flushed' c h =
     (now, (h.0, h.1, few_of limits h.0 left left' c h.1.short h.2, closed_broken limits start now h.0 out out' flushed flushed' 0 c h.3))
 
 pub closed_halted : (name : Text) (limits : LimitNumbers) (start now : ReplicaState) (left left' out out' : Option (List ℕ)) (flushed flushed' : Option ℕ)
-    (c : Closing) (r : Result Plan Halt) → IsErrAnd r (λ y. y ≡ Stopped stop.OutOfMemory)
+    (c : Closing) (r : Result code.Reply Fault) → IsErrAnd r (λ y. y ≡ fault_is.OutOfMemory)
     → Talks limits start now left left' out out' flushed flushed' (Ok c) → PlansTalk name limits start left left' out out' flushed flushed' r
 closed_halted name limits start now left left' out out' flushed flushed' c (Ok p) err h = absurd err
 closed_halted name limits start now left left' out out' flushed flushed' c (Err y) err h =

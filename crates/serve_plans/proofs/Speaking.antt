@@ -12,7 +12,7 @@ use Rattle.peer_frames.specs.Cutting.Front.{Whole}
 use Rattle.peer_exchange.specs.Answering.{answer_to}
 use Rattle.peer_exchange.specs.declared.reply.End.{End}
 use Rattle.peer_exchange.specs.declared.reply.End.TheVariants as end
-use Rattle.command_table.specs.Outputs.{GrowsByFront}
+use Rattle.ew_outside.specs.Outputs.{GrowsByFront}
 use Rattle.command_table.specs.Sessions.{Exchange, exchanged, then_exchanged, bytes_of}
 use Rattle.serve_plans.specs.Serving.{sent_by, StaysOrFlushed, Spoken, Closes, Closed, Broken}
 use Rattle.serve_plans.specs.declared.closing.Closing.{Closing}

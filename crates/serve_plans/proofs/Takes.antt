@@ -19,7 +19,7 @@ use Rattle.command_table.proofs.Framings.{are_cut}
 use Rattle.opened_files.specs.Touches.{TouchesAtMost, file_touches, touches_over}
 use Rattle.serve_plans.specs.Serving.{Replies}
 use Rattle.serve_plans.specs.SessionTouches.{frames_touches, unless_ended, SessionTakes, TalkTakes, TakesWithin, LeavesTouches, AnswersTake, TouchesAhead}
-use Rattle.serve_plans.specs.declared.halt.Halt.{Halt}
+use Rattle.ew_outside.specs.declared.fault.Fault.{Fault}
 use Rattle.serve_plans.specs.declared.closing.Closing.{Closing}
 use Rattle.serve_plans.proofs.Cutting.{whole_more}
 
@@ -49,13 +49,13 @@ pub leaves_within : (limits : LimitNumbers) (start now : ReplicaState) (bytes re
     → LeavesTouches limits start now bytes rest before after → TakesWithin limits start bytes before after
 leaves_within limits start now bytes rest before after h = λ behind frames stop are. omega (arith, (h behind frames stop are).2)
 
-answers_within : (limits : LimitNumbers) (start now : ReplicaState) (bytes rest : List ℕ) (before after : ℕ) (r : Result (Option Closing) Halt)
+answers_within : (limits : LimitNumbers) (start now : ReplicaState) (bytes rest : List ℕ) (before after : ℕ) (r : Result (Option Closing) Fault)
     → AnswersTake limits start now bytes rest before after r → TakesWithin limits start bytes before after
 answers_within limits start now bytes rest before after (Ok None) h = leaves_within limits start now bytes rest before after h
 answers_within limits start now bytes rest before after (Ok (Some c)) h = h
 answers_within limits start now bytes rest before after (Err halt) h = h
 
-pub within_takes : (limits : LimitNumbers) (start now : ReplicaState) (bytes rest : List ℕ) (before after : ℕ) (r : Result (Option Closing) Halt) → IsErr r
+pub within_takes : (limits : LimitNumbers) (start now : ReplicaState) (bytes rest : List ℕ) (before after : ℕ) (r : Result (Option Closing) Fault) → IsErr r
     → TakesWithin limits start bytes before after
     → AnswersTake limits start now bytes rest before after r
 within_takes limits start now bytes rest before after (Ok None) err h = absurd (let t : false ≡ true = err in cc)
@@ -63,7 +63,7 @@ within_takes limits start now bytes rest before after (Ok (Some c)) err h = h
 within_takes limits start now bytes rest before after (Err halt) err h = h
 
 -- nothing was answered
-pub takes_none : (limits : LimitNumbers) (start now : ReplicaState) (bytes rest : List ℕ) (n : ℕ) (r : Result (Option Closing) Halt) → IsErr r
+pub takes_none : (limits : LimitNumbers) (start now : ReplicaState) (bytes rest : List ℕ) (n : ℕ) (r : Result (Option Closing) Fault) → IsErr r
     → AnswersTake limits start now bytes rest n n r
 takes_none limits start now bytes rest n r err = within_takes limits start now bytes rest n n r err
     (leaves_within limits start start bytes bytes n n (leaves_none limits start bytes n))
@@ -132,7 +132,7 @@ module _ (limits kept : LimitNumbers) (start mid now : ReplicaState) (rest tail 
       (n.0, n.1, omega (arith, m.2, n.2))
 
   -- the session ends there, or is broken off
-  pub piece_takes : (left left' left'' : Option (List ℕ)) (r : Result (Option Closing) Halt) → Consumes left' left'' piece
+  pub piece_takes : (left left' left'' : Option (List ℕ)) (r : Result (Option Closing) Fault) → Consumes left' left'' piece
       → AnswersTake kept mid now (rest ++ piece) tail here after r
       → TouchesAhead limits start mid left left' rest room before here → TalkTakes limits start left before after
   piece_takes None left' left'' r taken told h = tt

@@ -2,4 +2,3 @@
 pub mod Plans
 pub mod Serving
 pub mod SessionTouches
-pub mod Written

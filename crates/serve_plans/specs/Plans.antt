@@ -3,59 +3,58 @@ use Rattle.std.specs.Prelude.{◌≡◌, ◌≤◌, ◌⊎◌, ⊤, ℕ, List, [
 use Rattle.std.specs.List.{list_any}
 use Rattle.ew_model.specs.declared.event.Event.{Event}
 use Rattle.ew_model.specs.Limits.{LimitNumbers}
-use Rattle.ew_outside.specs.Counts.{Rose}
+use Rattle.ew_outside.specs.Counts.{Rises}
 use Rattle.ew_outside.specs.Files.{Files}
 use Rattle.peer_frames.specs.declared.fault.FrameFault.{FrameFault}
 use Rattle.peer_frames.specs.declared.fault.FrameFault.TheVariants as fault
-use Rattle.command_table.specs.Outputs.{GrowsByFront, Sends}
+use Rattle.ew_outside.specs.Outputs.{GrowsByFront, Sends}
 use Rattle.command_table.specs.Possible.{MayServe}
 use Rattle.command_table.specs.Reads.{TakesAtMost, LeavesInput}
 use Rattle.command_table.specs.Framings.{Framing, IsFramingOf}
 use Rattle.command_table.specs.Sessions.{Session, served, closed_reply, is_bye, RepliesTo, IsPrompt}
 use Rattle.command_table.specs.Table.{Text, Reply, refuses, opened, open_file}
-use Rattle.command_table.specs.Text.{clash, input_too_long, frame_cut, bad_kind, frame_too_long, bad_body}
-use Rattle.opened_files.specs.declared.reply.Plan.{Plan}
-use Rattle.opened_files.specs.declared.reply.Stop.TheVariants as stop
-use Rattle.opened_files.specs.Views.{plan_view, status_of}
-use Rattle.serve_plans.specs.declared.halt.Halt.{Halt}
-use Rattle.serve_plans.specs.declared.halt.Halt.TheVariants.{Stopped, SinkFailed}
+use Rattle.command_table.specs.Refusals.{Refusal, clash, input_too_long, frame_cut, bad_kind, frame_too_long, bad_body}
+use Rattle.opened_files.specs.declared.reply.Reply as code
+use Rattle.ew_outside.specs.declared.fault.Fault.TheVariants as fault_is
+use Rattle.opened_files.specs.Views.{reply_view, reply_status}
+use Rattle.ew_outside.specs.declared.fault.Fault.{Fault}
 use Rattle.serve_plans.specs.declared.closing.Closing.{Closing}
 use Rattle.serve_plans.specs.declared.closing.Closing.TheVariants as closing
 
 -- the plan closes the session, and what is sent before was taken, and flushed if there is any; where the run halted, a front of it was taken
-abbrev pub FollowsSession : Session → Option (List ℕ) → Option (List ℕ) → Option ℕ → Result Plan Halt → Type 0
-FollowsSession s out out' flushed (Ok p) = (plan_view p ≡ s.closing) × Sends out out' flushed s.sent
+abbrev pub FollowsSession : Session → Option (List ℕ) → Option (List ℕ) → Option ℕ → Result code.Reply Fault → Type 0
+FollowsSession s out out' flushed (Ok p) = (reply_view p ≡ s.closing) × Sends out out' flushed s.sent
 FollowsSession s out out' flushed (Err halt) = GrowsByFront out out' s.sent
 
 -- the session is the table's
-abbrev pub Serves : Text → LimitNumbers → Option Files → Option (List ℕ) → Option (List ℕ) → Option (List ℕ) → Option ℕ → Result Plan Halt → Type 0
+abbrev pub Serves : Text → LimitNumbers → Option Files → Option (List ℕ) → Option (List ℕ) → Option (List ℕ) → Option ℕ → Result code.Reply Fault → Type 0
 Serves name limits (Some files) (Some input) out out' flushed result =
     (f : Framing) → IsFramingOf limits input f → FollowsSession (served name limits files input f) out out' flushed result
 Serves name limits files input out out' flushed result = ⊤
 
 -- the session is one that the table has for some bytes of the file and some input
-abbrev pub MayPlan : Text → LimitNumbers → Option (List ℕ) → Option (List ℕ) → Option ℕ → Result Plan Halt → Type 0
+abbrev pub MayPlan : Text → LimitNumbers → Option (List ℕ) → Option (List ℕ) → Option ℕ → Result code.Reply Fault → Type 0
 MayPlan name limits out out' flushed result = (s : Session) × MayServe name limits s × FollowsSession s out out' flushed result
 
 -- at status 0 nothing is left of an input that was told, unless the peer said Bye
-abbrev pub ReadsAll : LimitNumbers → Option (List ℕ) → Option (List ℕ) → Result Plan Halt → Type 0
-ReadsAll limits (Some input) left (Ok p) = status_of p ≡ 0 → (f : Framing) → IsFramingOf limits input f → list_any is_bye f.frames ≡ false → left ≡ Some []
+abbrev pub ReadsAll : LimitNumbers → Option (List ℕ) → Option (List ℕ) → Result code.Reply Fault → Type 0
+ReadsAll limits (Some input) left (Ok p) = reply_status p ≡ 0 → (f : Framing) → IsFramingOf limits input f → list_any is_bye f.frames ≡ false → left ≡ Some []
 ReadsAll limits input left result = ⊤
 
 -- at status 0 or 5 no byte behind the limit was taken
-abbrev pub ReadsWithin : LimitNumbers → Option (List ℕ) → Option (List ℕ) → Result Plan Halt → Type 0
-ReadsWithin limits left left' (Ok p) = (status_of p ≡ 0) ⊎ (status_of p ≡ 5) → TakesAtMost limits.input left left'
+abbrev pub ReadsWithin : LimitNumbers → Option (List ℕ) → Option (List ℕ) → Result code.Reply Fault → Type 0
+ReadsWithin limits left left' (Ok p) = (reply_status p ≡ 0) ⊎ (reply_status p ≡ 5) → TakesAtMost limits.input left left'
 ReadsWithin limits left left' (Err halt) = ⊤
 
 -- at status 3 or 4, where the file is missing or bad, the input is as before
-abbrev pub ReadsNone : Option (List ℕ) → Option (List ℕ) → ℕ → ℕ → Result Plan Halt → Type 0
-ReadsNone left left' before now (Ok p) = (status_of p ≡ 3) ⊎ (status_of p ≡ 4) → LeavesInput left left' before now
+abbrev pub ReadsNone : Option (List ℕ) → Option (List ℕ) → ℕ → ℕ → Result code.Reply Fault → Type 0
+ReadsNone left left' before now (Ok p) = (reply_status p ≡ 3) ⊎ (reply_status p ≡ 4) → LeavesInput left left' before now
 ReadsNone left left' before now (Err halt) = ⊤
 
 -- where the source failed, exactly the frames that end within the bytes read were answered, and none of them ends the session
 abbrev pub SendsReplies : Text → LimitNumbers → Option Files → Option (List ℕ) → Option (List ℕ) → Option (List ℕ) → Option (List ℕ) → Option ℕ
-    → Result Plan Halt → Type 0
-SendsReplies name limits (Some files) (Some input) left out out' flushed (Err (Stopped stop.SourceFailed)) =
+    → Result code.Reply Fault → Type 0
+SendsReplies name limits (Some files) (Some input) left out out' flushed (Err fault_is.Source) =
     (events : List Event) (n : ℕ) → open_file name limits files ≡ opened events → left ≡ Some (drop n input) → n ≤ length input
     → RepliesTo limits events input n out out' flushed
 SendsReplies name limits files input left out out' flushed result = ⊤
@@ -67,60 +66,46 @@ ReadsOn name limits (Some files) (Some input) left out out' = (events : List Eve
 ReadsOn name limits files input left out out' = ⊤
 
 -- where a load failed, the input and the output are as before
-abbrev pub KeepsStreams : Option (List ℕ) → Option (List ℕ) → Option (List ℕ) → Option (List ℕ) → Result Plan Halt → Type 0
-KeepsStreams left left' out out' (Err (Stopped stop.ShelfFailed)) = (left' ≡ left) × (out' ≡ out)
+abbrev pub KeepsStreams : Option (List ℕ) → Option (List ℕ) → Option (List ℕ) → Option (List ℕ) → Result code.Reply Fault → Type 0
+KeepsStreams left left' out out' (Err fault_is.Shelf) = (left' ≡ left) × (out' ≡ out)
 KeepsStreams left left' out out' result = ⊤
 
--- the count rose
-abbrev pub Rises : ℕ → ℕ → Type 0
-Rises before now = (before ≤ now) × Rose before now
-
 -- which count moved of a step that reaches the output alone
-abbrev pub SinkCauses : {T : Type 0} → ℕ → ℕ → Result T Halt → Type 0
+abbrev pub SinkCauses : {T : Type 0} → ℕ → ℕ → Result T Fault → Type 0
 SinkCauses before now (Ok _) = now ≡ before
-SinkCauses before now (Err SinkFailed) = Rises before now
-SinkCauses before now (Err (Stopped stop.OutOfMemory)) = now ≡ before
-SinkCauses before now (Err (Stopped stop.ShelfFailed)) = ⊥
-SinkCauses before now (Err (Stopped stop.SourceFailed)) = ⊥
+SinkCauses before now (Err fault_is.Sink) = Rises before now
+SinkCauses before now (Err fault_is.OutOfMemory) = now ≡ before
+SinkCauses before now (Err fault_is.Shelf) = ⊥
+SinkCauses before now (Err fault_is.Source) = ⊥
 
 -- which counts moved of a step that reaches the input and the output
-abbrev pub StreamCauses : {T : Type 0} → ℕ → ℕ → ℕ → ℕ → Result T Halt → Type 0
+abbrev pub StreamCauses : {T : Type 0} → ℕ → ℕ → ℕ → ℕ → Result T Fault → Type 0
 StreamCauses source source' sink sink' (Ok _) = (source' ≡ source) × (sink' ≡ sink)
-StreamCauses source source' sink sink' (Err SinkFailed) = (source' ≡ source) × Rises sink sink'
-StreamCauses source source' sink sink' (Err (Stopped stop.OutOfMemory)) = (source' ≡ source) × (sink' ≡ sink)
-StreamCauses source source' sink sink' (Err (Stopped stop.ShelfFailed)) = ⊥
-StreamCauses source source' sink sink' (Err (Stopped stop.SourceFailed)) = Rises source source' × (sink' ≡ sink)
+StreamCauses source source' sink sink' (Err fault_is.Sink) = (source' ≡ source) × Rises sink sink'
+StreamCauses source source' sink sink' (Err fault_is.OutOfMemory) = (source' ≡ source) × (sink' ≡ sink)
+StreamCauses source source' sink sink' (Err fault_is.Shelf) = ⊥
+StreamCauses source source' sink sink' (Err fault_is.Source) = Rises source source' × (sink' ≡ sink)
 
 -- which counts moved: none, but that of the object that is named
-abbrev pub Causes : {T : Type 0} → ℕ → ℕ → ℕ → ℕ → ℕ → ℕ → Result T Halt → Type 0
+abbrev pub Causes : {T : Type 0} → ℕ → ℕ → ℕ → ℕ → ℕ → ℕ → Result T Fault → Type 0
 Causes shelf shelf' source source' sink sink' (Ok _) = (shelf' ≡ shelf) × (source' ≡ source) × (sink' ≡ sink)
-Causes shelf shelf' source source' sink sink' (Err SinkFailed) = (shelf' ≡ shelf) × (source' ≡ source) × Rises sink sink'
-Causes shelf shelf' source source' sink sink' (Err (Stopped stop.OutOfMemory)) = (shelf' ≡ shelf) × (source' ≡ source) × (sink' ≡ sink)
-Causes shelf shelf' source source' sink sink' (Err (Stopped stop.ShelfFailed)) = Rises shelf shelf' × (source' ≡ source) × (sink' ≡ sink)
-Causes shelf shelf' source source' sink sink' (Err (Stopped stop.SourceFailed)) = (shelf' ≡ shelf) × Rises source source' × (sink' ≡ sink)
+Causes shelf shelf' source source' sink sink' (Err fault_is.Sink) = (shelf' ≡ shelf) × (source' ≡ source) × Rises sink sink'
+Causes shelf shelf' source source' sink sink' (Err fault_is.OutOfMemory) = (shelf' ≡ shelf) × (source' ≡ source) × (sink' ≡ sink)
+Causes shelf shelf' source source' sink sink' (Err fault_is.Shelf) = Rises shelf shelf' × (source' ≡ source) × (sink' ≡ sink)
+Causes shelf shelf' source source' sink sink' (Err fault_is.Source) = (shelf' ≡ shelf) × Rises source source' × (sink' ≡ sink)
 
--- the count of misses rises exactly where the plan is to say that the file is missing
-abbrev pub MissesBy : ℕ → ℕ → Result Plan Halt → Type 0
-MissesBy before now (Ok p) = (before ≤ now) × (status_of p ≡ 3 → Rose before now) × ((status_of p ≡ 3 → ⊥) → now ≡ before)
-MissesBy before now (Err _) = before ≤ now
-
--- a load failed exactly where the shelf did
-abbrev pub LostBy : {T : Type 0} → ℕ → ℕ → Result T Halt → Type 0
-LostBy before now (Err (Stopped stop.ShelfFailed)) = Rises before now
-LostBy before now result = now ≡ before
-
--- what a fault of a frame is told as; none for want of memory
-abbrev pub fault_text : ℕ → FrameFault → Option Text
-fault_text number (fault.BadKind kind) = Some (bad_kind number kind)
-fault_text number (fault.TooLong len) = Some (frame_too_long number len)
-fault_text number fault.BadBody = Some (bad_body number)
-fault_text number fault.OutOfMemory = None
+-- why there is no frame of a number; none where memory ran out
+abbrev pub frame_refusal : ℕ → FrameFault → Option Refusal
+frame_refusal number (fault.BadKind kind) = Some (bad_kind number kind)
+frame_refusal number (fault.TooLong len) = Some (frame_too_long number len)
+frame_refusal number fault.BadBody = Some (bad_body number)
+frame_refusal number fault.OutOfMemory = None
 
 -- what is done once a session is closed
 abbrev pub ClosesAs : Text → LimitNumbers → ℕ → List Event → Closing → Reply → Type 0
 ClosesAs name limits before held closing.End reply = reply ≡ closed_reply name before [] held
 ClosesAs name limits before held (closing.Bye bytes) reply = reply ≡ closed_reply name before bytes.items held
-ClosesAs name limits before held (closing.Clash x) reply = reply ≡ refuses 5 (clash x)
-ClosesAs name limits before held (closing.BadFrame number why) reply = (text : Text) × (fault_text number why ≡ Some text) × (reply ≡ refuses 5 text)
-ClosesAs name limits before held (closing.CutFrame number) reply = reply ≡ refuses 5 (frame_cut number)
-ClosesAs name limits before held closing.TooLong reply = reply ≡ refuses 7 (input_too_long limits.input)
+ClosesAs name limits before held (closing.Clash x) reply = reply ≡ refuses (clash x)
+ClosesAs name limits before held (closing.BadFrame number fault) reply = (why : Refusal) × (frame_refusal number fault ≡ Some why) × (reply ≡ refuses why)
+ClosesAs name limits before held (closing.CutFrame number) reply = reply ≡ refuses (frame_cut number)
+ClosesAs name limits before held closing.TooLong reply = reply ≡ refuses (input_too_long limits.input)

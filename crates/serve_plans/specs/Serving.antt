@@ -14,15 +14,14 @@ use Rattle.peer_frames.specs.Cutting.Front.{Partial, BadKind, TooLong, BadBody}
 use Rattle.peer_exchange.specs.Answering.{Answered}
 use Rattle.peer_exchange.specs.declared.reply.End.{End}
 use Rattle.peer_exchange.specs.declared.reply.End.TheVariants as end
-use Rattle.command_table.specs.Outputs.{GrowsByFront}
+use Rattle.ew_outside.specs.Outputs.{GrowsByFront}
 use Rattle.command_table.specs.Table.{Text}
 use Rattle.command_table.specs.Framings.{BeginWith}
 use Rattle.command_table.specs.Sessions.{Exchange, exchanged, bytes_of}
-use Rattle.opened_files.specs.declared.reply.Plan.{Plan}
-use Rattle.opened_files.specs.declared.reply.Stop.TheVariants as stop
-use Rattle.opened_files.specs.Views.{plan_view}
-use Rattle.serve_plans.specs.declared.halt.Halt.{Halt}
-use Rattle.serve_plans.specs.declared.halt.Halt.TheVariants.{Stopped}
+use Rattle.opened_files.specs.declared.reply.Reply as code
+use Rattle.ew_outside.specs.declared.fault.Fault.TheVariants as fault_is
+use Rattle.opened_files.specs.Views.{reply_view}
+use Rattle.ew_outside.specs.declared.fault.Fault.{Fault}
 use Rattle.serve_plans.specs.Plans.{ClosesAs}
 use Rattle.serve_plans.specs.declared.closing.Closing.{Closing}
 use Rattle.serve_plans.specs.declared.closing.Closing.TheVariants as closing
@@ -40,7 +39,7 @@ sent_of a (Some end.Bye) = []
 sent_of a (Some (end.Clash x)) = bytes_of a.frames
 
 -- the answer to one frame was sent and flushed, and the session goes on or ends by it
-abbrev pub Replies : Answered → ReplicaState → Option (List ℕ) → Option (List ℕ) → Option ℕ → Option ℕ → Result (Option Closing) Halt → Type 0
+abbrev pub Replies : Answered → ReplicaState → Option (List ℕ) → Option (List ℕ) → Option ℕ → Option ℕ → Result (Option Closing) Fault → Type 0
 Replies a now out out' flushed flushed' (Ok None) = (a.end ≡ None) × (a.state ≡ now) × Appends out out' (bytes_of a.frames) × IsFlushed out' flushed'
 Replies a now out out' flushed flushed' (Ok (Some (closing.Bye bytes))) =
     (a.end ≡ Some end.Bye) × (a.state ≡ now) × (bytes.items ≡ bytes_of a.frames) × (out' ≡ out) × (flushed' ≡ flushed)
@@ -105,7 +104,7 @@ IsByFrame c = ⊥
 
 -- all whole frames in front of the bytes were answered, up to one that closes the session
 abbrev pub AnswersAll : LimitNumbers → ReplicaState → ReplicaState → List ℕ → List ℕ → Option (List ℕ) → Option (List ℕ) → Option ℕ → Option ℕ → ℕ → ℕ
-    → Result (Option Closing) Halt → Type 0
+    → Result (Option Closing) Fault → Type 0
 AnswersAll limits start now bytes rest out out' flushed flushed' before number (Ok None) =
     Spoken limits start now bytes rest out out' flushed flushed' before number × Finds limits rest Partial
 AnswersAll limits start now bytes rest out out' flushed flushed' before number (Ok (Some c)) = Closed limits start now bytes out out' flushed flushed' before c
@@ -145,10 +144,10 @@ pub record Reads (limits : LimitNumbers) (start now : ReplicaState) (left left' 
 
 -- What a session comes to that is held over an input: bytes of it were read, and the frames in front of them were answered.
 abbrev pub Talks : LimitNumbers → ReplicaState → ReplicaState → Option (List ℕ) → Option (List ℕ) → Option (List ℕ) → Option (List ℕ) → Option ℕ → Option ℕ
-    → Result Closing Halt → Type 0
+    → Result Closing Fault → Type 0
 Talks limits start now left left' out out' flushed flushed' (Ok c) =
     (read : List ℕ) × MayBeRead limits read × ReadsTo limits read left left' c × Closed limits start now read out out' flushed flushed' 0 c
-Talks limits start now left left' out out' flushed flushed' (Err (Stopped stop.SourceFailed)) =
+Talks limits start now left left' out out' flushed flushed' (Err fault_is.Source) =
     (read : List ℕ) × MayBeRead limits read × Consumes left left' read
     × ((rest : List ℕ) × (number : ℕ) × Spoken limits start now read rest out out' flushed flushed' 0 number × Finds limits rest Partial)
 Talks limits start now left left' out out' flushed flushed' (Err halt) =
@@ -161,9 +160,9 @@ EndsWith rest number (closing.CutFrame n) = (rest ≡ [] → ⊥) × (n ≡ suc 
 EndsWith rest number c = ⊥
 
 -- a piece of at most so many bytes was read into the front of a buffer, or the source failed
-abbrev pub Receives : Option (List ℕ) → Option (List ℕ) → ℕ → ℕ → ℕ → List ℕ → Result ℕ Halt → Type 0
+abbrev pub Receives : Option (List ℕ) → Option (List ℕ) → ℕ → ℕ → ℕ → List ℕ → Result ℕ Fault → Type 0
 Receives left left' before now most buffer (Ok n) = (n ≤ most) × Consumes left left' (take n buffer) × (0 < most → IsEnd n left) × (now ≡ before)
-Receives left left' before now most buffer (Err (Stopped stop.SourceFailed)) = Keeps left left' × (before ≤ now) × Rose before now
+Receives left left' before now most buffer (Err fault_is.Source) = Keeps left left' × (before ≤ now) × Rose before now
 Receives left left' before now most buffer (Err halt) = ⊥
 
 -- At most a piece of 4,096 bytes was read behind bytes whose frames are answered, and that ended no session.
@@ -182,9 +181,9 @@ pub record IsPieceBehind (limits : LimitNumbers) (start : ReplicaState) (left le
 
 -- what a session comes to, with its plan
 abbrev pub PlansTalk : Text → LimitNumbers → ReplicaState → Option (List ℕ) → Option (List ℕ) → Option (List ℕ) → Option (List ℕ) → Option ℕ → Option ℕ
-    → Result Plan Halt → Type 0
+    → Result code.Reply Fault → Type 0
 PlansTalk name limits start left left' out out' flushed flushed' (Ok p) =
     (now : ReplicaState) × (c : Closing) × Talks limits start now left left' out out' flushed flushed' (Ok c)
-    × ClosesAs name limits (length start.held) now.held c (plan_view p)
+    × ClosesAs name limits (length start.held) now.held c (reply_view p)
 PlansTalk name limits start left left' out out' flushed flushed' (Err halt) = (now : ReplicaState)
     × Talks limits start now left left' out out' flushed flushed' (Err halt)

@@ -12,7 +12,7 @@ use Rattle.command_table.specs.Framings.{IsFramingOf, Framing}
 use Rattle.command_table.specs.Sessions.{opened_state}
 use Rattle.command_table.specs.Table.{Text, open_file}
 use Rattle.opened_files.specs.Touches.{TouchesAtMost, file_touches, touches_over}
-use Rattle.serve_plans.specs.declared.halt.Halt.{Halt}
+use Rattle.ew_outside.specs.declared.fault.Fault.{Fault}
 use Rattle.serve_plans.specs.declared.closing.Closing.{Closing}
 
 -- none behind the end of a session
@@ -52,7 +52,7 @@ LeavesTouches limits start now bytes rest before after =
     → (more : List Frame) × AreFrames limits (rest ++ behind) more stop × (after + frames_touches now more ≤ before + frames_touches start frames)
 
 -- what answering the whole frames in front of bytes takes
-abbrev pub AnswersTake : LimitNumbers → ReplicaState → ReplicaState → List ℕ → List ℕ → ℕ → ℕ → Result (Option Closing) Halt → Type 0
+abbrev pub AnswersTake : LimitNumbers → ReplicaState → ReplicaState → List ℕ → List ℕ → ℕ → ℕ → Result (Option Closing) Fault → Type 0
 AnswersTake limits start now bytes rest before after (Ok None) = LeavesTouches limits start now bytes rest before after
 AnswersTake limits start now bytes rest before after (Ok (Some c)) = TakesWithin limits start bytes before after
 AnswersTake limits start now bytes rest before after (Err halt) = TakesWithin limits start bytes before after

@@ -1,5 +1,8 @@
 //! Answering the frames that are there.
-ghost use Rattle.std.specs.Prelude.{◌≡◌, ◌≤◌, ◌+◌, ◌<◌, ◌^◌, ◌-◌, ◌++◌, length, IfOk, Some};
+ghost use Rattle.std.specs.Prelude.{◌≡◌, ◌≤◌, ◌+◌, ◌<◌, ◌^◌, ◌-◌, ◌++◌, length, IfErr, IfOk, OnErr, OnOk, Some};
+ghost use Rattle.ew_outside.specs.Bytes.{IsFlushed};
+ghost use Rattle.ew_outside.specs.Outputs.{Takes};
+ghost use Rattle.ew_outside.specs.declared.fault.Fault.TheVariants as fault_is;
 ghost use Rattle.std.specs.List.{All};
 ghost use Rattle.command_table.specs.Sessions.{bytes_of};
 ghost use Rattle.ew_model.specs.FileLaws.{AreBytes};
@@ -11,10 +14,8 @@ ghost use Rattle.serve_plans.specs.Serving.{AnswersAll, Replies};
 ghost use Rattle.serve_plans.specs.SessionTouches.{AnswersTake};
 
 use crate::closing::Closing;
-use crate::halt::Halt;
-use crate::output::write_and_flush;
 use ew_model::steps::Steps;
-use ew_outside::Sink;
+use ew_outside::{Failed, Fault, Sink, write_and_flush};
 use peer_exchange::{End, Reply, answer};
 use peer_frames::{Frame, FrameReader, encode};
 use replica::Replica;
@@ -33,6 +34,20 @@ fn spelled(alloc: Global, frames: &[Frame]) -> Result<Vec<u8>, AllocError>
     Ok(bytes)
 }
 
+/// Writes all of the bytes and flushes them. A failure is the sink's.
+fn send<K: Sink>(out: &mut K, bytes: &[u8]) -> Result<(), Fault>
+    ensures bytes { Takes (K.seen out.old).taken (K.seen out.new).taken bytes.now result }
+    ensures flushed { OnOk result (IsFlushed (K.seen out.new).taken (K.seen out.new).flushed) }
+    ensures unflushed { OnErr result ((K.seen out.new).flushed ≡ (K.seen out.old).flushed) }
+    ensures cause { SinkCauses (K.seen out.old).faults (K.seen out.new).faults result }
+    ensures sink { IfErr result (λ fault. fault ≡ fault_is.Sink) }
+{
+    match write_and_flush(out, bytes) {
+        Ok(()) => Ok(()),
+        Err(Failed) => Err(Fault::Sink),
+    }
+}
+
 /// Answers a frame, and says how the session is closed, if it is. The answer to a Bye isn't written yet.
 fn answer_frame<K: Sink, L: Ledger>(
     alloc: Global,
@@ -40,22 +55,22 @@ fn answer_frame<K: Sink, L: Ledger>(
     frame: Frame,
     out: &mut K,
     steps: &mut Steps<L>,
-) -> Result<Option<Closing>, Halt>
+) -> Result<Option<Closing>, Fault>
     requires { HasSpelling frame }
-    ensures told { Replies (answer_to replica.old frame) replica.new (K.taken out.old) (K.taken out.new) (K.flushed out.old) (K.flushed out.new) result }
-    ensures cause { SinkCauses (K.faults out.old) (K.faults out.new) result }
+    ensures told { Replies (answer_to replica.old frame) replica.new (K.seen out.old).taken (K.seen out.new).taken (K.seen out.old).flushed (K.seen out.new).flushed result }
+    ensures cause { SinkCauses (K.seen out.old).faults (K.seen out.new).faults result }
     ensures most { steps.new ≤ steps.old + answer_touches replica.old frame }
 {
     let Reply { frames, end } = answer(alloc, replica, frame, steps)?;
     let bytes = spelled(alloc, &frames)?;
     match end {
         None => {
-            write_and_flush(out, &bytes)?;
+            send(out, &bytes)?;
             Ok(None)
         }
         Some(End::Bye) => Ok(Some(Closing::Bye(bytes))),
         Some(End::Clash(id)) => {
-            write_and_flush(out, &bytes)?;
+            send(out, &bytes)?;
             Ok(Some(Closing::Clash(id)))
         }
     }
@@ -69,11 +84,11 @@ fn answer_frames<K: Sink, L: Ledger>(
     replica: &mut Replica,
     out: &mut K,
     steps: &mut Steps<L>,
-) -> Result<Option<Closing>, Halt>
+) -> Result<Option<Closing>, Fault>
     requires { number.old + length reader.old.bytes < 2 ^ 32 - 1 }
-    ensures told { AnswersAll reader.old.limits replica.old replica.new reader.old.bytes reader.new.bytes (K.taken out.old) (K.taken out.new) (K.flushed out.old) (K.flushed out.new) number.old number.new result }
+    ensures told { AnswersAll reader.old.limits replica.old replica.new reader.old.bytes reader.new.bytes (K.seen out.old).taken (K.seen out.new).taken (K.seen out.old).flushed (K.seen out.new).flushed number.old number.new result }
     ensures limits { reader.new.limits ≡ reader.old.limits }
-    ensures cause { SinkCauses (K.faults out.old) (K.faults out.new) result }
+    ensures cause { SinkCauses (K.seen out.old).faults (K.seen out.new).faults result }
     ensures most { AnswersTake reader.old.limits replica.old replica.new reader.old.bytes reader.new.bytes steps.old steps.new result }
 {
     'frames: loop {
@@ -104,12 +119,12 @@ pub fn take_piece<K: Sink, L: Ledger>(
     replica: &mut Replica,
     out: &mut K,
     steps: &mut Steps<L>,
-) -> Result<Option<Closing>, Halt>
+) -> Result<Option<Closing>, Fault>
     requires { number.old + length (reader.old.bytes ++ piece.now) < 2 ^ 32 - 1 }
-    ensures told { AnswersAll reader.old.limits replica.old replica.new (reader.old.bytes ++ piece.now) reader.new.bytes (K.taken out.old) (K.taken out.new) (K.flushed out.old) (K.flushed out.new) number.old number.new result }
+    ensures told { AnswersAll reader.old.limits replica.old replica.new (reader.old.bytes ++ piece.now) reader.new.bytes (K.seen out.old).taken (K.seen out.new).taken (K.seen out.old).flushed (K.seen out.new).flushed number.old number.new result }
     ensures limits { reader.new.limits ≡ reader.old.limits }
     ensures fits { AreBytes piece.now }
-    ensures cause { SinkCauses (K.faults out.old) (K.faults out.new) result }
+    ensures cause { SinkCauses (K.seen out.old).faults (K.seen out.new).faults result }
     ensures most { AnswersTake reader.old.limits replica.old replica.new (reader.old.bytes ++ piece.now) reader.new.bytes steps.old steps.new result }
 {
     reader.feed(piece)?;

@@ -1,18 +1,16 @@
 //! How a session is closed, and what is done then.
 ghost use Rattle.std.specs.Prelude.{◌≡◌, ◌≢◌, IfOk, length};
 ghost use Rattle.command_table.specs.Sessions.{closed_reply};
-ghost use Rattle.opened_files.specs.Views.{IsCommandPlan, plan_view, status_of};
-ghost use Rattle.serve_plans.specs.Plans.{ClosesAs, fault_text};
+ghost use Rattle.opened_files.specs.Views.{IsTakenReply, reply_view, reply_status};
+ghost use Rattle.serve_plans.specs.Plans.{ClosesAs, frame_refusal};
+ghost use Rattle.command_texts.specs.Reasons.{refusal_view};
 ghost use Rattle.std.specs.Option.{option_map};
 
-use command_texts::texts::{
-    bad_body_text, bad_kind_text, clash_text, frame_cut_text, frame_too_long_text,
-    input_too_long_text,
-};
+use command_texts::refusal::Refusal;
 use ew_model::id::Id;
 use ew_model::limits::Limits;
-use opened_files::reply::Plan;
-use opened_files::store::store_plan;
+use opened_files::reply::Reply;
+use opened_files::store::store_reply;
 use peer_frames::FrameFault;
 use replica::Replica;
 use std::alloc::{AllocError, Global};
@@ -41,26 +39,26 @@ fn close_well<'a>(
     replica: &Replica,
     before: u32,
     out: Vec<u8>,
-) -> Result<Plan<'a>, AllocError>
-    ensures told { IfOk result (λ p. plan_view p ≡ closed_reply name.now before out.items replica.now.held) }
-    ensures plan { IfOk result IsCommandPlan }
-    ensures found { IfOk result (λ p. status_of p ≢ 3) }
+) -> Result<Reply<'a>, AllocError>
+    ensures told { IfOk result (λ p. reply_view p ≡ closed_reply name.now before out.items replica.now.held) }
+    ensures plan { IfOk result IsTakenReply }
+    ensures found { IfOk result (λ p. reply_status p ≢ 3) }
 {
     if before < replica.count() {
-        store_plan(alloc, name, replica, out)
+        store_reply(alloc, name, replica, out)
     } else {
-        Ok(Plan::Prints(out))
+        Ok(Reply::Prints(out))
     }
 }
 
-/// What is told of a fault of a frame.
-fn fault_text(alloc: Global, number: u32, fault: FrameFault) -> Result<Vec<u8>, AllocError>
-    ensures { IfOk result (λ text. fault_text number fault ≡ Some text.items) }
+/// Why there is no frame of this number.
+fn frame_refusal<'a>(number: u32, fault: FrameFault) -> Result<Refusal<'a>, AllocError>
+    ensures { IfOk result (λ why. frame_refusal number fault ≡ Some (refusal_view why)) }
 {
     match fault {
-        FrameFault::BadKind(kind) => bad_kind_text(alloc, number, kind),
-        FrameFault::TooLong(len) => frame_too_long_text(alloc, number, len),
-        FrameFault::BadBody => bad_body_text(alloc, number),
+        FrameFault::BadKind(kind) => Ok(Refusal::BadKind { number, kind }),
+        FrameFault::TooLong(len) => Ok(Refusal::FrameTooLong { number, len }),
+        FrameFault::BadBody => Ok(Refusal::BadBody { number }),
         FrameFault::OutOfMemory => Err(AllocError),
     }
 }
@@ -73,29 +71,19 @@ pub fn close<'a>(
     replica: &Replica,
     before: u32,
     closing: Closing,
-) -> Result<Plan<'a>, AllocError>
-    ensures told { IfOk result (λ p. ClosesAs name.now limits.now before replica.now.held closing (plan_view p)) }
-    ensures plan { IfOk result IsCommandPlan }
-    ensures found { IfOk result (λ p. status_of p ≢ 3) }
+) -> Result<Reply<'a>, AllocError>
+    ensures told { IfOk result (λ p. ClosesAs name.now limits.now before replica.now.held closing (reply_view p)) }
+    ensures plan { IfOk result IsTakenReply }
+    ensures found { IfOk result (λ p. reply_status p ≢ 3) }
 {
     match closing {
         Closing::End => close_well(alloc, name, replica, before, Vec::new(alloc)),
         Closing::Bye(out) => close_well(alloc, name, replica, before, out),
-        Closing::Clash(id) => Ok(Plan::Refuses {
-            status: 5,
-            text: clash_text(alloc, &id)?,
-        }),
-        Closing::BadFrame { number, fault } => Ok(Plan::Refuses {
-            status: 5,
-            text: fault_text(alloc, number, fault)?,
-        }),
-        Closing::CutFrame { number } => Ok(Plan::Refuses {
-            status: 5,
-            text: frame_cut_text(alloc, number)?,
-        }),
-        Closing::TooLong => Ok(Plan::Refuses {
-            status: 7,
-            text: input_too_long_text(alloc, limits.input())?,
-        }),
+        Closing::Clash(id) => Ok(Reply::Refuses(Refusal::Clash(id))),
+        Closing::BadFrame { number, fault } => Ok(Reply::Refuses(frame_refusal(number, fault)?)),
+        Closing::CutFrame { number } => Ok(Reply::Refuses(Refusal::FrameCut { number })),
+        Closing::TooLong => Ok(Reply::Refuses(Refusal::InputTooLong {
+            most: limits.input(),
+        })),
     }
 }

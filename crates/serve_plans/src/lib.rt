@@ -4,7 +4,5 @@
 
 mod answering;
 mod closing;
-pub mod halt;
-pub mod output;
 pub mod serve;
 mod talk;

@@ -3,19 +3,18 @@ ghost use Rattle.std.specs.Prelude.{◌≡◌, ◌≢◌, ◌+◌, [], IfOk, IfS
 ghost use Rattle.command_table.specs.Reads.{IfRefused, LeavesInput, TakesAtMost};
 ghost use Rattle.command_table.specs.Table.{open_file};
 ghost use Rattle.ew_outside.specs.Counts.{next};
-ghost use Rattle.opened_files.specs.Views.{IsCommandPlan, status_of};
-ghost use Rattle.serve_plans.specs.Plans.{Causes, KeepsStreams, LostBy, MayPlan, MissesBy, ReadsAll, ReadsNone, ReadsOn, ReadsWithin, SendsReplies, Serves, StreamCauses};
+ghost use Rattle.opened_files.specs.Views.{IsTakenReply, LostBy, MissesBy, reply_status};
+ghost use Rattle.serve_plans.specs.Plans.{Causes, KeepsStreams, MayPlan, ReadsAll, ReadsNone, ReadsOn, ReadsWithin, SendsReplies, Serves, StreamCauses};
 ghost use Rattle.serve_plans.specs.Serving.{IsPieceBehind, PlansTalk};
 ghost use Rattle.serve_plans.specs.SessionTouches.{SessionTakes, TalkTakes};
 
 use crate::closing::close;
-use crate::halt::Halt;
 use crate::talk::talk;
 use ew_model::limits::Limits;
 use ew_model::steps::Steps;
-use ew_outside::{Shelf, Sink, Source};
+use ew_outside::{Fault, Shelf, Sink, Source};
 use opened_files::open::{Found, open};
-use opened_files::reply::Plan;
+use opened_files::reply::Reply;
 use replica::Replica;
 use std::alloc::Global;
 use std::sync::ledger::Ledger;
@@ -29,13 +28,13 @@ fn serve_events<'a, S: Source, K: Sink, L: Ledger>(
     input: &mut S,
     out: &mut K,
     steps: &mut Steps<L>,
-) -> Result<Plan<'a>, Halt>
-    ensures told { PlansTalk name.now limits.now replica.old (S.left input.old) (S.left input.new) (K.taken out.old) (K.taken out.new) (K.flushed out.old) (K.flushed out.new) result }
-    ensures prompt { IsPieceBehind limits.now replica.old (S.left input.old) (S.left input.new) (K.taken out.old) (K.taken out.new) }
-    ensures cause { StreamCauses (S.faults input.old) (S.faults input.new) (K.faults out.old) (K.faults out.new) result }
-    ensures most { TalkTakes limits.now replica.old (S.left input.old) steps.old steps.new }
-    ensures plan { IfOk result IsCommandPlan }
-    ensures found { IfOk result (λ p. status_of p ≢ 3) }
+) -> Result<Reply<'a>, Fault>
+    ensures told { PlansTalk name.now limits.now replica.old (S.seen input.old).left (S.seen input.new).left (K.seen out.old).taken (K.seen out.new).taken (K.seen out.old).flushed (K.seen out.new).flushed result }
+    ensures prompt { IsPieceBehind limits.now replica.old (S.seen input.old).left (S.seen input.new).left (K.seen out.old).taken (K.seen out.new).taken }
+    ensures cause { StreamCauses (S.seen input.old).faults (S.seen input.new).faults (K.seen out.old).faults (K.seen out.new).faults result }
+    ensures most { TalkTakes limits.now replica.old (S.seen input.old).left steps.old steps.new }
+    ensures plan { IfOk result IsTakenReply }
+    ensures found { IfOk result (λ p. reply_status p ≢ 3) }
 {
     let before = replica.count();
     let closing = talk(alloc, limits, replica, input, out, steps)?;
@@ -53,28 +52,28 @@ pub fn serve<'a, H: Shelf, S: Source, K: Sink, L: Ledger>(
     input: &mut S,
     out: &mut K,
     steps: &mut Steps<L>,
-) -> Result<Plan<'a>, Halt>
-    ensures told { Serves name.now limits.now (H.files shelf.old) (S.left input.old) (K.taken out.old) (K.taken out.new) (K.flushed out.new) result }
-    ensures some { MayPlan name.now limits.now (K.taken out.old) (K.taken out.new) (K.flushed out.new) result }
-    ensures replies { SendsReplies name.now limits.now (H.files shelf.old) (S.left input.old) (S.left input.new) (K.taken out.old) (K.taken out.new) (K.flushed out.new) result }
-    ensures prompt { ReadsOn name.now limits.now (H.files shelf.old) (S.left input.old) (S.left input.new) (K.taken out.old) (K.taken out.new) }
-    ensures end { ReadsAll limits.now (S.left input.old) (S.left input.new) result }
-    ensures plan { IfOk result IsCommandPlan }
-    ensures same { H.files shelf.new ≡ H.files shelf.old }
-    ensures cause { Causes (H.faults shelf.old) (H.faults shelf.new) (S.faults input.old) (S.faults input.new) (K.faults out.old) (K.faults out.new) result }
-    ensures misses { MissesBy (H.misses shelf.old) (H.misses shelf.new) result }
-    ensures loads { H.loads shelf.new ≡ next (H.loads shelf.old) }
-    ensures lost { LostBy (H.lost shelf.old) (H.lost shelf.new) result }
-    ensures kept { KeepsStreams (S.left input.old) (S.left input.new) (K.taken out.old) (K.taken out.new) result }
-    ensures few { TakesAtMost (limits.now.input + 1) (S.left input.old) (S.left input.new) }
-    ensures within { ReadsWithin limits.now (S.left input.old) (S.left input.new) result }
-    ensures refused { ReadsNone (S.left input.old) (S.left input.new) (S.faults input.old) (S.faults input.new) result }
-    ensures most { SessionTakes name.now limits.now (H.files shelf.old) (S.left input.old) steps.old steps.new }
-    ensures untouched { IfSome (H.files shelf.old) (λ m. IfRefused (open_file name.now limits.now m) (LeavesInput (S.left input.old) (S.left input.new) (S.faults input.old) (S.faults input.new))) }
+) -> Result<Reply<'a>, Fault>
+    ensures told { Serves name.now limits.now (H.seen shelf.old).files (S.seen input.old).left (K.seen out.old).taken (K.seen out.new).taken (K.seen out.new).flushed result }
+    ensures some { MayPlan name.now limits.now (K.seen out.old).taken (K.seen out.new).taken (K.seen out.new).flushed result }
+    ensures replies { SendsReplies name.now limits.now (H.seen shelf.old).files (S.seen input.old).left (S.seen input.new).left (K.seen out.old).taken (K.seen out.new).taken (K.seen out.new).flushed result }
+    ensures prompt { ReadsOn name.now limits.now (H.seen shelf.old).files (S.seen input.old).left (S.seen input.new).left (K.seen out.old).taken (K.seen out.new).taken }
+    ensures end { ReadsAll limits.now (S.seen input.old).left (S.seen input.new).left result }
+    ensures plan { IfOk result IsTakenReply }
+    ensures same { (H.seen shelf.new).files ≡ (H.seen shelf.old).files }
+    ensures cause { Causes (H.seen shelf.old).faults (H.seen shelf.new).faults (S.seen input.old).faults (S.seen input.new).faults (K.seen out.old).faults (K.seen out.new).faults result }
+    ensures misses { MissesBy (H.seen shelf.old).misses (H.seen shelf.new).misses result }
+    ensures loads { (H.seen shelf.new).loads ≡ next (H.seen shelf.old).loads }
+    ensures lost { LostBy (H.seen shelf.old).lost (H.seen shelf.new).lost result }
+    ensures kept { KeepsStreams (S.seen input.old).left (S.seen input.new).left (K.seen out.old).taken (K.seen out.new).taken result }
+    ensures few { TakesAtMost (limits.now.input + 1) (S.seen input.old).left (S.seen input.new).left }
+    ensures within { ReadsWithin limits.now (S.seen input.old).left (S.seen input.new).left result }
+    ensures refused { ReadsNone (S.seen input.old).left (S.seen input.new).left (S.seen input.old).faults (S.seen input.new).faults result }
+    ensures most { SessionTakes name.now limits.now (H.seen shelf.old).files (S.seen input.old).left steps.old steps.new }
+    ensures untouched { IfSome (H.seen shelf.old).files (λ m. IfRefused (open_file name.now limits.now m) (LeavesInput (S.seen input.old).left (S.seen input.new).left (S.seen input.old).faults (S.seen input.new).faults)) }
 {
     match open(alloc, name, limits, shelf, steps) {
-        Err(stop) => Err(Halt::Stopped(stop)),
-        Ok(Found::Refused { status, text }) => Ok(Plan::Refuses { status, text }),
+        Err(fault) => Err(fault),
+        Ok(Found::Refused(why)) => Ok(Reply::Refuses(why)),
         Ok(Found::Open(mut replica)) => {
             serve_events(alloc, name, limits, &mut replica, input, out, steps)
         }

@@ -6,11 +6,9 @@ ghost use Rattle.serve_plans.specs.SessionTouches.{TalkTakes};
 
 use crate::answering::take_piece;
 use crate::closing::Closing;
-use crate::halt::Halt;
 use ew_model::limits::Limits;
 use ew_model::steps::Steps;
-use ew_outside::{Failed, Sink, Source};
-use opened_files::reply::Stop;
+use ew_outside::{Failed, Fault, Sink, Source};
 use peer_frames::FrameReader;
 use replica::Replica;
 use std::alloc::Global;
@@ -32,14 +30,14 @@ fn closing_at_end(reader: &FrameReader, number: u32) -> Closing
 }
 
 /// Reads a piece of at most so many bytes into the front of a buffer. A failure is the source's.
-fn read_piece<S: Source>(input: &mut S, buffer: &mut [u8], most: usize) -> Result<usize, Halt>
+fn read_piece<S: Source>(input: &mut S, buffer: &mut [u8], most: usize) -> Result<usize, Fault>
     requires { most ≤ length buffer.old }
-    ensures read { Receives (S.left input.old) (S.left input.new) (S.faults input.old) (S.faults input.new) most buffer.new result }
+    ensures read { Receives (S.seen input.old).left (S.seen input.new).left (S.seen input.old).faults (S.seen input.new).faults most buffer.new result }
     ensures length { length buffer.new ≡ length buffer.old }
 {
     match input.read(&mut buffer[..most]) {
         Ok(count) => Ok(count),
-        Err(Failed) => Err(Halt::Stopped(Stop::SourceFailed)),
+        Err(Failed) => Err(Fault::Source),
     }
 }
 
@@ -51,11 +49,11 @@ pub fn talk<S: Source, K: Sink, L: Ledger>(
     input: &mut S,
     out: &mut K,
     steps: &mut Steps<L>,
-) -> Result<Closing, Halt>
-    ensures told { Talks limits.now replica.old replica.new (S.left input.old) (S.left input.new) (K.taken out.old) (K.taken out.new) (K.flushed out.old) (K.flushed out.new) result }
-    ensures prompt { IsPieceBehind limits.now replica.old (S.left input.old) (S.left input.new) (K.taken out.old) (K.taken out.new) }
-    ensures cause { StreamCauses (S.faults input.old) (S.faults input.new) (K.faults out.old) (K.faults out.new) result }
-    ensures most { TalkTakes limits.now replica.old (S.left input.old) steps.old steps.new }
+) -> Result<Closing, Fault>
+    ensures told { Talks limits.now replica.old replica.new (S.seen input.old).left (S.seen input.new).left (K.seen out.old).taken (K.seen out.new).taken (K.seen out.old).flushed (K.seen out.new).flushed result }
+    ensures prompt { IsPieceBehind limits.now replica.old (S.seen input.old).left (S.seen input.new).left (K.seen out.old).taken (K.seen out.new).taken }
+    ensures cause { StreamCauses (S.seen input.old).faults (S.seen input.new).faults (K.seen out.old).faults (K.seen out.new).faults result }
+    ensures most { TalkTakes limits.now replica.old (S.seen input.old).left steps.old steps.new }
 {
     let mut reader = FrameReader::new(alloc, *limits)?;
     let mut number = 0u32;

@@ -1,4 +1,4 @@
-use Rattle.command_runs.proofs.LineRuns.{run_ends}
+use Rattle.command_runs.proofs.Runs.{run_ends}
 use Rattle.command_runs.proofs.start.run_process.Goals as goal
 
 pub returns : goal.returns

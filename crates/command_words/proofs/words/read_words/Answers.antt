@@ -8,17 +8,17 @@ use Rattle.command_table.specs.Cli.{egw_app}
 use Rattle.command_words.proofs.TakenWords.{egw_is_simple, egw_is_free, taken, refused}
 use Rattle.command_words.proofs.words.read_words.Goals as goal
 
-pub returns-in-Ok-clause-line : goal.returns-in-Ok-clause-line
-returns-in-Ok-clause-line c =
+pub returns-in-Ok : goal.returns-in-Ok
+returns-in-Ok c =
     let words : List Text = map string_bytes c.args.words.now in
     let app : app_of c.in_ok-command.command ≡ egw_app = c.in_ok-command.ensures in
     let none = c.in-Ok.ensures.kinds (ap is_simple_and_free app ∙ egw_is_free) in
     let rows = (c.in-Ok.ensures.matches (ap is_simple app ∙ egw_is_simple)).1 in
     let whole = taken words _ (ap (λ (a : App). fault_of a words) (sym app) ∙ none) (rows ∙ ap (λ (a : App). subcommand_of a words) app) in
-    IfOk-weaker c.read_matches.result _ _ (λ l h. h ∙ whole) c.read_matches.ensures.line
+    IfOk-weaker c.read_matches.result _ _ (λ l h. h ∙ whole) c.read_matches.ensures
 
-pub returns-clause-line : goal.returns-clause-line
-returns-clause-line c =
+pub returns : goal.returns
+returns c =
     let words : List Text = map string_bytes c.args.words.now in
     let app : app_of c.in_ok-command.command ≡ egw_app = c.in_ok-command.ensures in
     let has : HasKind (fault_of (app_of c.in_ok-command.command) words) c.in-Err.error = c.in-Err.ensures.kinds (ap is_simple_and_free app ∙ egw_is_free) in

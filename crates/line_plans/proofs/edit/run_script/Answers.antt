@@ -1,7 +1,7 @@
-use Rattle.std.proofs.Common.{◌≡◌, Err, IfOk, ap, subst}
+use Rattle.std.proofs.Common.{refl, ◌≡◌, Err, IfOk, ap, subst}
 use Rattle.event_words.specs.Meaning.{numbered_edits}
 use Rattle.line_plans.specs.Edits.{edits_reply}
-use Rattle.opened_files.specs.Views.{plan_view}
+use Rattle.opened_files.specs.Views.{reply_view}
 use Rattle.command_table.specs.Scripts.{bad_line}
 use Rattle.command_table.specs.Table.{refuses}
 use Rattle.line_plans.proofs.Readings.{bad_script, edits_script}
@@ -11,19 +11,19 @@ use Rattle.line_plans.proofs.edit.run_script.Goals as goal
 pub returns-in-Err-BadLine-clause-told : goal.returns-in-Err-BadLine-clause-told
 returns-in-Err-BadLine-clause-told g c =
     let line = c.in-Err-BadLine.line in
-    bad_script c.args.name.now c.args.agent c.args.script.now c.args.replica.now c.args.replica.now line c.in_ok-bad_line_text-in-Err-BadLine.field-0.items (c.in-Err-BadLine.ensures.bad_line line (λ i. Err (c.in-Err-BadLine.field-0-is i))) (rw c.in-Err-BadLine.field-0-is at c.in_ok-bad_line_text-in-Err-BadLine.ensures)
+    bad_script c.args.name.now c.args.agent c.args.script.now c.args.replica.now c.args.replica.now line (c.in-Err-BadLine.ensures.bad_line line (λ i. Err (c.in-Err-BadLine.field-0-is i)))
 
 pub returns-clause-told : goal.returns-clause-told
 returns-clause-told g c =
-    let told = subst (λ l. IfOk c.run_edits.result (λ p. plan_view p ≡ edits_reply c.args.name.now c.args.agent c.args.replica.now (numbered_edits l))) c.deref.ensures.value c.run_edits.ensures.told in
+    let told = subst (λ l. IfOk c.run_edits.result (λ p. reply_view p ≡ edits_reply c.args.name.now c.args.agent c.args.replica.now (numbered_edits l))) c.deref.ensures.value c.run_edits.ensures.told in
     edits_script c.args.name.now c.args.agent c.args.script.now c.args.replica.now c.args.replica.now (numbered_edits c.in-Ok.edits.items) c.run_edits.result c.in-Ok.ensures.script told
 
 pub returns-in-Err-BadLine-clause-some : goal.returns-in-Err-BadLine-clause-some
 returns-in-Err-BadLine-clause-some g c =
     let line = c.in-Err-BadLine.line in
-    (bad_line line, c.in-Err-BadLine.ensures.bad_line line (λ i. Err (c.in-Err-BadLine.field-0-is i)), ap (refuses 5) (rw c.in-Err-BadLine.field-0-is at c.in_ok-bad_line_text-in-Err-BadLine.ensures))
+    (bad_line line, c.in-Err-BadLine.ensures.bad_line line (λ i. Err (c.in-Err-BadLine.field-0-is i)), refl)
 
 pub returns-clause-some : goal.returns-clause-some
 returns-clause-some g c =
-    let told = subst (λ l. IfOk c.run_edits.result (λ p. plan_view p ≡ edits_reply c.args.name.now c.args.agent c.args.replica.now (numbered_edits l))) c.deref.ensures.value c.run_edits.ensures.told in
+    let told = subst (λ l. IfOk c.run_edits.result (λ p. reply_view p ≡ edits_reply c.args.name.now c.args.agent c.args.replica.now (numbered_edits l))) c.deref.ensures.value c.run_edits.ensures.told in
     may_script c.args.name.now c.args.agent c.args.script.now c.args.replica.now (numbered_edits c.in-Ok.edits.items) c.run_edits.result c.in-Ok.ensures.script told

@@ -1,11 +1,11 @@
 use Rattle.std.proofs.Common.{◌≤◌, ◌∙◌, length, ap, inl, subst}
 use Rattle.command_table.specs.Table.{refuses}
-use Rattle.command_table.specs.Text.{input_too_long}
+use Rattle.command_table.specs.Refusals.{input_too_long}
 use Rattle.line_plans.proofs.Replies.{may_edit}
 use Rattle.line_plans.proofs.edit.take_input.Goals as goal
 
-pub returns-in_ok-input_too_long_text-in-TooLong-clause-some : goal.returns-in_ok-input_too_long_text-in-TooLong-clause-some
-returns-in_ok-input_too_long_text-in-TooLong-clause-some g c = inl (ap (refuses 7) (c.in_ok-input_too_long_text-in-TooLong.ensures ∙ ap input_too_long c.input-most.ensures.value))
+pub returns-in-TooLong-clause-some : goal.returns-in-TooLong-clause-some
+returns-in-TooLong-clause-some g c = inl (ap (λ most. refuses (input_too_long most)) c.input-most.ensures.value)
 
 pub returns-in_ok-run_script-in-Whole-clause-some : goal.returns-in_ok-run_script-in-Whole-clause-some
 returns-in_ok-run_script-in-Whole-clause-some g c =

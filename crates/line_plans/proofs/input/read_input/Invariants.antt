@@ -4,8 +4,8 @@ use Rattle.line_plans.proofs.input.read_input.Given as goal
 
 abbrev pub invariant-pieces : goal.invariant-pieces
 invariant-pieces g l = record {
-  taken : Consumes (g.S.Source.left l.fn.source) (g.S.Source.left l.source) l.bytes.items;
-  count : g.S.Source.faults l.source ≡ g.S.Source.faults l.fn.source;
+  taken : Consumes (g.S.Source.seen l.fn.source).left (g.S.Source.seen l.source).left l.bytes.items;
+  count : (g.S.Source.seen l.source).faults ≡ (g.S.Source.seen l.fn.source).faults;
   within : vec_len l.bytes ≤ l.bound + 1;
 }
 

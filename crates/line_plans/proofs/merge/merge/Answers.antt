@@ -1,10 +1,10 @@
-use Rattle.std.proofs.Common.{Ok, subst}
-use Rattle.opened_files.specs.declared.reply.Plan.TheVariants as plan
+use Rattle.std.proofs.Common.{subst}
 use Rattle.opened_files.specs.Touches.{TouchesAtMost, merge_touches}
 use Rattle.command_table.specs.Table.{merge_reply}
 use Rattle.opened_files.proofs.Touches.{opened_touched}
 use Rattle.line_plans.proofs.Loads.{both_front, first_front, loads_opened, loads_refused}
 use Rattle.line_plans.proofs.Merges.{both_opened, later_causes, later_lost, later_misses, opened_merges, refused_merges}
+use Rattle.command_texts.specs.Reasons.{refusal_view}
 use Rattle.line_plans.proofs.merge.merge.Goals as goal
 
 pub returns-in_err-status-clause-front : goal.returns-in_err-status-clause-front
@@ -15,11 +15,11 @@ returns-in-Refused-clause-front g c = first_front c.args.name.now c.args.other.n
 
 pub returns-in-Refused-clause-loads : goal.returns-in-Refused-clause-loads
 returns-in-Refused-clause-loads g c =
-    loads_refused c.args.name.now c.args.other.now c.args.limits.now c.in-Refused.status c.in-Refused.text.items (g.H.Shelf.files c.args.shelf.now) _ _ (Ok (plan.Refuses c.in-Refused.status c.in-Refused.text)) (rw c.in-Refused.is at c.in_ok-status.ensures.told) c.in_ok-status.ensures.loads
+    loads_refused c.args.name.now c.args.other.now c.args.limits.now (refusal_view c.in-Refused.why) (g.H.Shelf.seen c.args.shelf.now).files _ _ (rw c.in-Refused.is at c.in_ok-status.ensures.told) c.in_ok-status.ensures.loads
 
 pub returns-in-Open-clause-told : goal.returns-in-Open-clause-told
 returns-in-Open-clause-told g c =
-    both_opened (merge_reply c.args.name.now c.args.limits.now) c.args.name.now c.args.other.now c.args.limits.now c.in-Open.replica.held (g.H.Shelf.files c.args.shelf.now) (g.H.Shelf.files c.open.new.shelf) c.take_other.result c.in_ok-status.ensures.same (rw c.in-Open.is at c.in_ok-status.ensures.told) c.take_other.ensures.told
+    both_opened (merge_reply c.args.name.now c.args.limits.now) c.args.name.now c.args.other.now c.args.limits.now c.in-Open.replica.held (g.H.Shelf.seen c.args.shelf.now).files (g.H.Shelf.seen c.open.new.shelf).files c.take_other.result c.in_ok-status.ensures.same (rw c.in-Open.is at c.in_ok-status.ensures.told) c.take_other.ensures.told
 
 pub returns-in-Open-clause-cause : goal.returns-in-Open-clause-cause
 returns-in-Open-clause-cause g c = later_causes _ _ _ c.take_other.result c.in_ok-status.ensures.cause c.take_other.ensures.cause
@@ -35,11 +35,11 @@ returns-in-Open-clause-front g c = both_front c.args.name.now c.args.other.now _
 
 pub returns-in-Open-clause-loads : goal.returns-in-Open-clause-loads
 returns-in-Open-clause-loads g c =
-    loads_opened c.args.name.now c.args.other.now c.args.limits.now c.in-Open.replica.held (g.H.Shelf.files c.args.shelf.now) _ _ _ c.take_other.result (rw c.in-Open.is at c.in_ok-status.ensures.told) c.in_ok-status.ensures.loads c.take_other.ensures.loads
+    loads_opened c.args.name.now c.args.other.now c.args.limits.now c.in-Open.replica.held (g.H.Shelf.seen c.args.shelf.now).files _ _ _ c.take_other.result (rw c.in-Open.is at c.in_ok-status.ensures.told) c.in_ok-status.ensures.loads c.take_other.ensures.loads
 
 pub returns-in-Refused-clause-some : goal.returns-in-Refused-clause-some
 returns-in-Refused-clause-some g c =
-    refused_merges c.args.name.now c.args.limits.now c.args.other.now c.in-Refused.status c.in-Refused.text.items (rw c.in-Refused.is at c.in_ok-status.ensures.some)
+    refused_merges c.args.name.now c.args.limits.now c.args.other.now (refusal_view c.in-Refused.why) (rw c.in-Refused.is at c.in_ok-status.ensures.some)
 
 pub returns-in-Open-clause-some : goal.returns-in-Open-clause-some
 returns-in-Open-clause-some g c =
@@ -50,4 +50,4 @@ returns-in-Open-clause-most g c =
     let others = merge_touches c.args.other.now c.args.limits.now in
     let held = c.in-Open.replica.held in
     let later = subst (λ files. TouchesAtMost (λ m. others m held) files c.open.new.steps c.take_other.new.steps) c.in_ok-status.ensures.same c.take_other.ensures.most in
-    opened_touched c.args.name.now c.args.limits.now others held (g.H.Shelf.files c.args.shelf.now) c.args.steps.now c.open.new.steps c.take_other.new.steps (rw c.in-Open.is at c.in_ok-status.ensures.told) c.in_ok-status.ensures.most later
+    opened_touched c.args.name.now c.args.limits.now others held (g.H.Shelf.seen c.args.shelf.now).files c.args.steps.now c.open.new.steps c.take_other.new.steps (rw c.in-Open.is at c.in_ok-status.ensures.told) c.in_ok-status.ensures.most later

@@ -7,7 +7,7 @@ use Rattle.serve_plans.proofs.answering.answer_frames.Goals as goal
 
 pub frames-init : goal.frames-init
 frames-init g c = record {
-  spoken = spoken_none c.args.reader.now.limits c.args.replica.now c.args.reader.now.bytes (g.K.Sink.taken c.args.out.now) (g.K.Sink.flushed c.args.out.now)
+  spoken = spoken_none c.args.reader.now.limits c.args.replica.now c.args.reader.now.bytes (g.K.Sink.seen c.args.out.now).taken (g.K.Sink.seen c.args.out.now).flushed
       c.args.number.now;
   limits = refl;
   touches = leaves_none c.args.reader.now.limits c.args.replica.now c.args.reader.now.bytes c.args.steps.now;
@@ -23,7 +23,7 @@ overflow_add-result g c = omega (arith, c.requires, c.frames.invariant.spoken.nu
 pub returns-in_err-closing-in-Ok-Some-clause-told : goal.returns-in_err-closing-in-Ok-Some-clause-told
 returns-in_err-closing-in-Ok-Some-clause-told g c =
     broken_next _ c.frames.reader.limits _ c.frames.replica c.answer_frame.new.replica _ c.frames.reader.bytes c.next.new.self.bytes c.in-Ok-Some.frame _
-    (g.K.Sink.taken c.frames.out) (g.K.Sink.taken c.answer_frame.new.out) _ (g.K.Sink.flushed c.frames.out) (g.K.Sink.flushed c.answer_frame.new.out) _
+    (g.K.Sink.seen c.frames.out).taken (g.K.Sink.seen c.answer_frame.new.out).taken _ (g.K.Sink.seen c.frames.out).flushed (g.K.Sink.seen c.answer_frame.new.out).flushed _
     c.frames.number c.frames.invariant.spoken c.frames.invariant.limits
     (found_next c.frames.reader.limits c.frames.reader.bytes c.next.new.self.bytes c.in-Ok-Some.frame c.next.result c.in-Ok-Some.field-0 c.in-Ok-Some.is
     c.in-Ok-Some.field-0-is c.next.ensures.found)
@@ -53,7 +53,7 @@ returns-in-Err-clause-most g c =
 pub returns-in-Some-clause-told : goal.returns-in-Some-clause-told
 returns-in-Some-clause-told g c =
     closed_next _ c.frames.reader.limits _ c.frames.replica c.answer_frame.new.replica _ c.frames.reader.bytes c.next.new.self.bytes c.in-Ok-Some.frame _
-    (g.K.Sink.taken c.frames.out) (g.K.Sink.taken c.answer_frame.new.out) _ (g.K.Sink.flushed c.frames.out) (g.K.Sink.flushed c.answer_frame.new.out) _
+    (g.K.Sink.seen c.frames.out).taken (g.K.Sink.seen c.answer_frame.new.out).taken _ (g.K.Sink.seen c.frames.out).flushed (g.K.Sink.seen c.answer_frame.new.out).flushed _
     c.frames.number c.frames.invariant.spoken c.frames.invariant.limits
     (found_next c.frames.reader.limits c.frames.reader.bytes c.next.new.self.bytes c.in-Ok-Some.frame c.next.result c.in-Ok-Some.field-0 c.in-Ok-Some.is
     c.in-Ok-Some.field-0-is c.next.ensures.found)
@@ -62,7 +62,7 @@ returns-in-Some-clause-told g c =
 pub frames-smaller : goal.frames-smaller
 frames-smaller g c =
     next_shorter _ c.frames.reader.limits _ c.frames.replica c.answer_frame.new.replica _ c.frames.reader.bytes c.next.new.self.bytes c.in-Ok-Some.frame _
-    (g.K.Sink.taken c.frames.out) (g.K.Sink.taken c.answer_frame.new.out) _ (g.K.Sink.flushed c.frames.out) (g.K.Sink.flushed c.answer_frame.new.out) _
+    (g.K.Sink.seen c.frames.out).taken (g.K.Sink.seen c.answer_frame.new.out).taken _ (g.K.Sink.seen c.frames.out).flushed (g.K.Sink.seen c.answer_frame.new.out).flushed _
     c.frames.number c.frames.invariant.spoken c.frames.invariant.limits
     (found_next c.frames.reader.limits c.frames.reader.bytes c.next.new.self.bytes c.in-Ok-Some.frame c.next.result c.in-Ok-Some.field-0 c.in-Ok-Some.is
     c.in-Ok-Some.field-0-is c.next.ensures.found)
@@ -70,7 +70,7 @@ frames-smaller g c =
 pub frames-preserved : goal.frames-preserved
 frames-preserved g c = record {
   spoken = spoken_next _ c.frames.reader.limits _ c.frames.replica c.answer_frame.new.replica _ c.frames.reader.bytes c.next.new.self.bytes c.in-Ok-Some.frame
-      _ (g.K.Sink.taken c.frames.out) (g.K.Sink.taken c.answer_frame.new.out) _ (g.K.Sink.flushed c.frames.out) (g.K.Sink.flushed c.answer_frame.new.out) _
+      _ (g.K.Sink.seen c.frames.out).taken (g.K.Sink.seen c.answer_frame.new.out).taken _ (g.K.Sink.seen c.frames.out).flushed (g.K.Sink.seen c.answer_frame.new.out).flushed _
       c.frames.number c.frames.invariant.spoken c.frames.invariant.limits
       (found_next c.frames.reader.limits c.frames.reader.bytes c.next.new.self.bytes c.in-Ok-Some.frame c.next.result c.in-Ok-Some.field-0 c.in-Ok-Some.is
       c.in-Ok-Some.field-0-is c.next.ensures.found) c.in_ok-closing-in-Ok-Some.field-0 c.in_default.is c.in_ok-closing-in-Ok-Some.ensures.told;
@@ -79,7 +79,7 @@ frames-preserved g c = record {
       c.frames.reader.bytes c.next.new.self.bytes c.in-Ok-Some.frame c.args.steps.now c.frames.steps c.answer_frame.new.steps c.frames.invariant.limits
       (found_next c.frames.reader.limits c.frames.reader.bytes c.next.new.self.bytes c.in-Ok-Some.frame c.next.result c.in-Ok-Some.field-0 c.in-Ok-Some.is
       c.in-Ok-Some.field-0-is c.next.ensures.found) c.frames.invariant.touches c.answer_frame.ensures.most
-      (g.K.Sink.taken c.frames.out) (g.K.Sink.taken c.answer_frame.new.out) (g.K.Sink.flushed c.frames.out) (g.K.Sink.flushed c.answer_frame.new.out)
+      (g.K.Sink.seen c.frames.out).taken (g.K.Sink.seen c.answer_frame.new.out).taken (g.K.Sink.seen c.frames.out).flushed (g.K.Sink.seen c.answer_frame.new.out).flushed
       c.in_ok-closing-in-Ok-Some.field-0 c.in_default.is c.in_ok-closing-in-Ok-Some.ensures.told;
   count = c.in_ok-closing-in-Ok-Some.ensures.cause ∙ c.frames.invariant.count;
 }

@@ -5,12 +5,12 @@ use Rattle.serve_plans.proofs.talk.talk.Given as goal
 
 abbrev pub invariant-pieces : goal.invariant-pieces
 invariant-pieces g l = record {
-  reads : Reads l.limits l.fn.replica l.replica (g.S.Source.left l.fn.input) (g.S.Source.left l.input) (g.K.Sink.taken l.fn.out) (g.K.Sink.taken l.out)
-      (g.K.Sink.flushed l.fn.out) (g.K.Sink.flushed l.out) l.reader.bytes l.number l.room;
-  touches : TouchesAhead l.limits l.fn.replica l.replica (g.S.Source.left l.fn.input) (g.S.Source.left l.input) l.reader.bytes l.room l.fn.steps l.steps;
+  reads : Reads l.limits l.fn.replica l.replica (g.S.Source.seen l.fn.input).left (g.S.Source.seen l.input).left (g.K.Sink.seen l.fn.out).taken (g.K.Sink.seen l.out).taken
+      (g.K.Sink.seen l.fn.out).flushed (g.K.Sink.seen l.out).flushed l.reader.bytes l.number l.room;
+  touches : TouchesAhead l.limits l.fn.replica l.replica (g.S.Source.seen l.fn.input).left (g.S.Source.seen l.input).left l.reader.bytes l.room l.fn.steps l.steps;
   limits : l.reader.limits ≡ l.limits;
-  source : g.S.Source.faults l.input ≡ g.S.Source.faults l.fn.input;
-  sink : g.K.Sink.faults l.out ≡ g.K.Sink.faults l.fn.out;
+  source : (g.S.Source.seen l.input).faults ≡ (g.S.Source.seen l.fn.input).faults;
+  sink : (g.K.Sink.seen l.out).faults ≡ (g.K.Sink.seen l.fn.out).faults;
 }
 
 abbrev pub decreases-pieces : goal.decreases-pieces

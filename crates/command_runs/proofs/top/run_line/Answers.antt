@@ -1,0 +1,38 @@
+use Rattle.command_table.specs.Seen.{seen}
+use Rattle.command_runs.proofs.Runs.{is_run}
+use Rattle.command_runs.proofs.top.run_line.Goals as goal
+
+pub returns-clause-run : goal.returns-clause-run
+returns-clause-run g c =
+    is_run _ _ c.plan-planned.result c.carry_out-ending.result _
+    (seen (g.H.Shelf.seen c.plan-planned.new.shelf) (g.S.Source.seen c.plan-planned.new.input) (g.K.Sink.seen c.plan-planned.new.out) (g.E.Sink.seen c.args.err.now))
+    _ _ (record {
+      told = c.plan-planned.ensures.told;
+      some = c.plan-planned.ensures.some;
+      heard = c.plan-planned.ensures.heard;
+      sends = c.plan-planned.ensures.sends;
+      line = c.plan-planned.ensures.line;
+      read = c.plan-planned.ensures.read;
+      unread = c.plan-planned.ensures.unread;
+      same = c.plan-planned.ensures.same;
+      cause = c.plan-planned.ensures.cause;
+      misses = c.plan-planned.ensures.misses;
+      front = c.plan-planned.ensures.front;
+      loads = c.plan-planned.ensures.loads;
+      lost = c.plan-planned.ensures.lost;
+      kept = c.plan-planned.ensures.kept;
+      few = c.plan-planned.ensures.few;
+      untouched = c.plan-planned.ensures.untouched;
+      which = c.carry_out-ending.ensures.which;
+      files = c.carry_out-ending.ensures.files;
+      out = c.carry_out-ending.ensures.out;
+      flushed = c.carry_out-ending.ensures.flushed;
+      shelf_count = c.carry_out-ending.ensures.shelf;
+      sink_count = c.carry_out-ending.ensures.sink;
+      no_miss = c.carry_out-ending.ensures.misses;
+      no_load = c.carry_out-ending.ensures.loads;
+      no_loss = c.carry_out-ending.ensures.lost;
+      status = c.tell.ensures.status;
+      text = c.tell.ensures.text;
+      silent = c.tell.ensures.silent;
+    })

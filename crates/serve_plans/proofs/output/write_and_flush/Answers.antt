@@ -1,5 +1,0 @@
-use Rattle.serve_plans.proofs.Outputs.{Takes-all}
-use Rattle.serve_plans.proofs.output.write_and_flush.Goals as goal
-
-pub returns-clause-bytes : goal.returns-clause-bytes
-returns-clause-bytes g c = Takes-all _ _ _ c.args.bytes.now c.flush.result c.in_ok-write_all.ensures.bytes c.flush.ensures.bytes
