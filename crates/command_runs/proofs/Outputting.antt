@@ -1,5 +1,5 @@
 -- What a session sent, and what it printed at last.
-use Rattle.std.proofs.Common.{◌≡◌, ◌<◌, ◌⊎◌, inl, inr, ℕ, List, [], ◌++◌, refl, sym, ◌∙◌, ap, subst, arith, Option, Result, Ok, Err}
+use Rattle.std.proofs.Common.{◌≡◌, ◌<◌, ◌⊎◌, inl, inr, ℕ, List, [], ◌++◌, refl, sym, ◌∙◌, ap, subst, arith, Option, Result, Ok, Err, string_bytes}
 use Rattle.std.specs.Io.KnownBytes.{Appends}
 use Rattle.std.proofs.KnownBytes.{Appends-trans}
 use Rattle.ew_outside.specs.Bytes.{IsFlushed}
@@ -70,7 +70,7 @@ fails_to_store : (s : Session) (p : code.Reply) (old mid new : Seen) → IsStori
     → new.out.taken ≡ mid.out.taken → new.out.flushed ≡ mid.out.flushed → FailsToStore s old new
 fails_to_store s (reply_is.Stores out to bytes) old mid new storing f same kept = record {
   out = out.items;
-  name = to.now;
+  name = string_bytes to;
   bytes = bytes.items;
   closing = sym f.0;
   sends = subst (λ n. Sends old.out.taken new.out.taken n s.sent) (sym kept) (subst (λ x. Sends old.out.taken x mid.out.flushed s.sent) (sym same) f.1);

@@ -1,5 +1,5 @@
 -- How a run ends, once its reply is made.
-use Rattle.std.specs.Prelude.{◌≡◌, ◌≤◌, ⊤, ℕ, List, [], Option, None, Some, Result, Ok, Err, ◌⊎◌}
+use Rattle.std.specs.Prelude.{◌≡◌, ◌≤◌, ⊤, ℕ, List, [], Option, None, Some, Result, Ok, Err, ◌⊎◌, string_bytes}
 use Rattle.std.specs.FinMap.{insert}
 use Rattle.std.specs.Io.KnownBytes.{Appends}
 use Rattle.ew_outside.specs.Files.{Files}
@@ -20,7 +20,7 @@ use Rattle.command_runs.specs.declared.ending.Told.{Told}
 -- what the reply stores, applied to a map
 abbrev pub files_after : code.Reply → Files → Files
 files_after (reply_is.Prints _) m = m
-files_after (reply_is.Stores _ name bytes) m = insert m name.now bytes.items
+files_after (reply_is.Stores _ name bytes) m = insert m (string_bytes name) bytes.items
 files_after (reply_is.Refuses _) m = m
 
 abbrev pub out_of : code.Reply → List ℕ

@@ -73,7 +73,7 @@ fn list<L: Ledger>(
 }
 
 /// The reply that prints what was listed, or tells the id that isn't held.
-fn reply_of<'a>(listed: Result<Vec<u8>, VersionFault>) -> Result<Reply<'a>, NoMem>
+fn reply_of(listed: Result<Vec<u8>, VersionFault>) -> Result<Reply, NoMem>
     ensures told { (reply : table.Reply) → Shows reply listed → IfOk result (λ p. reply_view p ≡ reply) }
     ensures found { IfOk result (λ p. reply_status p ≢ 3) }
     ensures plan { IfOk result IsTakenReply }
@@ -86,12 +86,12 @@ fn reply_of<'a>(listed: Result<Vec<u8>, VersionFault>) -> Result<Reply<'a>, NoMe
 }
 
 /// The reply that prints what is shown of a replica.
-fn shown<'a, L: Ledger>(
+fn shown<L: Ledger>(
     alloc: Global,
     listing: Listing,
     replica: Replica,
     steps: &mut Steps<L>,
-) -> Result<Reply<'a>, NoMem>
+) -> Result<Reply, NoMem>
     ensures told { IfOk result (λ p. reply_view p ≡ show_reply (listing_view listing) replica.held) }
     ensures found { IfOk result (λ p. reply_status p ≢ 3) }
     ensures plan { IfOk result IsTakenReply }
@@ -103,14 +103,14 @@ fn shown<'a, L: Ledger>(
 
 /// Shows a file: its text now or at a version, its heads, its events, its replay, its numbers, or what it asks a
 /// peer for.
-pub fn show<'a, H: Shelf, L: Ledger>(
+pub fn show<H: Shelf, L: Ledger>(
     alloc: Global,
     listing: Listing,
-    name: &'a str,
+    name: &str,
     limits: &Limits,
     shelf: &mut H,
     steps: &mut Steps<L>,
-) -> Result<Reply<'a>, Fault>
+) -> Result<Reply, Fault>
     ensures told { IfSome (H.seen shelf.old).files (λ m. IfOk result (λ p. reply_view p ≡ over_events (show_reply (listing_view listing)) (open_file name.now limits.now m))) }
     ensures some { IfOk result (λ p. MayReplyTo (table.show (listing_view listing) name.now) limits.now (reply_view p)) }
     ensures plan { IfOk result IsTakenReply }
@@ -131,7 +131,7 @@ pub fn show<'a, H: Shelf, L: Ledger>(
 }
 
 /// Makes a file that isn't there: the file of no events.
-pub fn create<'a, H: Shelf>(alloc: Global, name: &'a str, shelf: &mut H) -> Result<Reply<'a>, Fault>
+pub fn create<H: Shelf>(alloc: Global, name: &str, shelf: &mut H) -> Result<Reply, Fault>
     ensures told { IfSome (H.seen shelf.old).files (λ m. IfOk result (λ p. reply_view p ≡ create_reply name.now (whole_of 0 (get m name.now)))) }
     ensures some { IfOk result (λ p. (file : File) × (reply_view p ≡ create_reply name.now file) × KeepsTo 0 file) }
     ensures plan { IfOk result IsTakenReply }
@@ -144,9 +144,9 @@ pub fn create<'a, H: Shelf>(alloc: Global, name: &'a str, shelf: &mut H) -> Resu
     match load_whole(shelf, name, 0)? {
         Loaded::Missing => Ok(Reply::Stores {
             out: Vec::new(alloc),
-            name,
+            name: String::from_str(alloc, name)?,
             bytes: encode(alloc, &[])?,
         }),
-        _ => Ok(Reply::Refuses(Refusal::FileThere(name))),
+        _ => Ok(Reply::Refuses(Refusal::FileThere(String::from_str(alloc, name)?))),
     }
 }

@@ -29,7 +29,7 @@ fn print<K: Sink>(out: &mut K, bytes: &[u8]) -> Ending
 }
 
 /// The text of a refusal, with its status.
-fn refuse(alloc: Global, why: &Refusal<'_>) -> Ending
+fn refuse(alloc: Global, why: &Refusal) -> Ending
     ensures { IsTold why.now result }
 {
     match why.text(alloc) {
@@ -44,7 +44,7 @@ fn refuse(alloc: Global, why: &Refusal<'_>) -> Ending
 /// Stores and prints what a reply says; nothing, where there is none.
 pub fn carry_out<H: Shelf, K: Sink>(
     alloc: Global,
-    planned: Result<Reply<'_>, Fault>,
+    planned: Result<Reply, Fault>,
     shelf: &mut H,
     out: &mut K,
 ) -> Ending
@@ -68,7 +68,7 @@ pub fn carry_out<H: Shelf, K: Sink>(
                 name,
                 bytes,
             },
-        ) => match shelf.store(name, &bytes) {
+        ) => match shelf.store(name.as_str(), &bytes) {
             Ok(()) => print(out, &text),
             Err(fault) => Err(Fault::from(fault)),
         },

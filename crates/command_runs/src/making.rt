@@ -18,13 +18,13 @@ use std::alloc::Global;
 use std::sync::ledger::Ledger;
 
 /// Makes a history by a seed and a number of edits, and tells of it, or why an edit was refused.
-pub fn make_history<'a, L: Ledger>(
+pub fn make_history<L: Ledger>(
     alloc: Global,
     limits: &Limits,
     seed: u64,
     count: u32,
     steps: &mut Steps<L>,
-) -> Result<Reply<'a>, Fault>
+) -> Result<Reply, Fault>
     ensures told { IfOk result (λ p. reply_view p ≡ make_reply limits.now (made limits.now seed count)) }
     ensures plan { IfOk result IsTakenReply }
     ensures starved { IfErr result (λ fault. fault ≡ OutOfMemory) }
@@ -37,7 +37,7 @@ pub fn make_history<'a, L: Ledger>(
 }
 
 /// Why an edit is refused.
-fn refuse<'a>(limits: &Limits, fault: EditFault) -> Result<Reply<'a>, Fault>
+fn refuse(limits: &Limits, fault: EditFault) -> Result<Reply, Fault>
     ensures told { TellsStopped limits.now fault result }
     ensures plan { IfOk result IsTakenReply }
     ensures starved { IfErr result (λ fault. fault ≡ OutOfMemory) }

@@ -29,15 +29,15 @@ use std::sync::ledger::Ledger;
 
 /// Reads what the line reads, and answers what is to be done. A session is served by then, up to what is to be stored and printed
 /// at last; of another line nothing is stored or printed yet.
-pub fn plan<'a, H: Shelf, S: Source, K: Sink, L: Ledger>(
+pub fn plan<H: Shelf, S: Source, K: Sink, L: Ledger>(
     alloc: Global,
-    line: Option<Line<'a>>,
+    line: Option<Line<'_>>,
     limits: &Limits,
     shelf: &mut H,
     input: &mut S,
     out: &mut K,
     steps: &mut Steps<L>,
-) -> Result<Reply<'a>, Fault>
+) -> Result<Reply, Fault>
     ensures told { PlansKnown (option_map line_view line.entry) limits.now (H.seen shelf.old) (S.seen input.old) (K.seen out.old) (K.seen out.new) result }
     ensures some { PlansSome (option_map line_view line.entry) limits.now (K.seen out.old) (K.seen out.new) result }
     ensures heard { Heard (option_map line_view line.entry) limits.now (H.seen shelf.old) (S.seen input.old) (S.seen input.new) (K.seen out.old) (K.seen out.new) result }
@@ -64,14 +64,14 @@ pub fn plan<'a, H: Shelf, S: Source, K: Sink, L: Ledger>(
 }
 
 /// Reads what a command reads.
-fn plan_command<'a, H: Shelf, S: Source, L: Ledger>(
+fn plan_command<H: Shelf, S: Source, L: Ledger>(
     alloc: Global,
-    command: Taken<'a>,
+    command: Taken<'_>,
     limits: &Limits,
     shelf: &mut H,
     input: &mut S,
     steps: &mut Steps<L>,
-) -> Result<Reply<'a>, Fault>
+) -> Result<Reply, Fault>
     ensures told { PlansBy (MeansTo (command_view command.entry)) (reply_to (command_view command.entry) limits.now) (H.seen shelf.old).files (S.seen input.old).left result }
     ensures alone { reads_input (Some (does (command_view command.entry))) ≡ false → PlansAlone (reply_to (command_view command.entry) limits.now) (H.seen shelf.old).files result }
     ensures some { MayPlan (command_view command.entry) limits.now result }
@@ -97,13 +97,13 @@ fn plan_command<'a, H: Shelf, S: Source, L: Ledger>(
 }
 
 /// Plans a command that reads no input.
-fn plan_unread<'a, H: Shelf, L: Ledger>(
+fn plan_unread<H: Shelf, L: Ledger>(
     alloc: Global,
-    command: Taken<'a>,
+    command: Taken<'_>,
     limits: &Limits,
     shelf: &mut H,
     steps: &mut Steps<L>,
-) -> Result<Reply<'a>, Fault>
+) -> Result<Reply, Fault>
     requires { reads_input (Some (does (command_view command))) ≡ false }
     ensures told { PlansAlone (reply_to (command_view command.entry) limits.now) (H.seen shelf.old).files result }
     ensures some { MayPlan (command_view command.entry) limits.now result }

@@ -18,38 +18,38 @@ const USAGE: &str =
 
 /// Why a line is refused. Lines and frames are counted from 1; a name is told as it was given.
 #[derive(Debug, Drop)]
-pub enum Refusal<'a> {
+pub enum Refusal {
     /// The words aren't taken: the usage is told.
     NotTaken,
-    NoFile(&'a str),
+    NoFile(String),
     /// A file that is to be made is there.
-    FileThere(&'a str),
+    FileThere(String),
     /// A file of so many bytes is too short to be an event file.
     ShortFile {
-        name: &'a str,
+        name: String,
         len: u64,
     },
     /// A file doesn't begin as an event file does.
-    NoEventFile(&'a str),
+    NoEventFile(String),
     UnknownVersion {
-        name: &'a str,
+        name: String,
         version: u8,
     },
     /// The digest stored in the file isn't the one found of its bytes.
     BadDigest {
-        name: &'a str,
+        name: String,
         stored: [u8; 32],
         found: [u8; 32],
     },
     /// A field of the file is bad, which begins at this byte.
     BadField {
-        name: &'a str,
+        name: String,
         offset: u64,
         kind: RecordFault,
     },
     /// The event at a position of the file isn't good after those before it.
     BadEvent {
-        name: &'a str,
+        name: String,
         position: u32,
         verdict: Verdict,
     },
@@ -105,12 +105,12 @@ pub enum Refusal<'a> {
     },
     /// The file has more than `most` bytes.
     FileTooLong {
-        name: &'a str,
+        name: String,
         most: u64,
     },
     /// The file has more than `most` events.
     FileTooMany {
-        name: &'a str,
+        name: String,
         most: u32,
     },
     /// The input has more than `most` bytes.
@@ -127,7 +127,7 @@ pub enum Refusal<'a> {
     },
 }
 
-impl Refusal<'_> {
+impl Refusal {
     /// The status that a refused line ends with: 2 to 5, or 7.
     pub fn status(&self) -> u8
         ensures { result ≡ refusal_status (refusal_view self.now) }
@@ -187,7 +187,7 @@ impl Refusal<'_> {
                 name,
                 stored,
                 found,
-            } => digest_line(alloc, name, stored, found),
+            } => digest_line(alloc, name.as_str(), stored, found),
             Refusal::BadField { name, offset, kind } => {
                 let words = words_of_field(*kind);
                 format!(in alloc; "egw: {name}: byte {offset}: {words}\n")
@@ -196,7 +196,7 @@ impl Refusal<'_> {
                 name,
                 position,
                 verdict,
-            } => event_line(alloc, name, *position, *verdict),
+            } => event_line(alloc, name.as_str(), *position, *verdict),
             Refusal::Unreadable { line } => format!(in alloc; "egw: line {line}: unreadable\n"),
             Refusal::LineOutOfRange { line, len } => {
                 format!(in alloc; "egw: line {line}: out of range, length {len}\n")

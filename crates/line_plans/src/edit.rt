@@ -48,11 +48,7 @@ fn do_edit<L: Ledger>(
 }
 
 /// Why a line is refused.
-pub fn refuse_line<'a>(
-    limits: &Limits,
-    line: u32,
-    fault: EditFault,
-) -> Result<Reply<'a>, AllocError>
+pub fn refuse_line(limits: &Limits, line: u32, fault: EditFault) -> Result<Reply, AllocError>
     ensures told { LineRefuses limits.now line fault result }
     ensures plan { IfOk result IsTakenReply }
 {
@@ -67,13 +63,13 @@ pub fn refuse_line<'a>(
 }
 
 /// Does the edits in order. None where all were done, else the plan that refuses a line.
-fn do_edits<'a, L: Ledger>(
+fn do_edits<L: Ledger>(
     alloc: Global,
     replica: &mut Replica,
     agent: Name,
     edits: &[(u32, Edit)],
     steps: &mut Steps<L>,
-) -> Result<Option<Reply<'a>>, AllocError>
+) -> Result<Option<Reply>, AllocError>
     requires { replica.old.waiting ≡ [] }
     ensures done { EditsTo agent (numbered_edits edits.now) replica.old replica.new result }
     ensures plan { IfOk result (λ o. IfSome o IsTakenReply) }
@@ -89,12 +85,7 @@ fn do_edits<'a, L: Ledger>(
 }
 
 /// What is to be stored and told, once all edits are done.
-fn made_plan<'a>(
-    alloc: Global,
-    name: &'a str,
-    replica: &Replica,
-    before: u32,
-) -> Result<Reply<'a>, AllocError>
+fn made_plan(alloc: Global, name: &str, replica: &Replica, before: u32) -> Result<Reply, AllocError>
     ensures told { IfOk result (λ p. reply_view p ≡ made_reply name.now before replica.now.held) }
     ensures plan { IfOk result IsTakenReply }
 {
@@ -108,14 +99,14 @@ fn made_plan<'a>(
 }
 
 /// Does the edits of a script over a replica, and plans what is to be stored and told.
-fn run_edits<'a, L: Ledger>(
+fn run_edits<L: Ledger>(
     alloc: Global,
-    name: &'a str,
+    name: &str,
     agent: Name,
     replica: &mut Replica,
     edits: &[(u32, Edit)],
     steps: &mut Steps<L>,
-) -> Result<Reply<'a>, AllocError>
+) -> Result<Reply, AllocError>
     requires { replica.old.waiting ≡ [] }
     ensures told { IfOk result (λ p. reply_view p ≡ edits_reply name.now agent replica.old (numbered_edits edits.now)) }
     ensures plan { IfOk result IsTakenReply }
@@ -130,14 +121,14 @@ fn run_edits<'a, L: Ledger>(
 }
 
 /// Runs a script over a replica.
-fn run_script<'a, L: Ledger>(
+fn run_script<L: Ledger>(
     alloc: Global,
-    name: &'a str,
+    name: &str,
     agent: Name,
     replica: &mut Replica,
     script: &[u8],
     steps: &mut Steps<L>,
-) -> Result<Reply<'a>, AllocError>
+) -> Result<Reply, AllocError>
     requires short { length script.now < 2 ^ 32 }
     requires none_waits { replica.old.waiting ≡ [] }
     ensures told { PlansScript name.now agent replica.old script.now result }
@@ -158,15 +149,15 @@ fn run_script<'a, L: Ledger>(
 }
 
 /// Reads the input, and runs it as a script over a replica.
-fn take_input<'a, S: Source, L: Ledger>(
+fn take_input<S: Source, L: Ledger>(
     alloc: Global,
-    name: &'a str,
+    name: &str,
     agent: Name,
     limits: &Limits,
     replica: &mut Replica,
     input: &mut S,
     steps: &mut Steps<L>,
-) -> Result<Reply<'a>, Fault>
+) -> Result<Reply, Fault>
     requires limits { replica.old.limits ≡ limits.now }
     requires none_waits { replica.old.waiting ≡ [] }
     ensures told { IfSome (S.seen input.old).left (λ xs. PlansInput name.now agent replica.old xs result) }
@@ -186,15 +177,15 @@ fn take_input<'a, S: Source, L: Ledger>(
 }
 
 /// Edits a file by the script that the input is. The steps taken are at most those of loading the file.
-pub fn edit<'a, H: Shelf, S: Source, L: Ledger>(
+pub fn edit<H: Shelf, S: Source, L: Ledger>(
     alloc: Global,
-    name: &'a str,
+    name: &str,
     agent: Name,
     limits: &Limits,
     shelf: &mut H,
     input: &mut S,
     steps: &mut Steps<L>,
-) -> Result<Reply<'a>, Fault>
+) -> Result<Reply, Fault>
     ensures told { PlansBy Means (λ files xs reading. over_events (input_reply name.now agent limits.now xs reading) (open_file name.now limits.now files)) (H.seen shelf.old).files (S.seen input.old).left result }
     ensures some { IfOk result (λ p. MayReplyTo (table.edit name.now agent) limits.now (reply_view p)) }
     ensures plan { IfOk result IsTakenReply }

@@ -59,12 +59,12 @@ fn any_graph_full(refused: &[(Id, verdict::Refusal)]) -> bool
 }
 
 /// What is told and stored of events of which none is a reason to refuse all.
-fn received_plan<'a>(
+fn received_plan(
     alloc: Global,
-    name: &'a str,
+    name: &str,
     replica: &Replica,
     took: &Took,
-) -> Result<Reply<'a>, AllocError>
+) -> Result<Reply, AllocError>
     ensures told { IfOk result (λ p. reply_view p ≡ received_reply name.now replica.now.held took.now.accepted (took_text took.now)) }
     ensures plan { IfOk result IsTakenReply }
     ensures found { IfOk result (λ p. reply_status p ≢ 3) }
@@ -78,13 +78,13 @@ fn received_plan<'a>(
 }
 
 /// What is told and stored once the events are received.
-fn took_plan<'a>(
+fn took_plan(
     alloc: Global,
-    name: &'a str,
+    name: &str,
     limits: &Limits,
     replica: &Replica,
     took: &Took,
-) -> Result<Reply<'a>, AllocError>
+) -> Result<Reply, AllocError>
     ensures told { IfOk result (λ p. reply_view p ≡ took_reply name.now limits.now replica.now.held took.now) }
     ensures plan { IfOk result IsTakenReply }
     ensures found { IfOk result (λ p. reply_status p ≢ 3) }
@@ -101,14 +101,14 @@ fn took_plan<'a>(
 }
 
 /// Receives the events of another file, and tells what became of them.
-fn receive<'a, L: Ledger>(
+fn receive<L: Ledger>(
     alloc: Global,
-    name: &'a str,
+    name: &str,
     limits: &Limits,
     replica: &mut Replica,
     other: Graph,
     steps: &mut Steps<L>,
-) -> Result<Reply<'a>, AllocError>
+) -> Result<Reply, AllocError>
     requires limits { replica.old.limits ≡ limits.now }
     requires none_waits { replica.old.waiting ≡ [] }
     ensures told { IfOk result (λ p. reply_view p ≡ merge_reply name.now limits.now replica.old.held other) }
@@ -121,15 +121,15 @@ fn receive<'a, L: Ledger>(
 }
 
 /// Opens another file, and receives its events.
-fn take_other<'a, H: Shelf, L: Ledger>(
+fn take_other<H: Shelf, L: Ledger>(
     alloc: Global,
-    name: &'a str,
-    other: &'a str,
+    name: &str,
+    other: &str,
     limits: &Limits,
     replica: &mut Replica,
     shelf: &mut H,
     steps: &mut Steps<L>,
-) -> Result<Reply<'a>, Fault>
+) -> Result<Reply, Fault>
     requires limits { replica.old.limits ≡ limits.now }
     requires none_waits { replica.old.waiting ≡ [] }
     ensures told { IfSome (H.seen shelf.old).files (λ m. IfOk result (λ p. reply_view p ≡ over_events (merge_reply name.now limits.now replica.old.held) (open_file other.now limits.now m))) }
@@ -152,14 +152,14 @@ fn take_other<'a, H: Shelf, L: Ledger>(
 }
 
 /// Merges the events of another file into a file. The steps taken are at most those of loading both, and those of receiving.
-pub fn merge<'a, H: Shelf, L: Ledger>(
+pub fn merge<H: Shelf, L: Ledger>(
     alloc: Global,
-    name: &'a str,
-    other: &'a str,
+    name: &str,
+    other: &str,
     limits: &Limits,
     shelf: &mut H,
     steps: &mut Steps<L>,
-) -> Result<Reply<'a>, Fault>
+) -> Result<Reply, Fault>
     ensures told { IfSome (H.seen shelf.old).files (λ m. IfOk result (λ p. reply_view p ≡ over_both (merge_reply name.now limits.now) (open_file name.now limits.now m) (open_file other.now limits.now m))) }
     ensures some { IfOk result (λ p. MayReplyTo (table.merge name.now other.now) limits.now (reply_view p)) }
     ensures plan { IfOk result IsTakenReply }

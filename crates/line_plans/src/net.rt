@@ -27,7 +27,7 @@ use std::alloc::{AllocError, Global};
 use std::sync::ledger::Ledger;
 
 /// Why a step is refused.
-fn refuse_step<'a>(limits: &Limits, line: u32, fault: NetFault) -> Result<Reply<'a>, AllocError>
+fn refuse_step(limits: &Limits, line: u32, fault: NetFault) -> Result<Reply, AllocError>
     ensures told { StepRefuses limits.now line fault result }
     ensures plan { IfOk result IsTakenReply }
 {
@@ -45,12 +45,12 @@ fn refuse_step<'a>(limits: &Limits, line: u32, fault: NetFault) -> Result<Reply<
 }
 
 /// Runs the steps of a script, and plans what is printed, or why a line is refused.
-fn run_steps<'a, L: Ledger>(
+fn run_steps<L: Ledger>(
     alloc: Global,
     limits: &Limits,
     script: &[(u32, NetStep)],
     steps: &mut Steps<L>,
-) -> Result<Reply<'a>, AllocError>
+) -> Result<Reply, AllocError>
     requires { length script.now < 4294967295 }
     ensures told { IfOk result (λ p. reply_view p ≡ net_run_reply limits.now (net_run (empty_network limits.now) script.now)) }
     ensures plan { IfOk result IsTakenReply }
@@ -62,12 +62,12 @@ fn run_steps<'a, L: Ledger>(
 }
 
 /// Reads all lines of a script, and then runs them.
-fn run_net<'a, L: Ledger>(
+fn run_net<L: Ledger>(
     alloc: Global,
     limits: &Limits,
     input: &[u8],
     steps: &mut Steps<L>,
-) -> Result<Reply<'a>, AllocError>
+) -> Result<Reply, AllocError>
     requires { length input.now ≤ limits.now.input }
     ensures told { PlansNetScript limits.now input.now result }
     ensures some { MayNetScript limits.now input.now result }
@@ -87,12 +87,12 @@ fn run_net<'a, L: Ledger>(
 
 /// Runs the net script that the input is, over peers of its own. Every line is read before the first is run, and nothing is
 /// printed unless all were run.
-pub fn net<'a, S: Source, L: Ledger>(
+pub fn net<S: Source, L: Ledger>(
     alloc: Global,
     limits: &Limits,
     input: &mut S,
     steps: &mut Steps<L>,
-) -> Result<Reply<'a>, Fault>
+) -> Result<Reply, Fault>
     ensures told { IfSome (S.seen input.old).left (λ xs. PlansNetInput limits.now xs result) }
     ensures some { IfOk result (λ p. MayReplyTo table.net limits.now (reply_view p)) }
     ensures plan { IfOk result IsTakenReply }

@@ -1,5 +1,5 @@
 -- What the code's values stand for.
-use Rattle.std.specs.Prelude.{◌≡◌, ◌≤◌, ⊤, ℕ, List, [], Result, Ok, Err, ◌⊎◌}
+use Rattle.std.specs.Prelude.{◌≡◌, ◌≤◌, ⊤, ℕ, List, [], Result, Ok, Err, ◌⊎◌, string_bytes}
 use Rattle.ew_outside.specs.Counts.{Rose}
 use Rattle.ew_model.specs.declared.event.Event.{Event}
 use Rattle.ew_model.specs.Kept.{ReplicaState}
@@ -30,7 +30,7 @@ graph_view f = found_view (λ events. events) f
 -- the reply of the table that a reply of the code stands for
 abbrev pub reply_view : code.Reply → Reply
 reply_view (reply_is.Prints out) = prints out.items
-reply_view (reply_is.Stores out name bytes) = stores out.items name.now bytes.items
+reply_view (reply_is.Stores out name bytes) = stores out.items (string_bytes name) bytes.items
 reply_view (reply_is.Refuses why) = refuses (refusal_view why)
 
 -- which count moved of a step that reaches the shelf alone

@@ -33,20 +33,20 @@ use std::sync::ledger::Ledger;
 
 /// A file as it was found: open, with what was made of its events, or refused.
 #[derive(Drop)]
-pub enum Found<'a, T> {
+pub enum Found<T> {
     Open(T),
-    Refused(Refusal<'a>),
+    Refused(Refusal),
 }
 
 /// Why events aren't good.
-fn load_refusal(name: &str, fault: LoadFault) -> Result<Refusal<'_>, AllocError>
+fn load_refusal(alloc: Global, name: &str, fault: LoadFault) -> Result<Refusal, AllocError>
     ensures told { IfOk result (λ why. (events : List Event) → TellsBad events fault → judged name.now events (first_bad events) ≡ refused (refusal_view why)) }
     ensures status { IfOk result (λ why. refusal_status (refusal_view why) ≡ 4) }
 {
     match fault {
         LoadFault::OutOfMemory => Err(AllocError),
         LoadFault::BadEvent { position, verdict } => Ok(Refusal::BadEvent {
-            name,
+            name: String::from_str(alloc, name)?,
             position,
             verdict,
         }),
@@ -54,11 +54,12 @@ fn load_refusal(name: &str, fault: LoadFault) -> Result<Refusal<'_>, AllocError>
 }
 
 /// The replica of events that were given, or why they aren't good.
-fn judge<'a, L: Ledger>(
-    name: &'a str,
+fn judge<L: Ledger>(
+    alloc: Global,
+    name: &str,
     given: Loading,
     steps: &mut Steps<L>,
-) -> Result<Found<'a, Replica>, AllocError>
+) -> Result<Found<Replica>, AllocError>
     ensures told { (events : List Event) → WereGiven events given → IfOk result (λ f. opened_view f ≡ judged name.now events (first_bad events)) }
     ensures status { IfOk result IsJudged }
     ensures fresh { (events : List Event) → WereGiven events given → IfOk result (λ f. IsFresh given.limits f) }
@@ -66,35 +67,38 @@ fn judge<'a, L: Ledger>(
 {
     match given.finish(steps) {
         Ok(replica) => Ok(Found::Open(replica)),
-        Err(fault) => Ok(Found::Refused(load_refusal(name, fault)?)),
+        Err(fault) => Ok(Found::Refused(load_refusal(alloc, name, fault)?)),
     }
 }
 
 /// The graph of events that were given, or why they aren't good.
-fn judge_graph<'a, L: Ledger>(
-    name: &'a str,
+fn judge_graph<L: Ledger>(
+    alloc: Global,
+    name: &str,
     given: Loading,
     steps: &mut Steps<L>,
-) -> Result<Found<'a, Graph>, AllocError>
+) -> Result<Found<Graph>, AllocError>
     ensures told { (events : List Event) → WereGiven events given → IfOk result (λ f. graph_view f ≡ judged name.now events (first_bad events)) }
     ensures status { IfOk result IsJudged }
     ensures most { (events : List Event) → WereGiven events given → steps.new ≤ steps.old + touches events 0 }
 {
     match given.finish_graph(steps) {
         Ok(graph) => Ok(Found::Open(graph)),
-        Err(fault) => Ok(Found::Refused(load_refusal(name, fault)?)),
+        Err(fault) => Ok(Found::Refused(load_refusal(alloc, name, fault)?)),
     }
 }
 
 /// Why the bytes of a file are refused.
-fn file_refusal<'a>(
-    name: &'a str,
+fn file_refusal(
+    alloc: Global,
+    name: &str,
     limits: &Limits,
     fault: FileFault,
-) -> Result<Refusal<'a>, AllocError>
+) -> Result<Refusal, AllocError>
     ensures told { IfOk result (λ why. IsSomeAnd (finding_of fault) (λ x. read_as name.now limits.now x ≡ refused (refusal_view why))) }
     ensures status { IfOk result (λ why. IsFileStatus (refusal_status (refusal_view why))) }
 {
+    let name = String::from_str(alloc, name)?;
     match fault {
         FileFault::OutOfMemory => Err(AllocError),
         FileFault::Short { len } => Ok(Refusal::ShortFile { name, len }),
@@ -114,27 +118,27 @@ fn file_refusal<'a>(
 }
 
 /// Takes in the events of a file's bytes, or tells why these are no file.
-fn read<'a>(
+fn read(
     alloc: Global,
-    name: &'a str,
+    name: &str,
     limits: &Limits,
     bytes: &[u8],
-) -> Result<Found<'a, Loading>, AllocError>
+) -> Result<Found<Loading>, AllocError>
     ensures { IfOk result (IsReadAs name.now limits.now (file_finding limits.now.events bytes.now)) }
 {
     match give_events(alloc, bytes, limits) {
         Ok(given) => Ok(Found::Open(given)),
-        Err(fault) => Ok(Found::Refused(file_refusal(name, limits, fault)?)),
+        Err(fault) => Ok(Found::Refused(file_refusal(alloc, name, limits, fault)?)),
     }
 }
 
 /// Loads the file of a name, and takes in its events. The shelf is left as it was.
-fn load_events<'a, H: Shelf>(
+fn load_events<H: Shelf>(
     alloc: Global,
-    name: &'a str,
+    name: &str,
     limits: &Limits,
     shelf: &mut H,
-) -> Result<Found<'a, Loading>, Fault>
+) -> Result<Found<Loading>, Fault>
     ensures told { IfSome (H.seen shelf.old).files (λ m. IfOk result (IsLoadedAs name.now limits.now (whole_of (most_file_bytes limits.now.events) (get m name.now)))) }
     ensures some { IfOk result (λ f. (file : File) × IsLoadedAs name.now limits.now file f × KeepsTo (most_file_bytes limits.now.events) file) }
     ensures same { (H.seen shelf.new).files ≡ (H.seen shelf.old).files }
@@ -145,20 +149,23 @@ fn load_events<'a, H: Shelf>(
 {
     let most = most_bytes(limits);
     match load_whole(shelf, name, most)? {
-        Loaded::Missing => Ok(Found::Refused(Refusal::NoFile(name))),
-        Loaded::TooLong => Ok(Found::Refused(Refusal::FileTooLong { name, most })),
+        Loaded::Missing => Ok(Found::Refused(Refusal::NoFile(String::from_str(alloc, name)?))),
+        Loaded::TooLong => Ok(Found::Refused(Refusal::FileTooLong {
+            name: String::from_str(alloc, name)?,
+            most,
+        })),
         Loaded::Whole(bytes) => Ok(read(alloc, name, limits, &bytes)?),
     }
 }
 
 /// Opens the file of a name. The shelf is left as it was. The steps taken are at most the touches of its events.
-pub fn open<'a, H: Shelf, L: Ledger>(
+pub fn open<H: Shelf, L: Ledger>(
     alloc: Global,
-    name: &'a str,
+    name: &str,
     limits: &Limits,
     shelf: &mut H,
     steps: &mut Steps<L>,
-) -> Result<Found<'a, Replica>, Fault>
+) -> Result<Found<Replica>, Fault>
     ensures told { IfSome (H.seen shelf.old).files (λ m. IfOk result (λ f. opened_view f ≡ open_file name.now limits.now m)) }
     ensures some { IfOk result (λ f. MayOpen name.now limits.now (opened_view f)) }
     ensures status { IfOk result IsOpenable }
@@ -171,19 +178,19 @@ pub fn open<'a, H: Shelf, L: Ledger>(
     ensures most { TouchesAtMost (file_touches name.now limits.now) (H.seen shelf.old).files steps.old steps.new }
 {
     match load_events(alloc, name, limits, shelf)? {
-        Found::Open(given) => Ok(judge(name, given, steps)?),
+        Found::Open(given) => Ok(judge(alloc, name, given, steps)?),
         Found::Refused(why) => Ok(Found::Refused(why)),
     }
 }
 
 /// Opens the file of a name as `open` does, for its events alone: neither their text nor its lengths are made.
-pub fn open_graph<'a, H: Shelf, L: Ledger>(
+pub fn open_graph<H: Shelf, L: Ledger>(
     alloc: Global,
-    name: &'a str,
+    name: &str,
     limits: &Limits,
     shelf: &mut H,
     steps: &mut Steps<L>,
-) -> Result<Found<'a, Graph>, Fault>
+) -> Result<Found<Graph>, Fault>
     ensures told { IfSome (H.seen shelf.old).files (λ m. IfOk result (λ f. graph_view f ≡ open_file name.now limits.now m)) }
     ensures some { IfOk result (λ f. MayOpen name.now limits.now (graph_view f)) }
     ensures status { IfOk result IsOpenable }
@@ -195,7 +202,7 @@ pub fn open_graph<'a, H: Shelf, L: Ledger>(
     ensures most { TouchesAtMost (file_touches name.now limits.now) (H.seen shelf.old).files steps.old steps.new }
 {
     match load_events(alloc, name, limits, shelf)? {
-        Found::Open(given) => Ok(judge_graph(name, given, steps)?),
+        Found::Open(given) => Ok(judge_graph(alloc, name, given, steps)?),
         Found::Refused(why) => Ok(Found::Refused(why)),
     }
 }

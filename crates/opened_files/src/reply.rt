@@ -3,12 +3,12 @@ use command_texts::refusal::Refusal;
 
 /// What a line does at last: it prints, or stores a file and prints then, or is refused.
 #[derive(Debug, Drop)]
-pub enum Reply<'a> {
+pub enum Reply {
     Prints(Vec<u8>),
     Stores {
         out: Vec<u8>,
-        name: &'a str,
+        name: String,
         bytes: Vec<u8>,
     },
-    Refuses(Refusal<'a>),
+    Refuses(Refusal),
 }

@@ -18,16 +18,17 @@ fn file_bytes(alloc: Global, replica: &Replica) -> Result<Vec<u8>, AllocError>
 }
 
 /// Stores a replica's events and prints a text.
-pub fn store_reply<'a>(
+pub fn store_reply(
     alloc: Global,
-    name: &'a str,
+    name: &str,
     replica: &Replica,
     out: Vec<u8>,
-) -> Result<Reply<'a>, AllocError>
+) -> Result<Reply, AllocError>
     ensures told { IfOk result (λ p. reply_view p ≡ stores out.items name.now (file_of replica.now.held)) }
     ensures plan { IfOk result IsTakenReply }
     ensures found { IfOk result (λ p. reply_status p ≢ 3) }
 {
     let bytes = file_bytes(alloc, replica)?;
+    let name = String::from_str(alloc, name)?;
     Ok(Reply::Stores { out, name, bytes })
 }

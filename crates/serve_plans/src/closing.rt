@@ -33,13 +33,13 @@ pub enum Closing {
 }
 
 /// Stores the events where there are more than before, and prints the bytes behind that.
-fn close_well<'a>(
+fn close_well(
     alloc: Global,
-    name: &'a str,
+    name: &str,
     replica: &Replica,
     before: u32,
     out: Vec<u8>,
-) -> Result<Reply<'a>, AllocError>
+) -> Result<Reply, AllocError>
     ensures told { IfOk result (λ p. reply_view p ≡ closed_reply name.now before out.items replica.now.held) }
     ensures plan { IfOk result IsTakenReply }
     ensures found { IfOk result (λ p. reply_status p ≢ 3) }
@@ -52,7 +52,7 @@ fn close_well<'a>(
 }
 
 /// Why there is no frame of this number.
-fn frame_refusal<'a>(number: u32, fault: FrameFault) -> Result<Refusal<'a>, AllocError>
+fn frame_refusal(number: u32, fault: FrameFault) -> Result<Refusal, AllocError>
     ensures { IfOk result (λ why. frame_refusal number fault ≡ Some (refusal_view why)) }
 {
     match fault {
@@ -64,14 +64,14 @@ fn frame_refusal<'a>(number: u32, fault: FrameFault) -> Result<Refusal<'a>, Allo
 }
 
 /// What is to be done once a session is closed that began with so many events.
-pub fn close<'a>(
+pub fn close(
     alloc: Global,
-    name: &'a str,
+    name: &str,
     limits: &Limits,
     replica: &Replica,
     before: u32,
     closing: Closing,
-) -> Result<Reply<'a>, AllocError>
+) -> Result<Reply, AllocError>
     ensures told { IfOk result (λ p. ClosesAs name.now limits.now before replica.now.held closing (reply_view p)) }
     ensures plan { IfOk result IsTakenReply }
     ensures found { IfOk result (λ p. reply_status p ≢ 3) }

@@ -20,15 +20,15 @@ use std::alloc::Global;
 use std::sync::ledger::Ledger;
 
 /// Serves a peer with the events of a replica: they are to be stored at last, where some were received.
-fn serve_events<'a, S: Source, K: Sink, L: Ledger>(
+fn serve_events<S: Source, K: Sink, L: Ledger>(
     alloc: Global,
-    name: &'a str,
+    name: &str,
     limits: &Limits,
     replica: &mut Replica,
     input: &mut S,
     out: &mut K,
     steps: &mut Steps<L>,
-) -> Result<Reply<'a>, Fault>
+) -> Result<Reply, Fault>
     ensures told { PlansTalk name.now limits.now replica.old (S.seen input.old).left (S.seen input.new).left (K.seen out.old).taken (K.seen out.new).taken (K.seen out.old).flushed (K.seen out.new).flushed result }
     ensures prompt { IsPieceBehind limits.now replica.old (S.seen input.old).left (S.seen input.new).left (K.seen out.old).taken (K.seen out.new).taken }
     ensures cause { StreamCauses (S.seen input.old).faults (S.seen input.new).faults (K.seen out.old).faults (K.seen out.new).faults result }
@@ -44,15 +44,15 @@ fn serve_events<'a, S: Source, K: Sink, L: Ledger>(
 /// Serves a peer with a file: each frame of the input is answered before the next piece is read, and at last the events are to
 /// be stored, where some were added. The steps taken are at most the touches of loading the file and of receiving what the frames
 /// bring.
-pub fn serve<'a, H: Shelf, S: Source, K: Sink, L: Ledger>(
+pub fn serve<H: Shelf, S: Source, K: Sink, L: Ledger>(
     alloc: Global,
-    name: &'a str,
+    name: &str,
     limits: &Limits,
     shelf: &mut H,
     input: &mut S,
     out: &mut K,
     steps: &mut Steps<L>,
-) -> Result<Reply<'a>, Fault>
+) -> Result<Reply, Fault>
     ensures told { Serves name.now limits.now (H.seen shelf.old).files (S.seen input.old).left (K.seen out.old).taken (K.seen out.new).taken (K.seen out.new).flushed result }
     ensures some { MayPlan name.now limits.now (K.seen out.old).taken (K.seen out.new).taken (K.seen out.new).flushed result }
     ensures replies { SendsReplies name.now limits.now (H.seen shelf.old).files (S.seen input.old).left (S.seen input.new).left (K.seen out.old).taken (K.seen out.new).taken (K.seen out.new).flushed result }

@@ -11,7 +11,7 @@ use Rattle.line_plans.proofs.edit.run_script.Goals as goal
 pub returns-in-Err-BadLine-clause-told : goal.returns-in-Err-BadLine-clause-told
 returns-in-Err-BadLine-clause-told g c =
     let line = c.in-Err-BadLine.line in
-    bad_script c.args.name.now c.args.agent c.args.script.now c.args.replica.now c.args.replica.now line (c.in-Err-BadLine.ensures.bad_line line (λ i. Err (c.in-Err-BadLine.field-0-is i)))
+    rw c.in-Err-BadLine.field-0-is (bad_script c.args.name.now c.args.agent c.args.script.now c.args.replica.now c.args.replica.now line (c.in-Err-BadLine.ensures.bad_line line (λ i. Err (c.in-Err-BadLine.field-0-is i))))
 
 pub returns-clause-told : goal.returns-clause-told
 returns-clause-told g c =
@@ -21,7 +21,7 @@ returns-clause-told g c =
 pub returns-in-Err-BadLine-clause-some : goal.returns-in-Err-BadLine-clause-some
 returns-in-Err-BadLine-clause-some g c =
     let line = c.in-Err-BadLine.line in
-    (bad_line line, c.in-Err-BadLine.ensures.bad_line line (λ i. Err (c.in-Err-BadLine.field-0-is i)), refl)
+    (bad_line line, c.in-Err-BadLine.ensures.bad_line line (λ i. Err (c.in-Err-BadLine.field-0-is i)), rw c.in-Err-BadLine.field-0-is refl)
 
 pub returns-clause-some : goal.returns-clause-some
 returns-clause-some g c =

@@ -7,47 +7,47 @@ use Rattle.line_plans.proofs.Merges.{both_opened, later_causes, later_lost, late
 use Rattle.command_texts.specs.Reasons.{refusal_view}
 use Rattle.line_plans.proofs.merge.merge.Goals as goal
 
-pub returns-in_err-status-clause-front : goal.returns-in_err-status-clause-front
-returns-in_err-status-clause-front g c = first_front c.args.name.now c.args.other.now _ _ c.in_err-status.ensures.loads
+pub returns-in_err-why-clause-front : goal.returns-in_err-why-clause-front
+returns-in_err-why-clause-front g c = first_front c.args.name.now c.args.other.now _ _ c.in_err-why.ensures.loads
 
 pub returns-in-Refused-clause-front : goal.returns-in-Refused-clause-front
-returns-in-Refused-clause-front g c = first_front c.args.name.now c.args.other.now _ _ c.in_ok-status.ensures.loads
+returns-in-Refused-clause-front g c = first_front c.args.name.now c.args.other.now _ _ c.in_ok-why.ensures.loads
 
 pub returns-in-Refused-clause-loads : goal.returns-in-Refused-clause-loads
 returns-in-Refused-clause-loads g c =
-    loads_refused c.args.name.now c.args.other.now c.args.limits.now (refusal_view c.in-Refused.why) (g.H.Shelf.seen c.args.shelf.now).files _ _ (rw c.in-Refused.is at c.in_ok-status.ensures.told) c.in_ok-status.ensures.loads
+    loads_refused c.args.name.now c.args.other.now c.args.limits.now (refusal_view c.in-Refused.why) (g.H.Shelf.seen c.args.shelf.now).files _ _ (rw c.in-Refused.is at c.in_ok-why.ensures.told) c.in_ok-why.ensures.loads
 
 pub returns-in-Open-clause-told : goal.returns-in-Open-clause-told
 returns-in-Open-clause-told g c =
-    both_opened (merge_reply c.args.name.now c.args.limits.now) c.args.name.now c.args.other.now c.args.limits.now c.in-Open.replica.held (g.H.Shelf.seen c.args.shelf.now).files (g.H.Shelf.seen c.open.new.shelf).files c.take_other.result c.in_ok-status.ensures.same (rw c.in-Open.is at c.in_ok-status.ensures.told) c.take_other.ensures.told
+    both_opened (merge_reply c.args.name.now c.args.limits.now) c.args.name.now c.args.other.now c.args.limits.now c.in-Open.replica.held (g.H.Shelf.seen c.args.shelf.now).files (g.H.Shelf.seen c.open.new.shelf).files c.take_other.result c.in_ok-why.ensures.same (rw c.in-Open.is at c.in_ok-why.ensures.told) c.take_other.ensures.told
 
 pub returns-in-Open-clause-cause : goal.returns-in-Open-clause-cause
-returns-in-Open-clause-cause g c = later_causes _ _ _ c.take_other.result c.in_ok-status.ensures.cause c.take_other.ensures.cause
+returns-in-Open-clause-cause g c = later_causes _ _ _ c.take_other.result c.in_ok-why.ensures.cause c.take_other.ensures.cause
 
 pub returns-in-Open-clause-misses : goal.returns-in-Open-clause-misses
-returns-in-Open-clause-misses g c = later_misses _ _ _ c.take_other.result (rw c.in-Open.is at c.in_ok-status.ensures.misses) c.take_other.ensures.misses
+returns-in-Open-clause-misses g c = later_misses _ _ _ c.take_other.result (rw c.in-Open.is at c.in_ok-why.ensures.misses) c.take_other.ensures.misses
 
 pub returns-in-Open-clause-lost : goal.returns-in-Open-clause-lost
-returns-in-Open-clause-lost g c = later_lost _ _ _ c.take_other.result c.in_ok-status.ensures.lost c.take_other.ensures.lost
+returns-in-Open-clause-lost g c = later_lost _ _ _ c.take_other.result c.in_ok-why.ensures.lost c.take_other.ensures.lost
 
 pub returns-in-Open-clause-front : goal.returns-in-Open-clause-front
-returns-in-Open-clause-front g c = both_front c.args.name.now c.args.other.now _ _ _ c.in_ok-status.ensures.loads c.take_other.ensures.loads
+returns-in-Open-clause-front g c = both_front c.args.name.now c.args.other.now _ _ _ c.in_ok-why.ensures.loads c.take_other.ensures.loads
 
 pub returns-in-Open-clause-loads : goal.returns-in-Open-clause-loads
 returns-in-Open-clause-loads g c =
-    loads_opened c.args.name.now c.args.other.now c.args.limits.now c.in-Open.replica.held (g.H.Shelf.seen c.args.shelf.now).files _ _ _ c.take_other.result (rw c.in-Open.is at c.in_ok-status.ensures.told) c.in_ok-status.ensures.loads c.take_other.ensures.loads
+    loads_opened c.args.name.now c.args.other.now c.args.limits.now c.in-Open.replica.held (g.H.Shelf.seen c.args.shelf.now).files _ _ _ c.take_other.result (rw c.in-Open.is at c.in_ok-why.ensures.told) c.in_ok-why.ensures.loads c.take_other.ensures.loads
 
 pub returns-in-Refused-clause-some : goal.returns-in-Refused-clause-some
 returns-in-Refused-clause-some g c =
-    refused_merges c.args.name.now c.args.limits.now c.args.other.now (refusal_view c.in-Refused.why) (rw c.in-Refused.is at c.in_ok-status.ensures.some)
+    refused_merges c.args.name.now c.args.limits.now c.args.other.now (refusal_view c.in-Refused.why) (rw c.in-Refused.is at c.in_ok-why.ensures.some)
 
 pub returns-in-Open-clause-some : goal.returns-in-Open-clause-some
 returns-in-Open-clause-some g c =
-    opened_merges c.args.name.now c.args.limits.now c.args.other.now c.in-Open.replica.held c.take_other.result (rw c.in-Open.is at c.in_ok-status.ensures.some) c.take_other.ensures.some
+    opened_merges c.args.name.now c.args.limits.now c.args.other.now c.in-Open.replica.held c.take_other.result (rw c.in-Open.is at c.in_ok-why.ensures.some) c.take_other.ensures.some
 
 pub returns-in-Open-clause-most : goal.returns-in-Open-clause-most
 returns-in-Open-clause-most g c =
     let others = merge_touches c.args.other.now c.args.limits.now in
     let held = c.in-Open.replica.held in
-    let later = subst (λ files. TouchesAtMost (λ m. others m held) files c.open.new.steps c.take_other.new.steps) c.in_ok-status.ensures.same c.take_other.ensures.most in
-    opened_touched c.args.name.now c.args.limits.now others held (g.H.Shelf.seen c.args.shelf.now).files c.args.steps.now c.open.new.steps c.take_other.new.steps (rw c.in-Open.is at c.in_ok-status.ensures.told) c.in_ok-status.ensures.most later
+    let later = subst (λ files. TouchesAtMost (λ m. others m held) files c.open.new.steps c.take_other.new.steps) c.in_ok-why.ensures.same c.take_other.ensures.most in
+    opened_touched c.args.name.now c.args.limits.now others held (g.H.Shelf.seen c.args.shelf.now).files c.args.steps.now c.open.new.steps c.take_other.new.steps (rw c.in-Open.is at c.in_ok-why.ensures.told) c.in_ok-why.ensures.most later

@@ -13,12 +13,12 @@ run_steps-requires g c = let few = few_steps c.args.input.now c.in-Ok.script.ite
 pub returns-in-Err-BadLine-clause-told : goal.returns-in-Err-BadLine-clause-told
 returns-in-Err-BadLine-clause-told g c =
     let line = c.in-Err-BadLine.line in
-    bad_script c.args.limits.now c.args.input.now line (c.in-Err-BadLine.ensures.bad_line line (λ i. Err (c.in-Err-BadLine.field-0-is i)))
+    rw c.in-Err-BadLine.field-0-is (bad_script c.args.limits.now c.args.input.now line (c.in-Err-BadLine.ensures.bad_line line (λ i. Err (c.in-Err-BadLine.field-0-is i))))
 
 pub returns-in-Err-BadLine-clause-some : goal.returns-in-Err-BadLine-clause-some
 returns-in-Err-BadLine-clause-some g c =
     let line = c.in-Err-BadLine.line in
-    (bad_net_line line, c.in-Err-BadLine.ensures.bad_line line (λ i. Err (c.in-Err-BadLine.field-0-is i)), refl)
+    (bad_net_line line, c.in-Err-BadLine.ensures.bad_line line (λ i. Err (c.in-Err-BadLine.field-0-is i)), rw c.in-Err-BadLine.field-0-is refl)
 
 pub returns-clause-told : goal.returns-clause-told
 returns-clause-told g c =

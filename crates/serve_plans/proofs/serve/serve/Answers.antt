@@ -81,7 +81,7 @@ returns-in-Ok-Open-clause-most g c =
 
 pub returns-in-Ok-Refused-clause-within : goal.returns-in-Ok-Refused-clause-within
 returns-in-Ok-Refused-clause-within g c = none_within c.args.limits.now (g.S.Source.seen c.args.input.now).left
-    (Ok (reply_is.Refuses c.in-Ok-Refused.status c.in-Ok-Refused.text))
+    (Ok (reply_is.Refuses c.in-Ok-Refused.why))
 
 pub returns-in-Ok-Open-clause-within : goal.returns-in-Ok-Open-clause-within
 returns-in-Ok-Open-clause-within g c = reads_within c.args.name.now c.args.limits.now c.in-Ok-Open.replica (g.S.Source.seen c.args.input.now).left
