@@ -18,7 +18,7 @@ use Rattle.command_table.specs.Reads.{shape_of, reads_input, needs_file, TakesAt
 use Rattle.command_texts.specs.Reasons.{refusal_view}
 use Rattle.command_texts.specs.declared.refusal.Refusal.{Refusal}
 use Rattle.opened_files.specs.Views.{IsTakenReply, IsRefusal, LostBy, reply_status, reply_view}
-use Rattle.opened_files.specs.declared.reply.Reply as code
+use Rattle.opened_files.specs.declared.reply.Reply as own
 use Rattle.opened_files.specs.declared.reply.Reply.TheVariants as reply_is
 use Rattle.serve_plans.specs.Plans.{Causes, KeepsStreams}
 use Rattle.command_runs.specs.Lines.{Heard, IsReplyOf, MissesFor, PlansKnown, PlansSome, ReadsAll, SendsNone}
@@ -28,7 +28,7 @@ use Rattle.command_runs.proofs.Faults.{Calm, Struck}
 use Rattle.command_runs.proofs.Replies.{after_plan, told_end}
 
 -- what the parts of a run ensure
-pub record Facts (l : Option Line) (limits : LimitNumbers) (planned : Result code.Reply Fault) (ending : Result (Option Told) Fault) (old mid new : Seen) (code : ℕ) : Type 0 where
+pub record Facts (l : Option Line) (limits : LimitNumbers) (planned : Result own.Reply Fault) (ending : Result (Option Told) Fault) (old mid new : Seen) (code : ℕ) : Type 0 where
   pub told : PlansKnown l limits old.shelf old.input old.out mid.out planned
   pub some : PlansSome l limits old.out mid.out planned
   pub heard : Heard l limits old.shelf old.input new.input old.out mid.out planned
@@ -76,17 +76,17 @@ refuses_by None why h = inl (ap refusal_status (same_refusal (refusal_view why) 
 refuses_by (Some l) why h = inr h
 
 -- the reply is no refusal
-abbrev pub IsDoing : code.Reply → Type 0
+abbrev pub IsDoing : own.Reply → Type 0
 IsDoing (reply_is.Refuses why) = ⊥
 IsDoing p = ⊤
 
 -- the reply is to store
-abbrev pub IsStoring : code.Reply → Type 0
+abbrev pub IsStoring : own.Reply → Type 0
 IsStoring (reply_is.Stores out to bytes) = ⊤
 IsStoring p = ⊥
 
 -- the reply was carried out
-pub record Finished (p : code.Reply) (old mid new : Seen) (code : ℕ) : Type 0 where
+pub record Finished (p : own.Reply) (old mid new : Seen) (code : ℕ) : Type 0 where
   pub doing : IsDoing p
   pub zero : code ≡ 0
   pub files : FilesAfter p old.shelf.files new.shelf.files
@@ -118,7 +118,7 @@ pub record BrokenOff (l : Option Line) (object : Object) (old mid new : Seen) (c
   pub load : object ≡ shelf → Rose old.shelf.lost new.shelf.lost
 
 -- the store failed
-pub record Unstored (p : code.Reply) (old mid new : Seen) (code : ℕ) : Type 0 where
+pub record Unstored (p : own.Reply) (old mid new : Seen) (code : ℕ) : Type 0 where
   pub storing : IsStoring p
   pub six : code ≡ 6
   pub files : (new.shelf.files ≡ old.shelf.files) ⊎ FilesAfter p old.shelf.files new.shelf.files
@@ -129,7 +129,7 @@ pub record Unstored (p : code.Reply) (old mid new : Seen) (code : ℕ) : Type 0 
   pub lost : new.shelf.lost ≡ old.shelf.lost
 
 -- the output failed at last
-pub record Unprinted (p : code.Reply) (old mid new : Seen) (code : ℕ) : Type 0 where
+pub record Unprinted (p : own.Reply) (old mid new : Seen) (code : ℕ) : Type 0 where
   pub doing : IsDoing p
   pub six : code ≡ 6
   pub files : FilesAfter p old.shelf.files new.shelf.files
@@ -147,13 +147,13 @@ pub record RanShort (old mid new : Seen) (code : ℕ) : Type 0 where
   pub calm : Calm old new
   pub text : TellsErr old new out_of_memory
 
-pub data Course (l : Option Line) (planned : Result code.Reply Fault) (old mid new : Seen) (code : ℕ) : Type 0 where
-  Done : (p : code.Reply) → planned ≡ Ok p → Finished p old mid new code → Course l planned old mid new code
+pub data Course (l : Option Line) (planned : Result own.Reply Fault) (old mid new : Seen) (code : ℕ) : Type 0 where
+  Done : (p : own.Reply) → planned ≡ Ok p → Finished p old mid new code → Course l planned old mid new code
   Refused : (why : Refusal) → planned ≡ Ok (reply_is.Refuses why) → TurnedDown (refusal_view why) old mid new code → Course l planned old mid new code
   Stopped : (object : Object) (x : Fault) → (x ≡ fault_is.OutOfMemory → ⊥) → (object ≡ sink → x ≡ fault_is.Sink) → planned ≡ Err x → BrokenOff l object old mid new code
       → Course l planned old mid new code
-  Landed : (p : code.Reply) → planned ≡ Ok p → Unstored p old mid new code → Course l planned old mid new code
-  Broken : (p : code.Reply) → planned ≡ Ok p → Unprinted p old mid new code → Course l planned old mid new code
+  Landed : (p : own.Reply) → planned ≡ Ok p → Unstored p old mid new code → Course l planned old mid new code
+  Broken : (p : own.Reply) → planned ≡ Ok p → Unprinted p old mid new code → Course l planned old mid new code
   Starved : RanShort old mid new code → Course l planned old mid new code
 
 module _ (l : Option Line) (limits : LimitNumbers) (ending : Result (Option Told) Fault) (old mid new : Seen) (code : ℕ) where
@@ -187,7 +187,7 @@ module _ (l : Option Line) (limits : LimitNumbers) (ending : Result (Option Told
       others = elim [ shelf ↦ λ _. h.shelf_count ∙ h.cause.0 | source ↦ λ bad. absurd (bad refl) | sink ↦ λ _. h.sink_count ∙ h.cause.2 ];
     };
     text = told_end ending (Err fault_is.Source) old new h.which h.text;
-    leaves = (h.no_loss ∙ h.lost, h.files ∙ h.same, sends_none l (λ same. h.out ∙ same.0) h.sends);
+    leaves = (h.no_loss ∙ h.lost, (h.files ∙ h.same, sends_none l (λ same. h.out ∙ same.0) h.sends));
     load = λ bad. cc;
   }
 
@@ -230,7 +230,7 @@ module _ (l : Option Line) (limits : LimitNumbers) (why : Refusal) (told : Told)
   }
 
 -- a reply that is no refusal, by its ending
-module _ (l : Option Line) (limits : LimitNumbers) (old mid new : Seen) (code : ℕ) (p : code.Reply) where
+module _ (l : Option Line) (limits : LimitNumbers) (old mid new : Seen) (code : ℕ) (p : own.Reply) where
   done : IsDoing p → Facts l limits (Ok p) (Ok None) old mid new code → Finished p old mid new code
   done doing h = record {
     doing = doing;
@@ -285,7 +285,7 @@ module _ (l : Option Line) (limits : LimitNumbers) (old mid new : Seen) (code : 
   }
 
 -- what the parts make of a run
-pub course : (l : Option Line) (limits : LimitNumbers) (planned : Result code.Reply Fault) (ending : Result (Option Told) Fault) (old mid new : Seen) (code : ℕ)
+pub course : (l : Option Line) (limits : LimitNumbers) (planned : Result own.Reply Fault) (ending : Result (Option Told) Fault) (old mid new : Seen) (code : ℕ)
     → Facts l limits planned ending old mid new code
     → Course l planned old mid new code
 course l limits (Err fault_is.Shelf) ending old mid new code h = Stopped shelf _ (λ bad. cc) (λ bad. cc) refl (shelf_stops l limits ending old mid new code h)

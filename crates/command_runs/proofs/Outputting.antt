@@ -11,7 +11,7 @@ use Rattle.command_table.specs.Seen.{Seen, Object, shelf, source, sink, TellsErr
 use Rattle.command_table.specs.Table.{Line}
 use Rattle.command_texts.specs.Reasons.{refusal_view}
 use Rattle.opened_files.specs.Views.{reply_view}
-use Rattle.opened_files.specs.declared.reply.Reply as code
+use Rattle.opened_files.specs.declared.reply.Reply as own
 use Rattle.opened_files.specs.declared.reply.Reply.TheVariants as reply_is
 use Rattle.ew_outside.specs.declared.fault.Fault.{Fault}
 use Rattle.serve_plans.specs.Plans.{FollowsSession}
@@ -27,13 +27,13 @@ pub front_longer : (a b : Option (List ℕ)) (front more : List ℕ) → GrowsBy
 front_longer a b front more g = front_grows a b front (front ++ more) g (record { rest = more; is = refl })
 
 -- what was sent by then is a front of what the session sends, or all of it
-pub sends_front : (s : Session) (planned : Result code.Reply Fault) (out out' : Option (List ℕ)) (flushed : Option ℕ) → FollowsSession s out out' flushed planned
+pub sends_front : (s : Session) (planned : Result own.Reply Fault) (out out' : Option (List ℕ)) (flushed : Option ℕ) → FollowsSession s out out' flushed planned
     → GrowsByFront out out' s.sent
 sends_front s (Ok p) out out' flushed h = front_of_all out out' s.sent h.1.0
 sends_front s (Err x) out out' flushed h = h
 
 -- the plan that closes the session
-pub follows_plan : (s : Session) (planned : Result code.Reply Fault) (p : code.Reply) (out out' : Option (List ℕ)) (flushed : Option ℕ) → planned ≡ Ok p
+pub follows_plan : (s : Session) (planned : Result own.Reply Fault) (p : own.Reply) (out out' : Option (List ℕ)) (flushed : Option ℕ) → planned ≡ Ok p
     → FollowsSession s out out' flushed planned
     → (reply_view p ≡ s.closing) × Sends out out' flushed s.sent
 follows_plan s planned p out out' flushed is h = subst (FollowsSession s out out' flushed) is h
@@ -45,14 +45,14 @@ kept_front : (a b c : Option (List ℕ)) (bytes : List ℕ) → GrowsByFront a b
 kept_front a b c bytes g same = subst (λ x. GrowsByFront a x bytes) (sym same) g
 
 -- a plan that was carried out closes the session
-closes_done : (p : code.Reply) (sent : List ℕ) (old new : Seen) (code : ℕ) → IsDoing p → code ≡ 0 → Appends old.out.taken new.out.taken (sent ++ out_of p) → TellsErr old new []
+closes_done : (p : own.Reply) (sent : List ℕ) (old new : Seen) (code : ℕ) → IsDoing p → code ≡ 0 → Appends old.out.taken new.out.taken (sent ++ out_of p) → TellsErr old new []
     → IsClosed sent (reply_view p) old new code
 closes_done (reply_is.Prints out) sent old new code doing zero all text = (zero, all, text)
 closes_done (reply_is.Stores out to bytes) sent old new code doing zero all text = (zero, all, text)
 closes_done (reply_is.Refuses why) sent old new code doing zero all text = absurd doing
 
 -- what was printed at last is a front of what is to be printed
-prints_front : (s : Session) (p : code.Reply) (old mid new : Seen) (flushed : Option ℕ) → (reply_view p ≡ s.closing) × Sends old.out.taken mid.out.taken flushed s.sent
+prints_front : (s : Session) (p : own.Reply) (old mid new : Seen) (flushed : Option ℕ) → (reply_view p ≡ s.closing) × Sends old.out.taken mid.out.taken flushed s.sent
     → GrowsByFront mid.out.taken new.out.taken (out_of p)
     → GrowsByFront old.out.taken new.out.taken (s.sent ++ printed_by s.closing)
 prints_front s p old mid new flushed h g =
@@ -66,7 +66,7 @@ not_lost l source old mid new code h rose quiet = let same = h.struck.others she
 not_lost l sink old mid new code h rose quiet = let same = h.struck.others shelf (λ bad. cc) in omega (arith, same, rose)
 
 -- a plan whose store failed
-fails_to_store : (s : Session) (p : code.Reply) (old mid new : Seen) → IsStoring p → (reply_view p ≡ s.closing) × Sends old.out.taken mid.out.taken mid.out.flushed s.sent
+fails_to_store : (s : Session) (p : own.Reply) (old mid new : Seen) → IsStoring p → (reply_view p ≡ s.closing) × Sends old.out.taken mid.out.taken mid.out.flushed s.sent
     → new.out.taken ≡ mid.out.taken → new.out.flushed ≡ mid.out.flushed → FailsToStore s old new
 fails_to_store s (reply_is.Stores out to bytes) old mid new storing f same kept = record {
   out = out.items;
@@ -78,11 +78,11 @@ fails_to_store s (reply_is.Stores out to bytes) old mid new storing f same kept 
 fails_to_store s (reply_is.Prints out) old mid new storing f same kept = absurd storing
 fails_to_store s (reply_is.Refuses why) old mid new storing f same kept = absurd storing
 
-module _ (l : Option Line) (s : Session) (planned : Result code.Reply Fault) (old mid new : Seen) (code : ℕ) (follows : FollowsSession s old.out.taken mid.out.taken mid.out.flushed planned) where
+module _ (l : Option Line) (s : Session) (planned : Result own.Reply Fault) (old mid new : Seen) (code : ℕ) (follows : FollowsSession s old.out.taken mid.out.taken mid.out.flushed planned) where
   front : GrowsByFront old.out.taken mid.out.taken s.sent
   front = sends_front s planned old.out.taken mid.out.taken mid.out.flushed follows
 
-  by_plan : (p : code.Reply) → planned ≡ Ok p → (reply_view p ≡ s.closing) × Sends old.out.taken mid.out.taken mid.out.flushed s.sent
+  by_plan : (p : own.Reply) → planned ≡ Ok p → (reply_view p ≡ s.closing) × Sends old.out.taken mid.out.taken mid.out.flushed s.sent
   by_plan p is = follows_plan s planned p old.out.taken mid.out.taken mid.out.flushed is follows
 
   closed_so : Course l planned old mid new code → (code ≡ 6 → ⊥) → (code ≡ 8 → ⊥) → IsClosed s.sent s.closing old new code

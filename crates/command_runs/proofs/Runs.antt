@@ -1,5 +1,5 @@
 -- From what the parts of a run ensure to what the run is.
-use Rattle.std.proofs.Common.{◌≡◌, ◌≤◌, ◌<◌, ◌⊎◌, inl, inr, ℕ, true, false, List, [], ◌++◌, length, take, drop, refl, sym, ◌∙◌, ap, subst, arith}
+use Rattle.std.proofs.Common.{◌≡◌, ◌≤◌, ◌<◌, ◌⊎◌, inl, inr, ℕ, true, false, List, [], ◌++◌, length, take, drop, refl, sym, ◌∙◌, ap, subst, arith, Bool}
 use Rattle.std.proofs.lemmas.Bool.{false≢true}
 use Rattle.std.proofs.Common.{append_assoc, Option, None, Some, IfOk, IfSome, Result, Ok, Err}
 use Rattle.std.specs.Io.KnownBytes.{Appends}
@@ -25,7 +25,7 @@ use Rattle.command_table.specs.Cli.{usage as usage_text}
 use Rattle.command_table.specs.Text.{out_of_memory}
 use Rattle.command_texts.specs.Reasons.{refusal_view}
 use Rattle.opened_files.specs.Views.{IsRefusal, MissesBy, reply_status, reply_view}
-use Rattle.opened_files.specs.declared.reply.Reply as code
+use Rattle.opened_files.specs.declared.reply.Reply as own
 use Rattle.opened_files.specs.declared.reply.Reply.TheVariants as reply_is
 use Rattle.serve_plans.specs.Plans.{Causes, ReadsNone, ReadsOn, ReadsWithin, SendsReplies}
 use Rattle.command_runs.specs.declared.ending.Told.{Told}
@@ -39,17 +39,17 @@ use Rattle.command_runs.proofs.Tables.{is_served, stores_first}
 pub none_taken : (a b : Option (List ℕ)) → b ≡ a → Appends a b []
 none_taken a b same = subst (λ x. Appends a x []) (sym same) (Appends-nil a)
 
-doing_status : (p : code.Reply) → IsDoing p → reply_status p ≡ 0
+doing_status : (p : own.Reply) → IsDoing p → reply_status p ≡ 0
 doing_status (reply_is.Prints out) doing = refl
 doing_status (reply_is.Stores out to bytes) doing = refl
 doing_status (reply_is.Refuses why) doing = absurd doing
 
-not_doing : (p : code.Reply) → IsDoing p → reply_view p ≡ refuses not_taken → ⊥
+not_doing : (p : own.Reply) → IsDoing p → reply_view p ≡ refuses not_taken → ⊥
 not_doing (reply_is.Prints out) doing h = cc
 not_doing (reply_is.Stores out to bytes) doing h = cc
 not_doing (reply_is.Refuses why) doing h = doing
 
-storing_does : (p : code.Reply) → IsStoring p → IsDoing p
+storing_does : (p : own.Reply) → IsStoring p → IsDoing p
 storing_does (reply_is.Prints out) storing = absurd storing
 storing_does (reply_is.Stores out to bytes) storing = tt
 storing_does (reply_is.Refuses why) storing = absurd storing
@@ -62,7 +62,7 @@ untaken_status x h = ap refusal_status (same x h)
 
 -- ---- what each course means
 
-module _ (l : Option Line) (planned : Result code.Reply Fault) (old mid new : Seen) (code : ℕ) (sends : SendsNone l old.out mid.out planned) where
+module _ (l : Option Line) (planned : Result own.Reply Fault) (old mid new : Seen) (code : ℕ) (sends : SendsNone l old.out mid.out planned) where
   -- where nothing was printed at last, a line that sends nothing leaves the output as it was
   kept_out : new.out.taken ≡ mid.out.taken → UnlessServes l (new.out.taken ≡ old.out.taken)
   kept_out same = sends_none l (λ s. same ∙ s.0) sends
@@ -135,7 +135,7 @@ module _ (l : Option Line) (planned : Result code.Reply Fault) (old mid new : Se
   flushed_at (Starved h) zero = absurd (omega (arith, h.eight, zero))
 
   -- a status other than 6 and 8 is that of a plan
-  plan_of : Course l planned old mid new code → (code ≡ 6 → ⊥) → (code ≡ 8 → ⊥) → (p : code.Reply) × (planned ≡ Ok p) × (reply_status p ≡ code)
+  plan_of : Course l planned old mid new code → (code ≡ 6 → ⊥) → (code ≡ 8 → ⊥) → (p : own.Reply) × (planned ≡ Ok p) × (reply_status p ≡ code)
   plan_of (Done p is h) n6 n8 = (p, is, doing_status p h.doing ∙ sym h.zero)
   plan_of (Refused why is h) n6 n8 = (reply_is.Refuses why, is, sym h.status_is)
   plan_of (Stopped object x other named is h) n6 n8 = absurd (n6 h.six)
@@ -164,7 +164,7 @@ module _ (l : Option Line) (planned : Result code.Reply Fault) (old mid new : Se
   only_so (Starved h) line = inr h.eight
 
 -- status 2 is told of words that aren't taken, and of no others
-usage_told : (l : Option Line) (p : code.Reply) (s : Session) (old new : Seen) (code : ℕ) (limits : LimitNumbers) → IsReplyOf l (Ok p) → MayComeTo l limits s
+usage_told : (l : Option Line) (p : own.Reply) (s : Session) (old new : Seen) (code : ℕ) (limits : LimitNumbers) → IsReplyOf l (Ok p) → MayComeTo l limits s
     → IsClosed s.sent s.closing old new code → reply_status p ≡ code → code ≡ 2 → (l ≡ None) × TellsErr old new usage_text
 usage_told None p s old new code limits line may closed is two = (refl, (subst (λ (x : Session). IsClosed x.sent x.closing old new code) may closed).2)
 usage_told (Some l) (reply_is.Prints out) s old new code limits line may closed is two = absurd (omega (arith, is, two))
@@ -199,7 +199,7 @@ prompt_so name limits old mid new files events input bytes h all at opens left =
     goes_on_more limits events input bytes new.input.left old.out.taken mid.out.taken new.out.taken (second events opens) all
 
 -- where the source failed, nothing was sent behind the replies
-replies_so : (name : Text) (limits : LimitNumbers) (planned : Result code.Reply Fault) (ending : Result (Option Told) Fault) (old mid new : Seen) (code : ℕ) (files : Files)
+replies_so : (name : Text) (limits : LimitNumbers) (planned : Result own.Reply Fault) (ending : Result (Option Told) Fault) (old mid new : Seen) (code : ℕ) (files : Files)
     (events : List Event) (input : List ℕ) (n : ℕ)
     → SendsReplies name limits old.shelf.files old.input.left new.input.left old.out.taken mid.out.taken mid.out.flushed planned
     → Causes old.shelf.faults mid.shelf.faults old.input.faults new.input.faults old.out.faults mid.out.faults planned
@@ -208,7 +208,7 @@ replies_so : (name : Text) (limits : LimitNumbers) (planned : Result code.Reply 
     → new.input.left ≡ Some (drop n input) → n ≤ length input
     → old.input.faults < new.input.faults → RepliesTo limits events input n old.out.taken new.out.taken new.out.flushed
 replies_so name limits (Err fault_is.Source) ending old mid new code files events input n sent cause out flushed at opens left rest few rose =
-    let r : Result code.Reply Fault = Err fault_is.Source in
+    let r : Result own.Reply Fault = Err fault_is.Source in
     let first : SendsReplies name limits (Some files) old.input.left new.input.left old.out.taken mid.out.taken mid.out.flushed r =
     subst (λ x. SendsReplies name limits x old.input.left new.input.left old.out.taken mid.out.taken mid.out.flushed r) at sent in
     let second : SendsReplies name limits (Some files) (Some input) new.input.left old.out.taken mid.out.taken mid.out.flushed r =
@@ -225,17 +225,17 @@ replies_so name limits (Ok p) ending old mid new code files events input n sent 
 -- ---- the run
 
 -- the misses of a line that needs its file, or not
-misses_of : (needs : Bool) (before now : ℕ) (p : code.Reply) → MissesFor needs before now (Ok p) → needs ≡ true → MissesBy before now (Ok p)
+misses_of : (needs : Bool) (before now : ℕ) (p : own.Reply) → MissesFor needs before now (Ok p) → needs ≡ true → MissesBy before now (Ok p)
 misses_of true before now p h is = h
 misses_of false before now p h is = absurd (false≢true is)
 
-module _ (l : Option Line) (limits : LimitNumbers) (planned : Result code.Reply Fault) (ending : Result (Option Told) Fault) (old mid new : Seen) (code : ℕ)
+module _ (l : Option Line) (limits : LimitNumbers) (planned : Result own.Reply Fault) (ending : Result (Option Told) Fault) (old mid new : Seen) (code : ℕ)
     (h : Facts l limits planned ending old mid new code) where
   here : Course l planned old mid new code
   here = course l limits planned ending old mid new code h
 
   -- what is so of the reply, at a status that is a reply's
-  at_reply : (P : Result code.Reply Fault → Type 0) → P planned → (code ≡ 6 → ⊥) → (code ≡ 8 → ⊥) → (p : code.Reply) × P (Ok p) × (reply_status p ≡ code)
+  at_reply : (P : Result own.Reply Fault → Type 0) → P planned → (code ≡ 6 → ⊥) → (code ≡ 8 → ⊥) → (p : own.Reply) × P (Ok p) × (reply_status p ≡ code)
   at_reply P all n6 n8 = let a = plan_of l planned old mid new code h.sends here n6 n8 in (a.0, subst P a.1 all, a.2)
 
   missed : needs_file l ≡ true → code ≡ 3 → Rose old.shelf.misses new.shelf.misses
@@ -267,7 +267,7 @@ module _ (l : Option Line) (limits : LimitNumbers) (planned : Result code.Reply 
       usage_told l a.0 h.some.0 old new code limits a.1 h.some.1 (s.answered n6 n8) a.2 two
 
 -- what a session reads of its peer
-hears : (file : Text) (limits : LimitNumbers) (planned : Result code.Reply Fault) (ending : Result (Option Told) Fault) (old mid new : Seen) (code : ℕ)
+hears : (file : Text) (limits : LimitNumbers) (planned : Result own.Reply Fault) (ending : Result (Option Told) Fault) (old mid new : Seen) (code : ℕ)
     → Facts (Some (serves file)) limits planned ending old mid new code → Hears file limits old new code
 hears file limits planned ending old mid new code h =
     let l : Option Line = Some (serves file) in
@@ -289,19 +289,19 @@ hears file limits planned ending old mid new code h =
     }
 
 -- what only a session promises
-if_hears : (l : Option Line) (limits : LimitNumbers) (planned : Result code.Reply Fault) (ending : Result (Option Told) Fault) (old mid new : Seen) (code : ℕ)
+if_hears : (l : Option Line) (limits : LimitNumbers) (planned : Result own.Reply Fault) (ending : Result (Option Told) Fault) (old mid new : Seen) (code : ℕ)
     → Facts l limits planned ending old mid new code → IfServes l limits old new code
 if_hears None limits planned ending old mid new code h = tt
 if_hears (Some (does command)) limits planned ending old mid new code h = tt
 if_hears (Some (serves file)) limits planned ending old mid new code h = hears file limits planned ending old mid new code h
 
-only_usage_so : (l : Option Line) (planned : Result code.Reply Fault) (old mid new : Seen) (code : ℕ) → SendsNone l old.out mid.out planned → Course l planned old mid new code
+only_usage_so : (l : Option Line) (planned : Result own.Reply Fault) (old mid new : Seen) (code : ℕ) → SendsNone l old.out mid.out planned → Course l planned old mid new code
     → IsReplyOf l planned → l ≡ None → (code ≡ 2) ⊎ (code ≡ 8)
 only_usage_so None planned old mid new code sends k line is = only_so None planned old mid new code sends k line
 only_usage_so (Some l) planned old mid new code sends k line is = absurd cc
 
 -- what the parts make of a run
-pub is_run : (l : Option Line) (limits : LimitNumbers) (planned : Result code.Reply Fault) (ending : Result (Option Told) Fault) (old mid new : Seen) (code : ℕ)
+pub is_run : (l : Option Line) (limits : LimitNumbers) (planned : Result own.Reply Fault) (ending : Result (Option Told) Fault) (old mid new : Seen) (code : ℕ)
     → Facts l limits planned ending old mid new code → IsRunOf l limits old new code
 is_run l limits planned ending old mid new code h =
     let k = course l limits planned ending old mid new code h in

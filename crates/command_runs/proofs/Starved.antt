@@ -13,7 +13,7 @@ use Rattle.command_table.specs.Seen.{Seen, TellsErr}
 use Rattle.command_table.specs.Sessions.{closed_by}
 use Rattle.command_table.specs.Table.{Text, Line, does, serves, refuses}
 use Rattle.command_table.specs.Text.{out_of_memory}
-use Rattle.opened_files.specs.declared.reply.Reply as code
+use Rattle.opened_files.specs.declared.reply.Reply as own
 use Rattle.opened_files.proofs.Reading.{takes_none}
 use Rattle.serve_plans.specs.Plans.{ReadsOn, SendsReplies}
 use Rattle.serve_plans.proofs.Answers.{grows_none}
@@ -24,7 +24,7 @@ use Rattle.command_runs.proofs.Faults.{Calm}
 use Rattle.command_runs.proofs.Lines.{command_some, file_refused}
 use Rattle.command_runs.proofs.Runs.{is_run}
 
-abbrev stopped : Result code.Reply Fault
+abbrev stopped : Result own.Reply Fault
 stopped = Err fault_is.OutOfMemory
 
 some_session : (l : Option Line) (limits : LimitNumbers) (out : SinkSeen) → PlansSome l limits out out stopped

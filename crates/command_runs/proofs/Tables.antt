@@ -16,7 +16,7 @@ use Rattle.command_table.specs.Seen.{Seen, Object, shelf, source, sink, faults_o
 use Rattle.command_table.specs.Table.{Line, does, serves}
 use Rattle.command_texts.specs.Reasons.{refusal_view}
 use Rattle.opened_files.specs.Views.{reply_view}
-use Rattle.opened_files.specs.declared.reply.Reply as code
+use Rattle.opened_files.specs.declared.reply.Reply as own
 use Rattle.opened_files.specs.declared.reply.Reply.TheVariants as reply_is
 use Rattle.ew_outside.specs.declared.fault.Fault.{Fault}
 use Rattle.serve_plans.specs.Plans.{FollowsSession}
@@ -57,7 +57,7 @@ flushed_length old new flushed before bytes n at told all flush =
 
 -- ---- what a plan answers
 
-done_answers : (p : code.Reply) (sent : List ℕ) (files : Files) (old new : Seen) (code : ℕ) → IsDoing p → code ≡ 0 → old.shelf.files ≡ Some files
+done_answers : (p : own.Reply) (sent : List ℕ) (files : Files) (old new : Seen) (code : ℕ) → IsDoing p → code ≡ 0 → old.shelf.files ≡ Some files
     → FilesAfter p old.shelf.files new.shelf.files → Appends old.out.taken new.out.taken (sent ++ out_of p)
     → TellsErr old new [] → IsAnswered (session_answer (record { sent = sent; closing = reply_view p }) files) old new code
 done_answers (reply_is.Prints out) sent files old new code doing zero at after all text = record {
@@ -74,12 +74,12 @@ done_answers (reply_is.Stores out to bytes) sent files old new code doing zero a
 }
 done_answers (reply_is.Refuses why) sent files old new code doing zero at after all text = absurd doing
 
-module _ (l : Option Line) (s : Session) (planned : Result code.Reply Fault) (files : Files) (old mid new : Seen) (code : ℕ)
+module _ (l : Option Line) (s : Session) (planned : Result own.Reply Fault) (files : Files) (old mid new : Seen) (code : ℕ)
     (follows : FollowsSession s old.out.taken mid.out.taken mid.out.flushed planned) (at : old.shelf.files ≡ Some files) where
-  by_plan : (p : code.Reply) → planned ≡ Ok p → (reply_view p ≡ s.closing) × Sends old.out.taken mid.out.taken mid.out.flushed s.sent
+  by_plan : (p : own.Reply) → planned ≡ Ok p → (reply_view p ≡ s.closing) × Sends old.out.taken mid.out.taken mid.out.flushed s.sent
   by_plan p is = follows_plan s planned p old.out.taken mid.out.taken mid.out.flushed is follows
 
-  stored_so : (p : code.Reply) → planned ≡ Ok p → FilesAfter p old.shelf.files new.shelf.files → new.shelf.files ≡ Some (session_answer s files).files
+  stored_so : (p : own.Reply) → planned ≡ Ok p → FilesAfter p old.shelf.files new.shelf.files → new.shelf.files ≡ Some (session_answer s files).files
   stored_so p is after = after_files p files (answer_of s.closing files) old.shelf.files new.shelf.files at (ap (λ r. answer_of r files) (sym (by_plan p is).0)) after
 
   answered_so : Course l planned old mid new code → (code ≡ 6 → ⊥) → (code ≡ 8 → ⊥) → IsAnswered (session_answer s files) old new code
@@ -116,7 +116,7 @@ module _ (l : Option Line) (s : Session) (planned : Result code.Reply Fault) (fi
       (subst (λ x. GrowsByFront old.out.taken x s.sent) (sym same) (sends_front s planned old.out.taken mid.out.taken mid.out.flushed follows))
 
   -- and no less, where a plan closes the session
-  no_shorter : (p : code.Reply) (n : ℕ) (before bytes : List ℕ) → planned ≡ Ok p → old.out.taken ≡ Some before → new.out.taken ≡ Some (before ++ bytes)
+  no_shorter : (p : own.Reply) (n : ℕ) (before bytes : List ℕ) → planned ≡ Ok p → old.out.taken ≡ Some before → new.out.taken ≡ Some (before ++ bytes)
       → Appends mid.out.taken new.out.taken (take n (out_of p)) → length s.sent ≤ length bytes
   no_shorter p n before bytes is told all last =
       let long = appended_length old.out.taken new.out.taken before bytes (s.sent ++ take n (out_of p)) told all
@@ -147,7 +147,7 @@ module _ (l : Option Line) (s : Session) (planned : Result code.Reply Fault) (fi
   early_so (Starved h) before bytes told all less = h.files
 
   -- all that is sent before is flushed, where a plan closes the session
-  not_fewer : (p : code.Reply) (before : List ℕ) (n : ℕ) → planned ≡ Ok p → old.out.taken ≡ Some before → mid.out.flushed ≡ Some n → (s.sent ≡ [] → ⊥)
+  not_fewer : (p : own.Reply) (before : List ℕ) (n : ℕ) → planned ≡ Ok p → old.out.taken ≡ Some before → mid.out.flushed ≡ Some n → (s.sent ≡ [] → ⊥)
       → n < length before + length s.sent → ⊥
   not_fewer p before n is told flushed some less =
       let f = (by_plan p is).1 in

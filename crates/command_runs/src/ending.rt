@@ -48,12 +48,12 @@ pub fn carry_out<H: Shelf, K: Sink>(
     shelf: &mut H,
     out: &mut K,
 ) -> Ending
-    ensures which { EndsReply planned.entry result }
-    ensures files { EndFiles planned.entry result (H.seen shelf.old).files (H.seen shelf.new).files }
-    ensures out { EndOut planned.entry result (K.seen out.old).taken (K.seen out.new).taken (K.seen out.new).flushed }
-    ensures flushed { EndFlushed planned.entry result (K.seen out.old).flushed (K.seen out.new).flushed }
-    ensures shelf { EndShelfCount planned.entry result (H.seen shelf.old).faults (H.seen shelf.new).faults }
-    ensures sink { EndSinkCount planned.entry result (K.seen out.old).faults (K.seen out.new).faults }
+    ensures which { EndsReply planned result }
+    ensures files { EndFiles planned result (H.seen shelf.old).files (H.seen shelf.new).files }
+    ensures out { EndOut planned result (K.seen out.old).taken (K.seen out.new).taken (K.seen out.new).flushed }
+    ensures flushed { EndFlushed planned result (K.seen out.old).flushed (K.seen out.new).flushed }
+    ensures shelf { EndShelfCount planned result (H.seen shelf.old).faults (H.seen shelf.new).faults }
+    ensures sink { EndSinkCount planned result (K.seen out.old).faults (K.seen out.new).faults }
     ensures misses { (H.seen shelf.new).misses ≡ (H.seen shelf.old).misses }
     ensures loads { (H.seen shelf.new).loads ≡ (H.seen shelf.old).loads }
     ensures lost { (H.seen shelf.new).lost ≡ (H.seen shelf.old).lost }
@@ -83,13 +83,13 @@ pub fn tell<E: Sink>(ending: Ending, err: &mut E) -> u8
 {
     match ending {
         Ok(None) => 0,
-        Ok(Some(refusal)) => told(err, &refusal.text, refusal.status),
-        Err(fault) => told(err, text_of(fault), status_of(fault)),
+        Ok(Some(refusal)) => say(err, &refusal.text, refusal.status),
+        Err(fault) => say(err, text_of(fault), status_of(fault)),
     }
 }
 
 // Tells a text as far as it can, and answers the status all the same.
-fn told<E: Sink>(err: &mut E, text: &[u8], status: u8) -> u8
+fn say<E: Sink>(err: &mut E, text: &[u8], status: u8) -> u8
     ensures status { result ≡ status }
     ensures text { Tells (E.seen err.old).taken (E.seen err.new).taken (E.seen err.old).faults (E.seen err.new).faults text.now }
 {

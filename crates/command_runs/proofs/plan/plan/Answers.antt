@@ -1,20 +1,20 @@
-use Rattle.std.proofs.Common.{◌×◌, refl, inl, true, false, Some, None, sym, ap}
+use Rattle.std.proofs.Common.{refl, inl, true, false, Some, None, sym, ap}
 use Rattle.std.proofs.lemmas.Bool.{false≢true}
 use Rattle.std.proofs.KnownBytes.{Appends-nil}
 use Rattle.command_table.specs.Refusals.{not_taken}
 use Rattle.command_table.specs.Sessions.{closed_by}
 use Rattle.command_table.specs.Table.{does, refuses, serves}
-use Rattle.command_table.specs.Reads.{shape_of}
+use Rattle.command_table.specs.Reads.{LeavesInput, shape_of}
 use Rattle.opened_files.proofs.Reading.{takes_none}
-use Rattle.command_words.specs.Words.{command_view}
+use Rattle.command_words.specs.Words.{command_view, line_view}
 use Rattle.command_runs.proofs.Lines.{command_causes, command_keeps, command_known, command_reads, command_some, command_unread, file_refused, loads_one, no_front, not_of_sink, one_front, one_refused, session_known, session_reads, taken_line}
 use Rattle.command_runs.proofs.plan.plan.Goals as goal
 
 pub returns-in-Some-Does-clause-told : goal.returns-in-Some-Does-clause-told
-returns-in-Some-Does-clause-told g c = rw c.in-Some-Does.is (rw c.in-Some-Does.field-0-is (command_known _ _ _ _ _ c.plan_command.result c.plan_command.ensures.told c.plan_command.ensures.alone))
+returns-in-Some-Does-clause-told g c = rw c.in-Some-Does.is (rw c.in-Some-Does.field-0-is (command_known _ c.args.limits.now (g.H.Shelf.seen c.args.shelf.now) (g.S.Source.seen c.args.input.now) (g.K.Sink.seen c.args.out.now) c.plan_command.result c.plan_command.ensures.told c.plan_command.ensures.alone))
 
 pub returns-in-Some-Does-clause-some : goal.returns-in-Some-Does-clause-some
-returns-in-Some-Does-clause-some g c = rw c.in-Some-Does.is (rw c.in-Some-Does.field-0-is (command_some _ _ _ c.plan_command.result c.plan_command.ensures.some))
+returns-in-Some-Does-clause-some g c = rw c.in-Some-Does.is (rw c.in-Some-Does.field-0-is (command_some _ c.args.limits.now (g.K.Sink.seen c.args.out.now) c.plan_command.result c.plan_command.ensures.some))
 
 pub returns-in-Some-Does-clause-heard : goal.returns-in-Some-Does-clause-heard
 returns-in-Some-Does-clause-heard g c = rw c.in-Some-Does.is (rw c.in-Some-Does.field-0-is (tt))
@@ -23,28 +23,28 @@ pub returns-in-Some-Does-clause-sends : goal.returns-in-Some-Does-clause-sends
 returns-in-Some-Does-clause-sends g c = rw c.in-Some-Does.is (rw c.in-Some-Does.field-0-is ((refl, not_of_sink _ _ _ _ c.plan_command.result c.plan_command.ensures.cause)))
 
 pub returns-in-Some-Does-clause-line : goal.returns-in-Some-Does-clause-line
-returns-in-Some-Does-clause-line g c = rw c.in-Some-Does.is (rw c.in-Some-Does.field-0-is (taken_line _ c.plan_command.result c.plan_command.ensures.plan))
+returns-in-Some-Does-clause-line g c = rw c.in-Some-Does.is (taken_line (line_view c.in-Some-Does.field-0) c.plan_command.result c.plan_command.ensures.plan)
 
 pub returns-in-Some-Does-clause-same : goal.returns-in-Some-Does-clause-same
-returns-in-Some-Does-clause-same g c = rw c.in-Some-Does.is (rw c.in-Some-Does.field-0-is (c.plan_command.ensures.same))
+returns-in-Some-Does-clause-same g c = c.plan_command.ensures.same
 
 pub returns-in-Some-Does-clause-read : goal.returns-in-Some-Does-clause-read
-returns-in-Some-Does-clause-read g c = rw c.in-Some-Does.is (rw c.in-Some-Does.field-0-is (command_reads _ _ _ _ c.plan_command.result c.plan_command.ensures.read))
+returns-in-Some-Does-clause-read g c = rw c.in-Some-Does.is (rw c.in-Some-Does.field-0-is (command_reads _ c.args.limits.now (g.S.Source.seen c.args.input.now) (g.S.Source.seen c.plan_command.new.input) c.plan_command.result c.plan_command.ensures.read))
 
 pub returns-in-Some-Does-clause-unread : goal.returns-in-Some-Does-clause-unread
-returns-in-Some-Does-clause-unread g c = rw c.in-Some-Does.is (rw c.in-Some-Does.field-0-is (command_unread _ _ _ c.plan_command.result c.plan_command.ensures.read c.plan_command.ensures.quiet))
+returns-in-Some-Does-clause-unread g c = rw c.in-Some-Does.is (rw c.in-Some-Does.field-0-is (command_unread _ (g.S.Source.seen c.args.input.now) (g.S.Source.seen c.plan_command.new.input) c.plan_command.result c.plan_command.ensures.read c.plan_command.ensures.quiet))
 
 pub returns-in-Some-Does-clause-cause : goal.returns-in-Some-Does-clause-cause
-returns-in-Some-Does-clause-cause g c = rw c.in-Some-Does.is (rw c.in-Some-Does.field-0-is (command_causes _ _ _ _ _ c.plan_command.result c.plan_command.ensures.cause))
+returns-in-Some-Does-clause-cause g c = command_causes _ _ _ _ _ c.plan_command.result c.plan_command.ensures.cause
 
 pub returns-in-Some-Does-clause-misses : goal.returns-in-Some-Does-clause-misses
 returns-in-Some-Does-clause-misses g c = rw c.in-Some-Does.is (rw c.in-Some-Does.field-0-is (c.plan_command.ensures.misses))
 
 pub returns-in-Some-Does-clause-few : goal.returns-in-Some-Does-clause-few
-returns-in-Some-Does-clause-few g c = rw c.in-Some-Does.is (rw c.in-Some-Does.field-0-is (c.plan_command.ensures.few))
+returns-in-Some-Does-clause-few g c = c.plan_command.ensures.few
 
 pub returns-in-Some-Does-clause-kept : goal.returns-in-Some-Does-clause-kept
-returns-in-Some-Does-clause-kept g c = rw c.in-Some-Does.is (rw c.in-Some-Does.field-0-is (command_keeps _ _ _ c.plan_command.result c.plan_command.ensures.kept))
+returns-in-Some-Does-clause-kept g c = command_keeps _ _ (g.K.Sink.seen c.args.out.now).taken c.plan_command.result c.plan_command.ensures.kept
 
 pub returns-in-Some-Does-clause-untouched : goal.returns-in-Some-Does-clause-untouched
 returns-in-Some-Does-clause-untouched g c = rw c.in-Some-Does.is (rw c.in-Some-Does.field-0-is (c.plan_command.ensures.untouched))
@@ -56,13 +56,13 @@ pub returns-in-Some-Does-clause-loads : goal.returns-in-Some-Does-clause-loads
 returns-in-Some-Does-clause-loads g c = rw c.in-Some-Does.is (rw c.in-Some-Does.field-0-is (c.plan_command.ensures.loads))
 
 pub returns-in-Some-Does-clause-lost : goal.returns-in-Some-Does-clause-lost
-returns-in-Some-Does-clause-lost g c = rw c.in-Some-Does.is (rw c.in-Some-Does.field-0-is (c.plan_command.ensures.lost))
+returns-in-Some-Does-clause-lost g c = c.plan_command.ensures.lost
 
 pub returns-in-Some-Does-clause-most : goal.returns-in-Some-Does-clause-most
 returns-in-Some-Does-clause-most g c = rw c.in-Some-Does.is (rw c.in-Some-Does.field-0-is (c.plan_command.ensures.most))
 
 pub returns-in-Some-Serves-clause-told : goal.returns-in-Some-Serves-clause-told
-returns-in-Some-Serves-clause-told g c = rw c.in-Some-Serves.is (rw c.in-Some-Serves.field-0-is (session_known _ _ _ _ _ _ c.serve.result c.serve.ensures.told))
+returns-in-Some-Serves-clause-told g c = rw c.in-Some-Serves.is (rw c.in-Some-Serves.field-0-is (session_known _ c.args.limits.now (g.H.Shelf.seen c.args.shelf.now) (g.S.Source.seen c.args.input.now) (g.K.Sink.seen c.args.out.now) (g.K.Sink.seen c.serve.new.out) c.serve.result c.serve.ensures.told))
 
 pub returns-in-Some-Serves-clause-some : goal.returns-in-Some-Serves-clause-some
 returns-in-Some-Serves-clause-some g c = rw c.in-Some-Serves.is (rw c.in-Some-Serves.field-0-is (c.serve.ensures.some))
@@ -74,40 +74,40 @@ pub returns-in-Some-Serves-clause-sends : goal.returns-in-Some-Serves-clause-sen
 returns-in-Some-Serves-clause-sends g c = rw c.in-Some-Serves.is (rw c.in-Some-Serves.field-0-is (tt))
 
 pub returns-in-Some-Serves-clause-line : goal.returns-in-Some-Serves-clause-line
-returns-in-Some-Serves-clause-line g c = rw c.in-Some-Serves.is (rw c.in-Some-Serves.field-0-is (taken_line _ c.serve.result c.serve.ensures.plan))
+returns-in-Some-Serves-clause-line g c = rw c.in-Some-Serves.is (taken_line (line_view c.in-Some-Serves.field-0) c.serve.result c.serve.ensures.plan)
 
 pub returns-in-Some-Serves-clause-same : goal.returns-in-Some-Serves-clause-same
-returns-in-Some-Serves-clause-same g c = rw c.in-Some-Serves.is (rw c.in-Some-Serves.field-0-is (c.serve.ensures.same))
+returns-in-Some-Serves-clause-same g c = c.serve.ensures.same
 
 pub returns-in-Some-Serves-clause-read : goal.returns-in-Some-Serves-clause-read
-returns-in-Some-Serves-clause-read g c = rw c.in-Some-Serves.is (rw c.in-Some-Serves.field-0-is (session_reads _ _ _ _ c.serve.result c.serve.ensures.end))
+returns-in-Some-Serves-clause-read g c = rw c.in-Some-Serves.is (rw c.in-Some-Serves.field-0-is (session_reads c.in-Some-Serves.file.now c.args.limits.now (g.S.Source.seen c.args.input.now) (g.S.Source.seen c.serve.new.input) c.serve.result c.serve.ensures.end))
 
 pub returns-in-Some-Serves-clause-unread : goal.returns-in-Some-Serves-clause-unread
 returns-in-Some-Serves-clause-unread g c = rw c.in-Some-Serves.is (rw c.in-Some-Serves.field-0-is ((λ none. absurd (false≢true (sym none)))))
 
 pub returns-in-Some-Serves-clause-cause : goal.returns-in-Some-Serves-clause-cause
-returns-in-Some-Serves-clause-cause g c = rw c.in-Some-Serves.is (rw c.in-Some-Serves.field-0-is (c.serve.ensures.cause))
+returns-in-Some-Serves-clause-cause g c = c.serve.ensures.cause
 
 pub returns-in-Some-Serves-clause-misses : goal.returns-in-Some-Serves-clause-misses
 returns-in-Some-Serves-clause-misses g c = rw c.in-Some-Serves.is (rw c.in-Some-Serves.field-0-is (c.serve.ensures.misses))
 
 pub returns-in-Some-Serves-clause-few : goal.returns-in-Some-Serves-clause-few
-returns-in-Some-Serves-clause-few g c = rw c.in-Some-Serves.is (rw c.in-Some-Serves.field-0-is (c.serve.ensures.few))
+returns-in-Some-Serves-clause-few g c = c.serve.ensures.few
 
 pub returns-in-Some-Serves-clause-kept : goal.returns-in-Some-Serves-clause-kept
-returns-in-Some-Serves-clause-kept g c = rw c.in-Some-Serves.is (rw c.in-Some-Serves.field-0-is (c.serve.ensures.kept))
+returns-in-Some-Serves-clause-kept g c = c.serve.ensures.kept
 
 pub returns-in-Some-Serves-clause-untouched : goal.returns-in-Some-Serves-clause-untouched
-returns-in-Some-Serves-clause-untouched g c = rw c.in-Some-Serves.is (rw c.in-Some-Serves.field-0-is (one_refused _ _ _ _ c.serve.ensures.untouched))
+returns-in-Some-Serves-clause-untouched g c = rw c.in-Some-Serves.is (rw c.in-Some-Serves.field-0-is (one_refused c.in-Some-Serves.file.now c.args.limits.now (g.H.Shelf.seen c.args.shelf.now).files _ c.serve.ensures.untouched))
 
 pub returns-in-Some-Serves-clause-front : goal.returns-in-Some-Serves-clause-front
 returns-in-Some-Serves-clause-front g c = rw c.in-Some-Serves.is (rw c.in-Some-Serves.field-0-is (one_front _ _ _ c.serve.ensures.loads))
 
 pub returns-in-Some-Serves-clause-loads : goal.returns-in-Some-Serves-clause-loads
-returns-in-Some-Serves-clause-loads g c = rw c.in-Some-Serves.is (rw c.in-Some-Serves.field-0-is (loads_one _ _ _ _ _ c.serve.result c.serve.ensures.loads))
+returns-in-Some-Serves-clause-loads g c = rw c.in-Some-Serves.is (rw c.in-Some-Serves.field-0-is (loads_one c.in-Some-Serves.file.now c.args.limits.now (g.H.Shelf.seen c.args.shelf.now).files _ _ c.serve.result c.serve.ensures.loads))
 
 pub returns-in-Some-Serves-clause-lost : goal.returns-in-Some-Serves-clause-lost
-returns-in-Some-Serves-clause-lost g c = rw c.in-Some-Serves.is (rw c.in-Some-Serves.field-0-is (c.serve.ensures.lost))
+returns-in-Some-Serves-clause-lost g c = c.serve.ensures.lost
 
 pub returns-in-Some-Serves-clause-most : goal.returns-in-Some-Serves-clause-most
 returns-in-Some-Serves-clause-most g c = rw c.in-Some-Serves.is (rw c.in-Some-Serves.field-0-is (c.serve.ensures.most))
@@ -134,16 +134,16 @@ pub returns-in-None-clause-unread : goal.returns-in-None-clause-unread
 returns-in-None-clause-unread g c = rw c.in-None.is ((λ none. (refl, refl)))
 
 pub returns-in-None-clause-cause : goal.returns-in-None-clause-cause
-returns-in-None-clause-cause g c = rw c.in-None.is ((refl, refl, refl))
+returns-in-None-clause-cause g c = (refl, refl, refl)
 
 pub returns-in-None-clause-few : goal.returns-in-None-clause-few
-returns-in-None-clause-few g c = rw c.in-None.is (takes_none _ _ _ refl)
+returns-in-None-clause-few g c = takes_none _ (g.S.Source.seen c.args.input.now).left _ refl
 
 pub returns-in-None-clause-kept : goal.returns-in-None-clause-kept
-returns-in-None-clause-kept g c = rw c.in-None.is (tt)
+returns-in-None-clause-kept g c = tt
 
 pub returns-in-None-clause-untouched : goal.returns-in-None-clause-untouched
-returns-in-None-clause-untouched g c = rw c.in-None.is (file_refused (shape_of None) _ _ _ (refl, refl))
+returns-in-None-clause-untouched g c = rw c.in-None.is (file_refused (shape_of None) c.args.limits.now (g.H.Shelf.seen c.args.shelf.now).files (LeavesInput (g.S.Source.seen c.args.input.now).left (g.S.Source.seen c.args.input.now).left (g.S.Source.seen c.args.input.now).faults (g.S.Source.seen c.args.input.now).faults) (refl, refl))
 
 pub returns-in-None-clause-front : goal.returns-in-None-clause-front
 returns-in-None-clause-front g c = rw c.in-None.is (no_front _)

@@ -1,5 +1,5 @@
 use Rattle.command_table.specs.Scripts.{MeansNet}
-use Rattle.command_table.specs.Reads.{shape_of}
+use Rattle.command_table.specs.Reads.{LeavesInput, shape_of}
 use Rattle.command_table.specs.Table.{does, edit, net, MeansTo, net_reply, reply_to}
 use Rattle.command_words.specs.Words.{command_view}
 use Rattle.command_runs.proofs.Lines.{causes_of_shelf, file_refused, loads_none, loads_one, may_plan, no_front, none_refused, one_front, one_refused, plans_by, plans_read}
@@ -58,7 +58,7 @@ pub returns-in-Net-clause-kept : goal.returns-in-Net-clause-kept
 returns-in-Net-clause-kept g c = source_keeps _ _ _ _ c.net.result c.net.ensures.cause
 
 pub returns-in-Net-clause-untouched : goal.returns-in-Net-clause-untouched
-returns-in-Net-clause-untouched g c = rw c.in-Net.is (none_refused c.args.limits.now (g.H.Shelf.seen c.args.shelf.now).files _)
+returns-in-Net-clause-untouched g c = rw c.in-Net.is (none_refused c.args.limits.now (g.H.Shelf.seen c.args.shelf.now).files (LeavesInput (g.S.Source.seen c.args.input.now).left (g.S.Source.seen c.net.new.input).left (g.S.Source.seen c.args.input.now).faults (g.S.Source.seen c.net.new.input).faults))
 
 pub returns-in-Net-clause-front : goal.returns-in-Net-clause-front
 returns-in-Net-clause-front g c = rw c.in-Net.is (no_front _)
