@@ -10,10 +10,12 @@ import bisect
 import collections
 import contextlib
 import errno
+import fcntl
 import hashlib
 import itertools
 import os
 import re
+import stat
 import struct
 import sys
 
@@ -739,10 +741,19 @@ def write_all(handle, data):
         data = data[os.write(handle, data):]
 
 
+# Of each file that was loaded: which one it was, how long, and when it was changed last.
+loaded = {}
+
+
+def state_of(found):
+    return found.st_dev, found.st_ino, found.st_size, found.st_mtime_ns
+
+
 def load(file):
     """The good history of a file."""
     try:
         with using('shelf', FileNotFoundError), open(file.encode(), 'rb', buffering=0) as opened:
+            loaded[file] = state_of(os.fstat(opened.fileno()))
             data = read_all(opened.fileno(), MAX_FILE, file)
     except FileNotFoundError:
         raise Refusal(3, 'no file %s' % file)
@@ -752,17 +763,50 @@ def load(file):
     return history
 
 
-def store(file, events):
-    """Put the file of these events in the place of the old one."""
-    path, data, number = file.encode(), file_bytes(events), 0
+def lock(path, old):
+    """Open the file that was loaded, take its lock, and give it with what the system says of it."""
+    held = open(path, 'r+b', buffering=0)
+    try:
+        fcntl.flock(held, fcntl.LOCK_EX | fcntl.LOCK_NB)
+        found = os.fstat(held.fileno())
+        if not stat.S_ISREG(found.st_mode) or state_of(found) != old or state_of(os.stat(path)) != old:
+            raise OSError(errno.ESTALE, 'not the file that was loaded')
+    except OSError:
+        held.close()
+        raise
+    return held, found
+
+
+def make_beside(path, rights):
+    """A new file beside that of the path, and its name."""
+    number = 0
     while os.path.lexists(path + b'.%d.new' % number):
         number += 1
     beside = path + b'.%d.new' % number
-    with using('shelf'), open(beside, 'xb', buffering=0) as new:
+    return beside, open(beside, 'xb', buffering=0, opener=lambda name, flags: os.open(name, flags, rights))
+
+
+def store(file, events):
+    """Put the file of these events in the place of the one that was loaded; where there was none, make it."""
+    path, data, old = file.encode(), file_bytes(events), loaded.get(file)
+    with using('shelf'), contextlib.ExitStack() as opened:
+        if old:
+            path = os.path.realpath(path)
+            held, found = lock(path, old)
+            opened.enter_context(held)
+        beside, new = make_beside(path, 0o600 if old else 0o666)
+        opened.enter_context(new)
         try:
+            if old:
+                os.fchown(new.fileno(), found.st_uid, found.st_gid)
+                os.fchmod(new.fileno(), found.st_mode & 0o777)
             write_all(new.fileno(), data)
             os.fsync(new.fileno())
-            os.rename(beside, path)
+            if old:
+                os.rename(beside, path)
+            else:
+                os.link(beside, path)
+                os.unlink(beside)
         except OSError:
             with contextlib.suppress(OSError):
                 os.unlink(beside)
@@ -774,6 +818,7 @@ def store(file, events):
 
 def run_new(files, _values):
     """Make the file of no events."""
+    loaded.pop(files[0], None)
     with using('shelf'), contextlib.suppress(FileNotFoundError), open(files[0].encode(), 'rb', buffering=0) as there:
         os.read(there.fileno(), 1)
         raise Refusal(3, 'file %s is there' % files[0])
