@@ -15,6 +15,8 @@ from egw_bytes import with_digest
 
 OBJECTS = ("shelf", "source", "out", "err")
 ROOM = 100_000  # what an output takes at most
+# What the system says of a file in memory: nothing changes it during a run.
+FOUND = types.SimpleNamespace(st_dev=0, st_ino=0, st_size=0, st_mtime_ns=0)
 
 
 class Opened:
@@ -128,7 +130,7 @@ class Reader:
                 outside.store(file, self.code.file_bytes(events))
 
         edges = {"open": outside.open, "store": store, "write_all": outside.write_all}
-        edges["os"] = types.SimpleNamespace(read=outside.read, fsencode=os.fsencode)
+        edges["os"] = types.SimpleNamespace(read=outside.read, fsencode=os.fsencode, fstat=lambda _: FOUND)
         vars(self.code).update(edges)
         sys.argv = ["second_reader.py", *map(os.fsdecode, words)]
         return self.code.main()
