@@ -7,4 +7,6 @@ pub mod Lines
 pub mod Numbers
 pub mod Texts
 pub mod LineWords
+pub mod Spellings
+pub mod NetReading
 pub mod Verbs

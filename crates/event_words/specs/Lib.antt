@@ -1,4 +1,5 @@
 pub mod IdLists
 pub mod Meaning
+pub mod NetLaws
 pub mod NetScripts
 pub mod Verbs

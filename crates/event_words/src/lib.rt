@@ -4,6 +4,7 @@
 #![tactic(auto)]
 
 pub mod edit;
+pub mod laws;
 mod line;
 pub mod net;
 pub mod print;
