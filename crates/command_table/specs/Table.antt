@@ -23,10 +23,10 @@ use Rattle.ew_model.specs.File.{file_of}
 use Rattle.ew_model.specs.FileFaults.{FileFinding, file_finding}
 use Rattle.ew_model.specs.FileFaults.FileFinding.{IsFile, Short, BadMagic, BadVersion, BadDigest, BadRecord, TooMany}
 use Rattle.ew_outside.specs.Files.{Files}
-use Rattle.event_graph.specs.Summary.{summary_of}
-use Rattle.peer_frames.specs.declared.frame.Frame.TheVariants.{Have}
-use Rattle.peer_frames.specs.Spelling.{frame_bytes}
-use Rattle.peer_exchange.specs.Answering.{is_clash}
+use Rattle.history_words.specs.Summary.{summary_of}
+use Rattle.peer_words.specs.declared.frame.Frame.TheVariants.{Have}
+use Rattle.peer_words.specs.Spelling.{frame_bytes}
+use Rattle.peer_words.specs.Answering.{is_clash}
 use Rattle.history_words.specs.Listings.{check_text, heads_text, log_text}
 use Rattle.history_words.specs.Replays.{replay_text}
 use Rattle.history_words.specs.Tallies.{accepted_in, repeats_in, refused_in}

@@ -1,4 +1,3 @@
 pub mod IdLists
 pub mod Meaning
-pub mod NetScripts
 pub mod Verbs

@@ -13,12 +13,12 @@ use Rattle.ew_model.specs.Kept.{ReplicaState}
 use Rattle.ew_model.specs.Limits.{LimitNumbers}
 use Rattle.ew_model.specs.Scripts.{escaped_text, spaced}
 use Rattle.ew_model.specs.Texts.{text_of}
-use Rattle.event_words.specs.declared.net.step.NetStep.{NetStep}
-use Rattle.event_words.specs.declared.net.step.NetStep.TheVariants as step
+use Rattle.peer_words.specs.declared.net_step.NetStep.{NetStep}
+use Rattle.peer_words.specs.declared.net_step.NetStep.TheVariants as step
 use Rattle.history_words.specs.Tallies.{accepted_in, repeats_in, refused_in}
-use Rattle.peer_exchange.specs.Answering.{answer_to, event_frames, question}
-use Rattle.peer_frames.specs.declared.frame.Frame.{Frame}
-use Rattle.peer_frames.specs.declared.frame.Frame.TheVariants.{Events}
+use Rattle.peer_words.specs.Answering.{answer_to, event_frames, question}
+use Rattle.peer_words.specs.declared.frame.Frame.{Frame}
+use Rattle.peer_words.specs.declared.frame.Frame.TheVariants.{Events}
 
 -- a peer: its name, which is its agent, and what its replica stands for
 pub record Peer : Type 0 where
