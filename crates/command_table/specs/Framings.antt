@@ -5,12 +5,12 @@ use Rattle.peer_words.specs.declared.frame.Frame.{Frame}
 use Rattle.peer_words.specs.Cutting.{Front, Finds, is_whole}
 use Rattle.peer_words.specs.Cutting.Front.{Whole}
 
--- the bytes begin with these whole frames, and these bytes stand behind them
+-- the bytes begin with these whole frames, and these bytes come after them
 abbrev pub BeginWith : LimitNumbers → List ℕ → List Frame → List ℕ → Type 0
 BeginWith limits bytes [] rest = rest ≡ bytes
 BeginWith limits bytes (f ∷ frames) rest = (behind : List ℕ) × Finds limits bytes (Whole f behind) × BeginWith limits behind frames rest
 
--- whole frames, the bytes behind them, and what is found there
+-- whole frames, the bytes after them, and what is found there
 pub record Framing : Type 0 where
   pub frames : List Frame
   pub rest : List ℕ

@@ -55,7 +55,7 @@ told_of limits o =
     let clash = first_clash (refused_in o.answers) in
     record { frames = frame_for (took_of o) clash ∷ []; end = option_map end.Clash clash; state = state_at limits o }
 
--- What is answered to a frame. A Have gets the events that it lacks, and Done behind them. Events are received, and what became
+-- What is answered to a frame. A Have gets the events that it lacks, and Done after them. Events are received, and what became
 -- of them is told. A Bye gets a Bye, and ends the session; a Clash ends it.
 abbrev pub answer_to : ReplicaState → Frame → Answered
 answer_to r (Have counts) = record { frames = event_frames r.limits (missing r.held counts) ++ Done ∷ []; end = None; state = r }

@@ -20,12 +20,12 @@ pub data Head : Type 0 where
   OverLimit : (length : ℕ) → Head
   Complete : (kind : ℕ) (body rest : List ℕ) → Head
 
--- the length of the body, told by the four bytes behind the kind
+-- the length of the body, told by the four bytes after the kind
 abbrev pub told_length : List ℕ → ℕ
 told_length bytes = from_le_bytes w32 (take 4 bytes)
 
 -- The first that holds: there is no byte; the first byte is no kind; the length isn't all there; it is above the limit of the
--- kind; the body isn't all there; the body is there, and the rest behind it.
+-- kind; the body isn't all there; the body is there, and the rest after it.
 unfoldable pub head_of : LimitNumbers → List ℕ → Head
 head_of limits [] = Incomplete
 head_of limits (kind ∷ bytes) =

@@ -49,7 +49,7 @@ IsNetScript bytes steps = LinesMean MeansStep 1 (lines_of bytes) steps
 abbrev pub IsFirstBadNetLine : List ℕ → ℕ → Type 0
 IsFirstBadNetLine bytes bad = IsFirstUnreadable MeansStep 1 (lines_of bytes) bad
 
--- the steps that the line of this number means stand behind the others
+-- the steps that the line of this number means come after the others
 abbrev pub AddsNetLine : ℕ → List ℕ → List (ℕ × NetStep) → List (ℕ × NetStep) → Type 0
 AddsNetLine number line old new =
     (added : List (ℕ × NetStep)) × (new ≡ old ++ added) × LinesMean MeansStep number (line ∷ []) (numbered_steps added)

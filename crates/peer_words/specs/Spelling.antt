@@ -44,7 +44,7 @@ kind_of (Took accepted waiting repeats refused) = 4
 kind_of (Clash id) = 5
 kind_of Bye = 6
 
--- what stands behind a frame's kind and length
+-- what comes after a frame's kind and length
 abbrev pub body_of : Frame → List ℕ
 body_of (Have counts) = counts_body counts
 body_of (Events events) = events_body events

@@ -33,7 +33,7 @@ impl Text {
         }
     }
 
-    /// Puts one more character behind the others.
+    /// Puts one more character after the others.
     pub fn push(&mut self, ch: char) -> Result<(), NoMem>
         ensures ok { OnOk result (self.new ≡ self.old ++ ch ∷ []) }
         ensures err { OnErr result (self.new ≡ self.old) }
