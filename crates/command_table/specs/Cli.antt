@@ -24,6 +24,7 @@ other_rule = record (new_rule (codes "other")) { required = true }
 unfoldable pub merge_app : App
 merge_app = with_rule (with_rule (new_app (codes "merge")) file_rule) other_rule
 
+-- the command of a file and its agent
 unfoldable pub edit_app : App
 edit_app = with_rule (with_rule (new_app (codes "edit")) file_rule) agent_rule
 
@@ -31,13 +32,15 @@ edit_app = with_rule (with_rule (new_app (codes "edit")) file_rule) agent_rule
 abbrev pub at_rule : Rule
 at_rule = record (new_rule (codes "at")) { long = Some (codes "at") }
 
+-- the command of a file and perhaps a version of it
 unfoldable pub cat_app : App
 cat_app = with_rule (with_rule (new_app (codes "cat")) file_rule) at_rule
 
--- the greatest seed, and the most edits that are made
+-- the greatest seed
 abbrev pub most_seed : ℕ
 most_seed = 18446744073709551615
 
+-- the most edits that are made
 abbrev pub most_made : ℕ
 most_made = 1000000
 
@@ -61,6 +64,7 @@ bare_app = on_top (λ s. record s { no_binary_name = true; subcommand_required =
 abbrev pub then_app : App → App → App
 then_app app more = with_subcommand app more.top
 
+-- the program, with all of its commands
 unfoldable pub egw_app : App
 egw_app =
     then_app (then_app (then_app (then_app (then_app (then_app (then_app (then_app (then_app (then_app (then_app (then_app bare_app

@@ -98,6 +98,7 @@ pub record Hears (file : Text) (limits : LimitNumbers) (old new : Seen) (status 
   -- none is taken where the file is missing or bad, whatever is known of the shelf
   pub refused : (status ≡ 3) ⊎ (status ≡ 4) → LeavesInput old.input.left new.input.left old.input.faults new.input.faults
 
+-- of a line that serves a peer: what is read of the peer
 abbrev pub IfServes : Option Line → LimitNumbers → Seen → Seen → ℕ → Type 0
 IfServes (Some (serves file)) limits old new status = Hears file limits old new status
 IfServes line limits old new status = ⊤

@@ -25,9 +25,11 @@ shape_of (Some (does net)) = record { files = []; needs = false; input = true }
 shape_of (Some (serves file)) = record { files = file ∷ []; needs = true; input = true }
 shape_of None = record { files = []; needs = false; input = false }
 
+-- the line reads the input
 abbrev pub reads_input : Option Line → Bool
 reads_input l = (shape_of l).input
 
+-- the line has files that have to be there
 abbrev pub needs_file : Option Line → Bool
 needs_file l = (shape_of l).needs
 

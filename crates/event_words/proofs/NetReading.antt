@@ -10,11 +10,11 @@ use Rattle.ew_model.proofs.ScriptReading.{decimal_lacks_space}
 use Rattle.event_words.proofs.IdTexts.{name_lacks}
 use Rattle.event_words.proofs.Spellings.{Decided, IsSpelling, IsCut, cut_decided, pairs, regrouped, names, named_lacks_space, numbers, texts, Both, spaced_pair, IsNamed, as_it_is, IsSmall, IsOfScalars}
 use Rattle.event_words.proofs.Verbs.{Contents, step_of, words_of, line_of, verb_decided, verb_once, verb_lacks_space, Worded, worded, said, means, wordless}
-use Rattle.event_words.specs.declared.net.step.NetStep.{NetStep}
-use Rattle.event_words.specs.declared.net.step.NetStep.TheVariants as step
+use Rattle.peer_words.specs.declared.net_step.NetStep.{NetStep}
+use Rattle.peer_words.specs.declared.net_step.NetStep.TheVariants as step
 use Rattle.event_words.specs.declared.net.verb.Verb.{Verb}
 use Rattle.event_words.specs.declared.net.verb.Verb.TheVariants as verb
-use Rattle.event_words.specs.NetScripts.{IsSoundStep, MeansStep, net_line}
+use Rattle.peer_words.specs.NetScripts.{IsSoundStep, MeansStep, net_line}
 use Rattle.event_words.specs.NetLaws.{FirstBadNetLinesAreUnique, LinesMeanOneStep, NetBytesAreJudged, NetScriptsAreUnique, NetScriptsHaveNoBadLine}
 use Rattle.event_words.specs.Verbs.{verb_word}
 

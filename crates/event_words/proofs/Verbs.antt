@@ -6,12 +6,12 @@ use Rattle.std.proofs.lemmas.Bool.{cases_Bool, both_ways}
 use Rattle.std.proofs.lemmas.Slice.Eq.{bytes_eq-Decides}
 use Rattle.ew_model.specs.Scripts.{escaped_text}
 use Rattle.ew_model.proofs.LineLaws.{Lacks, cut_once, never_cut}
-use Rattle.event_words.proofs.IdTexts.{name_lacks}
-use Rattle.event_words.specs.declared.net.step.NetStep.{NetStep}
-use Rattle.event_words.specs.declared.net.step.NetStep.TheVariants as step
+use Rattle.history_words.proofs.IdTexts.{name_lacks}
+use Rattle.peer_words.specs.declared.net_step.NetStep.{NetStep}
+use Rattle.peer_words.specs.declared.net_step.NetStep.TheVariants as step
 use Rattle.event_words.specs.declared.net.verb.Verb.{Verb}
 use Rattle.event_words.specs.declared.net.verb.Verb.TheVariants as verb
-use Rattle.event_words.specs.NetScripts.{IsSoundStep, MeansStep, net_line}
+use Rattle.peer_words.specs.NetScripts.{IsSoundStep, MeansStep, net_line}
 use Rattle.event_words.specs.Verbs.{verb_word}
 
 -- what a step with this word says beside it

@@ -1,5 +1,4 @@
 pub mod IdLists
 pub mod Meaning
 pub mod NetLaws
-pub mod NetScripts
 pub mod Verbs

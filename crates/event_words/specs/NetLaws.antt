@@ -1,8 +1,8 @@
 -- What is proved of net scripts: bytes are one script or have one first bad line, and never both.
 use Rattle.std.specs.Prelude.{◌≡◌, ℕ, ◌⊎◌, List}
 use Rattle.ew_model.specs.Scripts.{Numbered}
-use Rattle.event_words.specs.declared.net.step.NetStep.{NetStep}
-use Rattle.event_words.specs.NetScripts.{MeansStep, IsNetScript, IsFirstBadNetLine}
+use Rattle.peer_words.specs.declared.net_step.NetStep.{NetStep}
+use Rattle.peer_words.specs.NetScripts.{MeansStep, IsNetScript, IsFirstBadNetLine}
 
 -- a line means one step at most
 abbrev pub LinesMeanOneStep : Type 0

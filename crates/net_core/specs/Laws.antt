@@ -13,12 +13,12 @@ use Rattle.ew_model.specs.Texts.{text_of}
 use Rattle.ew_model.specs.Verdicts.{Ruling}
 use Rattle.ew_model.specs.Verdicts.Ruling.{Clash, GraphFull}
 use Rattle.history_words.specs.Tallies.{refused_by}
-use Rattle.event_words.specs.declared.net.step.NetStep.{NetStep}
-use Rattle.event_words.specs.declared.net.step.NetStep.TheVariants as step
-use Rattle.event_words.specs.NetScripts.{IsSoundStep}
-use Rattle.peer_exchange.specs.Answering.{answer_to}
-use Rattle.peer_frames.specs.declared.frame.Frame.{Frame}
-use Rattle.peer_frames.specs.declared.frame.Frame.TheVariants.{Events}
+use Rattle.peer_words.specs.declared.net_step.NetStep.{NetStep}
+use Rattle.peer_words.specs.declared.net_step.NetStep.TheVariants as step
+use Rattle.peer_words.specs.NetScripts.{IsSoundStep}
+use Rattle.peer_words.specs.Answering.{answer_to}
+use Rattle.peer_words.specs.declared.frame.Frame.{Frame}
+use Rattle.peer_words.specs.declared.frame.Frame.TheVariants.{Events}
 use Rattle.net_core.specs.Keeping.{IsReached}
 use Rattle.peer_words.specs.Machine.{Network, Packet, Peer, StepOutcome, agree_line, empty_network, net_step, peer_of, printed_line}
 use Rattle.peer_words.specs.Machine.StepOutcome.{Stepped, Refused}

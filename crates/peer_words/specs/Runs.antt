@@ -1,6 +1,6 @@
 -- What the steps of a net script print one after another, up to the first refusal.
 use Rattle.std.specs.Prelude.{ℕ, List, [], ◌∷◌, ◌++◌}
-use Rattle.event_words.specs.declared.net.step.NetStep.{NetStep}
+use Rattle.peer_words.specs.declared.net_step.NetStep.{NetStep}
 use Rattle.peer_words.specs.Machine.{Network, Refusal, StepOutcome, net_step}
 use Rattle.peer_words.specs.Machine.StepOutcome.{Stepped, Refused}
 
