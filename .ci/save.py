@@ -78,7 +78,7 @@ def main():
     # The scripts alone, carried out here.
     parts = {"__name__": "save", "__file__": str(SAVE)}
     exec(compile(SAVE.read_text(), str(SAVE), "exec"), parts)
-    for number in range(100):
+    for number in range(50):
         old = drawn(draw, 60)
         new = drawn(draw, 60) if number % 10 == 0 else changed(draw, old)
         script = parts["script"](old, new, pathlib.Path("."))
@@ -93,7 +93,7 @@ def main():
     run("new", "--", notes[0])
     holds("a first text makes another number of events", save(notes[0], "tea\n\U0010ffff", "first") == 5)
     shutil.copyfile(notes[0], notes[1])
-    for _ in range(6):
+    for _ in range(3):
         for number, note in enumerate(notes):
             text = changed(draw, run("cat", "--", note))
             save(note, text, f"editor-{number}")
