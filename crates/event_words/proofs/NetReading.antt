@@ -7,7 +7,7 @@ use Rattle.std.proofs.lemmas.Slice.Eq.{bytes_eq-Decides}
 use Rattle.ew_model.specs.Scripts.{escaped_text, lines_of, IsReadable}
 use Rattle.ew_model.proofs.LineLaws.{Lacks, cut_once, never_cut, lines_mean_once, first_unreadable_once, all_readable, judged}
 use Rattle.ew_model.proofs.ScriptReading.{decimal_lacks_space}
-use Rattle.event_words.proofs.IdTexts.{name_lacks}
+use Rattle.history_words.proofs.IdTexts.{name_lacks}
 use Rattle.event_words.proofs.Spellings.{Decided, IsSpelling, IsCut, cut_decided, pairs, regrouped, names, named_lacks_space, numbers, texts, Both, spaced_pair, IsNamed, as_it_is, IsSmall, IsOfScalars}
 use Rattle.event_words.proofs.Verbs.{Contents, step_of, words_of, line_of, verb_decided, verb_once, verb_lacks_space, Worded, worded, said, means, wordless}
 use Rattle.peer_words.specs.declared.net_step.NetStep.{NetStep}

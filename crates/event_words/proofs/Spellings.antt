@@ -13,7 +13,7 @@ use Rattle.ew_model.proofs.Decimals.{decimal_once, digits_value_is}
 use Rattle.ew_model.proofs.EscapedText.{heads_differ}
 use Rattle.ew_model.proofs.LineLaws.{Lacks, cut_once, never_cut}
 use Rattle.ew_model.proofs.ScriptReading.{decimal_lacks_space, delete_line, insert_line, lines_mean_one_edit, readable_decided}
-use Rattle.event_words.proofs.IdTexts.{name_lacks}
+use Rattle.history_words.proofs.IdTexts.{name_lacks}
 
 -- what a word spells, or that it spells nothing
 abbrev pub Decided : {X : Type 0} → (X → Type 0) → (X → List ℕ) → List ℕ → Type 0
