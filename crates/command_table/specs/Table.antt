@@ -1,11 +1,11 @@
 -- The command table: what a command line answers over a map of files and an input.
-use Rattle.std.specs.Prelude.{ℕ, ◌-◌, Bool, true, false, List, [], ◌∷◌, length, find, Option, None, Some, option_and_then, if◌then◌else◌, nat_lt, codes, encode_utf8_all}
+use Rattle.std.specs.Prelude.{ℕ, pos, ◌-◌, Bool, true, false, List, [], ◌∷◌, length, find, Option, None, Some, option_and_then, if◌then◌else◌, nat_lt, codes, encode_utf8_all}
 use Rattle.std.specs.List.{list_any}
 use Rattle.std.specs.Option.{option_map}
 use Rattle.std.specs.Str.{bytes_eq}
-use Rattle.std.specs.Str.Parse.{digits_value, without_leading_plus}
+use Rattle.std.specs.Str.Parse.{digits_value, without_leading_plus, without_leading_sign}
 use Rattle.std.specs.FinMap.{get, insert}
-use Rattle.clap.specs.ValueTests.{is_unsigned_in}
+use Rattle.clap.specs.ValueTests.{is_signed_in, is_unsigned_in}
 use Rattle.clap.specs.Words.{Row, Kinds, first_of, fault_of, subcommand_of}
 use Rattle.ew_model.specs.declared.id.Id.{Id}
 use Rattle.ew_model.specs.declared.event.Event.{Event}
@@ -98,16 +98,20 @@ abbrev pub merge_line : List Row → Option Command
 merge_line rows =
     option_and_then (λ file. option_map (merge file) (first_of (codes "other") rows)) (first_of (codes "file") rows)
 
--- the number up to another that a word spells
+-- the seed that a word spells
+abbrev pub seed_in : Text → Option ℕ
+seed_in word = if is_unsigned_in 0 most_seed word then Some (digits_value 10 (without_leading_plus word)) else None
+
+-- the number up to another that a word spells; a minus sign may stand before zeros
 abbrev pub number_up_to : ℕ → Text → Option ℕ
-number_up_to most word = if is_unsigned_in 0 most word then Some (digits_value 10 (without_leading_plus word)) else None
+number_up_to most word = if is_signed_in (pos 0) (pos most) word then Some (digits_value 10 (without_leading_sign word)) else None
 
 -- the seed and the count, both numbers within their bounds
 abbrev pub make_line : List Row → Option Command
 make_line rows =
     option_and_then
     (λ seed. option_map (make seed) (option_and_then (number_up_to most_made) (first_of (codes "count") rows)))
-    (option_and_then (number_up_to most_seed) (first_of (codes "seed") rows))
+    (option_and_then seed_in (first_of (codes "seed") rows))
 
 -- the command of a subcommand and its values
 abbrev pub command_in : Text → List Row → Option Command
