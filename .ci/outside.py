@@ -89,7 +89,7 @@ class Outside:
         return data
 
     def write_all(self, handle, data):
-        """Writes all to an output, in pieces, and flushes the standard output behind it."""
+        """Writes all to an output, in pieces, and flushes it behind that."""
         what = "out" if handle == 1 else "err"
         while data:
             room = self.room[what] - len(self.taken[what])
@@ -97,8 +97,8 @@ class Outside:
             self.refuse(self.call(what) or not room)
             self.taken[what] += piece
             data = data[len(piece) :]
+        self.refuse(self.call(what))
         if what == "out":
-            self.refuse(self.call(what))
             self.flushed = len(self.taken[what])
 
 

@@ -985,11 +985,12 @@ def parse_version(word):
     return [(ident[1], int(ident[2])) for ident in found]
 
 
-def parse_up_to(most):
-    """What reads a number up to another, which may have a plus and zeros in front."""
+def parse_up_to(most, minus=''):
+    """What reads a number up to another, which may have a plus and zeros in front; zeros alone may have `minus` there."""
     def parse(word):
-        digits = re.fullmatch('[+]?0*([0-9]{1,20})', word)
-        return int(digits[1]) if digits and int(digits[1]) <= most else None
+        digits = re.fullmatch(f'[+]?0*([0-9]{{1,20}})|[{minus}+]0*(0)', word)
+        number = int(digits[1] or digits[2]) if digits else most + 1
+        return number if number <= most else None
     return parse
 
 
@@ -999,7 +1000,7 @@ COMMANDS = {'new': (run_new, 1, {}), 'edit': (run_edit, 1, {'--agent': (1, parse
             'log': (run_log, 1, {}), 'replay': (run_replay, 1, {}),
             'check': (run_check, 1, {}), 'ask': (run_ask, 1, {}), 'serve': (run_serve, 1, {}),
             'merge': (run_merge, 2, {}), 'net': (run_net, 0, {}),
-            'make': (run_make, 0, {'--seed': (1, parse_up_to(2 ** 64 - 1)), '--count': (1, parse_up_to(MAX_EVENTS))})}
+            'make': (run_make, 0, {'--seed': (1, parse_up_to(2 ** 64 - 1)), '--count': (1, parse_up_to(MAX_EVENTS, '-'))})}
 
 
 def take(words):
@@ -1013,8 +1014,10 @@ def take(words):
         if word == '--':
             files.extend(rest)
         elif name in options:
-            # A next word that begins with `-` is no name, no version and no number, so it needs no rule of its own.
-            given[name].append(options[name][1](value if equals else next(rest, '-')))
+            value = value if equals else next(rest, '-')
+            if not equals and value.startswith('-'):
+                raise Refusal(2, USAGE)
+            given[name].append(options[name][1](value))
         elif word.startswith('-') and word != '-':
             raise Refusal(2, USAGE)
         else:

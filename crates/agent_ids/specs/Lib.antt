@@ -1,4 +1,3 @@
-pub mod Agents
 pub mod IdRuns
 pub mod PositionRuns
 pub mod Table

@@ -1,7 +1,9 @@
-//! Laws on receiving events: what stands where it stops between two judgements, and which events may be left out.
+//! Laws on receiving events: what stands where it stops between two judgements, which events may be left out, and that a list
+//! may be received in parts.
 #![tactic(auto)]
 
 ghost use Rattle.arrival_laws.specs.Accounts.{EachHasOneLastAnswer, JudgementsAccountForAll};
+ghost use Rattle.arrival_laws.specs.Parts.{PartsAreTheWhole};
 ghost use Rattle.arrival_laws.specs.Repeats.{HeldEventsAreRepeats, HeldEventsChangeNothing};
 
 /// The events answered Good, in order, stand behind the old history. Each received event was judged once as it came, in order, or
@@ -26,4 +28,9 @@ pub fn law_held()
 /// are answered as they would be, and there are as many repeats fewer.
 pub fn law_repeats()
     ensures { HeldEventsAreRepeats }
+{}
+
+/// Events that are received in two parts, one after the other, leave and are answered what all of them are at once.
+pub fn law_parts()
+    ensures { PartsAreTheWhole }
 {}

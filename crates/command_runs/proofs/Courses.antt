@@ -1,29 +1,30 @@
 -- The courses that a run may take, from what its plan, carrying it out and telling ensure.
-use Rattle.std.proofs.Common.{◌≡◌, ◌≤◌, ◌+◌, ◌⊎◌, inl, inr, ℕ, false, List, [], refl, sym, ◌∙◌, ap, subst, arith, Option, Some, None, IfSome, IfOk, Result, Ok, Err}
+use Rattle.std.proofs.Common.{◌≡◌, ◌≤◌, ◌+◌, ◌⊎◌, inl, inr, ℕ, true, false, List, [], refl, sym, ◌∙◌, ap, subst, arith, Option, Some, None, IfSome, IfOk, Result, Ok, Err}
 use Rattle.std.specs.Bool.{⊤}
 use Rattle.std.specs.Io.KnownBytes.{Appends}
 use Rattle.ew_model.specs.Limits.{LimitNumbers}
 use Rattle.ew_outside.specs.Bytes.{IsFlushed}
-use Rattle.ew_outside.specs.Counts.{Rose}
+use Rattle.ew_outside.specs.Counts.{AsksAtMost, IsQuiet, Rose, RisesOnceAtMost, next}
 use Rattle.ew_outside.specs.Outputs.{GrowsByFront}
 use Rattle.ew_outside.specs.declared.fault.Fault.{Fault}
 use Rattle.ew_outside.specs.declared.fault.Fault.TheVariants as fault_is
 use Rattle.command_table.specs.Headline.{UnlessServes, FaultLeaves}
+use Rattle.command_table.specs.Outcomes.{stored_by}
 use Rattle.command_table.specs.Refusals as table
 use Rattle.command_table.specs.Refusals.{refusal_status, refusal_text, not_taken}
 use Rattle.command_table.specs.Seen.{Seen, Object, shelf, source, sink, failed_text, TellsErr}
 use Rattle.command_table.specs.Text.{out_of_memory}
 use Rattle.command_table.specs.Table.{Line, does, serves, refuses}
-use Rattle.command_table.specs.Reads.{shape_of, reads_input, needs_file, TakesAtMost, LeavesInput, CountsLoads, LoadsFront, IfFileRefused}
+use Rattle.command_table.specs.Reads.{shape_of, reads_input, needs_file, makes_file, most_asked, loads_of_all, TakesAtMost, LeavesInput, CountsLoads, LoadsFront, IfFileRefused}
 use Rattle.command_texts.specs.Reasons.{refusal_view}
 use Rattle.command_texts.specs.declared.refusal.Refusal.{Refusal}
-use Rattle.opened_files.specs.Views.{IsTakenReply, IsRefusal, LostBy, reply_status, reply_view}
+use Rattle.opened_files.specs.Views.{IsTakenReply, IsRefusal, LoadsAll, LostBy, ReadsNone, reply_status, reply_view}
 use Rattle.opened_files.specs.declared.reply.Reply as own
 use Rattle.opened_files.specs.declared.reply.Reply.TheVariants as reply_is
 use Rattle.serve_plans.specs.Plans.{Causes, KeepsStreams}
-use Rattle.command_runs.specs.Lines.{Heard, IsReplyOf, MissesFor, PlansKnown, PlansSome, ReadsAll, SendsNone}
+use Rattle.command_runs.specs.Lines.{Heard, IsReplyOf, MakesBy, MissesFor, PlansKnown, PlansSome, ReadsAll, SendsNone}
 use Rattle.command_runs.specs.declared.ending.Told.{Told}
-use Rattle.command_runs.specs.Endings.{EndFiles, EndFlushed, EndOut, EndShelfCount, EndSinkCount, EndsReply, FilesAfter, IsTold, SaysNone, end_status, end_text, out_of}
+use Rattle.command_runs.specs.Endings.{EndFiles, EndFlushed, EndOut, EndShelfCount, EndSinkCount, EndStores, EndsReply, FilesAfter, IsTold, IsToldWhole, SaysNone, end_status, end_text, fault_status, out_of}
 use Rattle.command_runs.proofs.Faults.{Calm, Struck}
 use Rattle.command_runs.proofs.Replies.{after_plan, told_end}
 
@@ -35,16 +36,22 @@ pub record Facts (l : Option Line) (limits : LimitNumbers) (planned : Result own
   pub sends : SendsNone l old.out mid.out planned
   pub line : IsReplyOf l planned
   pub read : ReadsAll l limits old.input new.input planned
-  pub unread : reads_input l ≡ false → LeavesInput old.input.left new.input.left old.input.faults new.input.faults
+  pub unread : reads_input l ≡ false → LeavesInput old.input new.input
   pub same : mid.shelf.files ≡ old.shelf.files
   pub cause : Causes old.shelf.faults mid.shelf.faults old.input.faults new.input.faults old.out.faults mid.out.faults planned
   pub misses : MissesFor (needs_file l) old.shelf.misses mid.shelf.misses planned
   pub front : LoadsFront (shape_of l).files old.shelf.loads mid.shelf.loads
   pub loads : IfOk planned (λ p. CountsLoads (shape_of l).files limits old.shelf.files old.shelf.loads mid.shelf.loads)
   pub lost : LostBy old.shelf.lost mid.shelf.lost planned
-  pub kept : KeepsStreams old.input.left new.input.left old.out.taken mid.out.taken planned
+  pub all : LoadsAll (shape_of l).files old.shelf.loads mid.shelf.loads planned
+  pub makes : MakesBy (makes_file l) old.shelf.misses mid.shelf.misses planned
+  pub asked : AsksAtMost (most_asked l limits) old.shelf.asked mid.shelf.asked
+  pub no_store : mid.shelf.stores ≡ old.shelf.stores
+  pub ends : RisesOnceAtMost old.input.ends new.input.ends
+  pub refused : needs_file l ≡ true → ReadsNone old.input new.input planned
+  pub kept : KeepsStreams old.input new.input old.out.taken mid.out.taken planned
   pub few : TakesAtMost (limits.input + 1) old.input.left new.input.left
-  pub untouched : IfSome old.shelf.files (λ m. IfFileRefused (shape_of l) limits m (LeavesInput old.input.left new.input.left old.input.faults new.input.faults))
+  pub untouched : IfSome old.shelf.files (λ m. IfFileRefused (shape_of l) limits m (LeavesInput old.input new.input))
   pub which : EndsReply planned ending
   pub files : EndFiles planned ending mid.shelf.files new.shelf.files
   pub out : EndOut planned ending mid.out.taken new.out.taken new.out.flushed
@@ -54,9 +61,12 @@ pub record Facts (l : Option Line) (limits : LimitNumbers) (planned : Result own
   pub no_miss : new.shelf.misses ≡ mid.shelf.misses
   pub no_load : new.shelf.loads ≡ mid.shelf.loads
   pub no_loss : new.shelf.lost ≡ mid.shelf.lost
+  pub no_ask : new.shelf.asked ≡ mid.shelf.asked
+  pub end_stores : EndStores planned ending mid.shelf.stores new.shelf.stores
   pub status : code ≡ end_status ending
   pub text : TellsErr old new (end_text ending)
   pub silent : SaysNone ending old.err new.err
+  pub whole : IsToldWhole ending old.err new.err
 
 -- what holds where a line sends nothing, of a line that sends nothing
 pub sends_none : {A B : Type 0} (l : Option Line) → (A → B) → UnlessServes l A → UnlessServes l B
@@ -90,6 +100,7 @@ pub record Finished (p : own.Reply) (old mid new : Seen) (code : ℕ) : Type 0 w
   pub doing : IsDoing p
   pub zero : code ≡ 0
   pub files : FilesAfter p old.shelf.files new.shelf.files
+  pub stores : new.shelf.stores ≡ stored_by (reply_view p) old.shelf.stores
   pub out : Appends mid.out.taken new.out.taken (out_of p)
   pub flushed : IsFlushed new.out.taken new.out.flushed
   pub calm : Calm old new
@@ -101,6 +112,7 @@ pub record TurnedDown (why : table.Refusal) (old mid new : Seen) (code : ℕ) : 
   pub refusal : IsRefused (refusal_status why)
   pub status_is : code ≡ refusal_status why
   pub files : new.shelf.files ≡ old.shelf.files
+  pub stores : new.shelf.stores ≡ old.shelf.stores
   pub out : new.out.taken ≡ mid.out.taken
   pub flushed : new.out.flushed ≡ mid.out.flushed
   pub calm : Calm old new
@@ -110,6 +122,7 @@ pub record TurnedDown (why : table.Refusal) (old mid new : Seen) (code : ℕ) : 
 pub record BrokenOff (l : Option Line) (object : Object) (old mid new : Seen) (code : ℕ) : Type 0 where
   pub six : code ≡ 6
   pub files : new.shelf.files ≡ old.shelf.files
+  pub stores : new.shelf.stores ≡ old.shelf.stores
   pub out : new.out.taken ≡ mid.out.taken
   pub flushed : new.out.flushed ≡ mid.out.flushed
   pub struck : Struck object old new
@@ -122,6 +135,7 @@ pub record Unstored (p : own.Reply) (old mid new : Seen) (code : ℕ) : Type 0 w
   pub storing : IsStoring p
   pub six : code ≡ 6
   pub files : (new.shelf.files ≡ old.shelf.files) ⊎ FilesAfter p old.shelf.files new.shelf.files
+  pub stores : new.shelf.stores ≡ stored_by (reply_view p) old.shelf.stores
   pub out : new.out.taken ≡ mid.out.taken
   pub flushed : new.out.flushed ≡ mid.out.flushed
   pub struck : Struck shelf old new
@@ -133,6 +147,7 @@ pub record Unprinted (p : own.Reply) (old mid new : Seen) (code : ℕ) : Type 0 
   pub doing : IsDoing p
   pub six : code ≡ 6
   pub files : FilesAfter p old.shelf.files new.shelf.files
+  pub stores : new.shelf.stores ≡ stored_by (reply_view p) old.shelf.stores
   pub out : GrowsByFront mid.out.taken new.out.taken (out_of p)
   pub flushed : new.out.flushed ≡ mid.out.flushed
   pub struck : Struck sink old new
@@ -143,6 +158,7 @@ pub record Unprinted (p : own.Reply) (old mid new : Seen) (code : ℕ) : Type 0 
 pub record RanShort (old mid new : Seen) (code : ℕ) : Type 0 where
   pub eight : code ≡ 8
   pub files : new.shelf.files ≡ old.shelf.files
+  pub stores : new.shelf.stores ≡ old.shelf.stores
   pub out : new.out.taken ≡ mid.out.taken
   pub calm : Calm old new
   pub text : TellsErr old new out_of_memory
@@ -163,6 +179,7 @@ module _ (l : Option Line) (limits : LimitNumbers) (ending : Result (Option Told
       record {
         six = h.status ∙ ap end_status h.which;
         files = h.files ∙ h.same;
+        stores = h.end_stores ∙ h.no_store;
         out = h.out;
         flushed = h.flushed;
         struck = record {
@@ -171,7 +188,7 @@ module _ (l : Option Line) (limits : LimitNumbers) (ending : Result (Option Told
           others = elim [ shelf ↦ λ bad. absurd (bad refl) | source ↦ λ _. h.cause.1 | sink ↦ λ _. h.sink_count ∙ h.cause.2 ];
         };
         text = told_end ending (Err fault_is.Shelf) old new h.which h.text;
-        leaves = inl (lost, h.files ∙ h.same, h.out ∙ h.kept.1, (h.kept.0, h.cause.1));
+        leaves = inl (lost, h.files ∙ h.same, h.end_stores ∙ h.no_store, h.out ∙ h.kept.1, h.kept.0);
         load = λ _. lost;
       }
 
@@ -179,6 +196,7 @@ module _ (l : Option Line) (limits : LimitNumbers) (ending : Result (Option Told
   source_stops h = record {
     six = h.status ∙ ap end_status h.which;
     files = h.files ∙ h.same;
+    stores = h.end_stores ∙ h.no_store;
     out = h.out;
     flushed = h.flushed;
     struck = record {
@@ -187,7 +205,7 @@ module _ (l : Option Line) (limits : LimitNumbers) (ending : Result (Option Told
       others = elim [ shelf ↦ λ _. h.shelf_count ∙ h.cause.0 | source ↦ λ bad. absurd (bad refl) | sink ↦ λ _. h.sink_count ∙ h.cause.2 ];
     };
     text = told_end ending (Err fault_is.Source) old new h.which h.text;
-    leaves = (h.no_loss ∙ h.lost, (h.files ∙ h.same, sends_none l (λ same. h.out ∙ same.0) h.sends));
+    leaves = (h.no_loss ∙ h.lost, (h.files ∙ h.same, h.end_stores ∙ h.no_store, sends_none l (λ same. h.out ∙ same.0) h.sends));
     load = λ bad. cc;
   }
 
@@ -195,6 +213,7 @@ module _ (l : Option Line) (limits : LimitNumbers) (ending : Result (Option Told
   sink_stops h = record {
     six = h.status ∙ ap end_status h.which;
     files = h.files ∙ h.same;
+    stores = h.end_stores ∙ h.no_store;
     out = h.out;
     flushed = h.flushed;
     struck = record {
@@ -211,6 +230,7 @@ module _ (l : Option Line) (limits : LimitNumbers) (ending : Result (Option Told
   memory_stops h = record {
     eight = h.status ∙ ap end_status h.which;
     files = h.files ∙ h.same;
+    stores = h.end_stores ∙ h.no_store;
     out = h.out;
     calm = record { shelf_same = h.shelf_count ∙ h.cause.0; source_same = h.cause.1; sink_same = h.sink_count ∙ h.cause.2 };
     text = told_end ending (Err fault_is.OutOfMemory) old new h.which h.text;
@@ -223,6 +243,7 @@ module _ (l : Option Line) (limits : LimitNumbers) (why : Refusal) (told : Told)
     refusal = refuses_by l why h.line;
     status_is = h.status ∙ h.which.0;
     files = h.files ∙ h.same;
+    stores = h.end_stores ∙ h.no_store;
     out = h.out;
     flushed = h.flushed;
     calm = record { shelf_same = h.shelf_count ∙ h.cause.0; source_same = h.cause.1; sink_same = h.sink_count ∙ h.cause.2 };
@@ -236,6 +257,7 @@ module _ (l : Option Line) (limits : LimitNumbers) (old mid new : Seen) (code : 
     doing = doing;
     zero = h.status;
     files = after_plan p _ _ _ h.same h.files;
+    stores = h.end_stores ∙ ap (stored_by (reply_view p)) h.no_store;
     out = h.out.0;
     flushed = h.out.1;
     calm = record { shelf_same = h.shelf_count ∙ h.cause.0; source_same = h.cause.1; sink_same = h.sink_count ∙ h.cause.2 };
@@ -248,6 +270,7 @@ module _ (l : Option Line) (limits : LimitNumbers) (old mid new : Seen) (code : 
     doing = doing;
     six = h.status;
     files = after_plan p _ _ _ h.same h.files;
+    stores = h.end_stores ∙ ap (stored_by (reply_view p)) h.no_store;
     out = h.out;
     flushed = h.flushed;
     struck = record {
@@ -263,6 +286,7 @@ module _ (l : Option Line) (limits : LimitNumbers) (old mid new : Seen) (code : 
   landed storing h = record {
     storing = storing;
     six = h.status;
+    stores = h.end_stores ∙ ap (stored_by (reply_view p)) h.no_store;
     files = elim h.files [ inl stays ↦ inl (stays ∙ h.same) | inr after ↦ inr (after_plan p _ _ _ h.same after) ];
     out = h.out;
     flushed = h.flushed;
@@ -279,6 +303,7 @@ module _ (l : Option Line) (limits : LimitNumbers) (old mid new : Seen) (code : 
   starved h = record {
     eight = h.status;
     files = h.files ∙ h.same;
+    stores = h.end_stores ∙ h.no_store;
     out = h.out;
     calm = record { shelf_same = h.shelf_count ∙ h.cause.0; source_same = h.cause.1; sink_same = h.sink_count ∙ h.cause.2 };
     text = h.text;
@@ -315,3 +340,34 @@ course l limits (Ok (reply_is.Stores out to bytes)) (Err fault_is.Sink) old mid 
     Broken (reply_is.Stores out to bytes) refl (broken l limits old mid new code (reply_is.Stores out to bytes) tt h)
 course l limits (Ok (reply_is.Stores out to bytes)) (Err fault_is.OutOfMemory) old mid new code h =
     Starved (starved l limits old mid new code (reply_is.Stores out to bytes) h)
+
+-- ---- what doesn't hang on the course
+
+module _ (l : Option Line) (limits : LimitNumbers) (old mid new : Seen) (code : ℕ) where
+  -- at status 0, and where something failed that is no load, all loads were made
+  pub loaded_all : (planned : Result own.Reply Fault) (ending : Result (Option Told) Fault) → Facts l limits planned ending old mid new code
+      → (code ≡ 0) ⊎ ((code ≡ 6) × IsQuiet old.shelf.lost new.shelf.lost) → new.shelf.loads ≡ loads_of_all (shape_of l).files old.shelf.loads
+  loaded_all (Ok (reply_is.Prints out)) ending h well = h.no_load ∙ h.all
+  loaded_all (Ok (reply_is.Stores out to bytes)) ending h well = h.no_load ∙ h.all
+  loaded_all (Ok (reply_is.Refuses why)) (Ok (Some told)) h well =
+      let status = refuses_by l why h.line in
+      absurd (omega (arith, status, h.status, h.which.0, well))
+  loaded_all (Ok (reply_is.Refuses why)) (Ok None) h well = absurd h.which
+  loaded_all (Ok (reply_is.Refuses why)) (Err e) h well =
+      let eight : code ≡ 8 = h.status ∙ ap fault_status h.which in
+      absurd (omega (arith, eight, well))
+  loaded_all (Err fault_is.Source) ending h well = h.no_load ∙ h.all
+  loaded_all (Err fault_is.Sink) ending h well = h.no_load ∙ h.all
+  loaded_all (Err fault_is.Shelf) ending h well =
+      let six : code ≡ 6 = h.status ∙ ap end_status h.which in
+      absurd (elim well [ inl zero ↦ omega (arith, zero, six) | inr quiet ↦ omega (arith, quiet.1.0, quiet.1.1, h.no_loss, h.lost.0, h.lost.1) ])
+  loaded_all (Err fault_is.OutOfMemory) ending h well =
+      let eight : code ≡ 8 = h.status ∙ ap end_status h.which in
+      absurd (omega (arith, eight, well))
+
+  -- and what is said is flushed, where the error output didn't fail
+  pub told_whole : (planned : Result own.Reply Fault) (ending : Result (Option Told) Fault) → Facts l limits planned ending old mid new code
+      → (code ≡ 0 → ⊥) → IsQuiet old.err.faults new.err.faults → IsFlushed new.err.taken new.err.flushed
+  told_whole planned (Ok None) h other quiet = absurd (other h.status)
+  told_whole planned (Ok (Some told)) h other quiet = h.whole quiet
+  told_whole planned (Err e) h other quiet = h.whole quiet

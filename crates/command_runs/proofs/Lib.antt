@@ -4,6 +4,7 @@ pub mod Replies
 pub mod Courses
 pub mod Outputting
 pub mod Runs
+pub mod Stores
 pub mod Tables
 pub mod Starved
 pub mod Touches

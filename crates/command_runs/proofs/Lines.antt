@@ -4,7 +4,7 @@ use Rattle.std.specs.Prelude.{⊤}
 use Rattle.std.proofs.lemmas.Bool.{false≢true}
 use Rattle.std.proofs.KnownBytes.{Appends-nil}
 use Rattle.ew_model.specs.Limits.{LimitNumbers}
-use Rattle.ew_outside.specs.Counts.{next}
+use Rattle.ew_outside.specs.Counts.{Asks, AsksAtMost, Rose, next}
 use Rattle.ew_outside.specs.Files.{Files}
 use Rattle.ew_outside.specs.Seen.{ShelfSeen, SourceSeen, SinkSeen}
 use Rattle.ew_outside.specs.declared.fault.Fault.{Fault}
@@ -20,14 +20,15 @@ use Rattle.command_table.specs.Sessions.{Session, closed_by}
 use Rattle.command_table.specs.Table.{Text, Command, create, edit, show, merge, make, net, Line, does, serves, Reply, refuses, ReadingOf, MeansTo, reply_to, create_reply, make_reply, merge_reply, show_reply, over_both, over_events, opened_as, open_file}
 use Rattle.peer_words.specs.Making.{made}
 use Rattle.opened_files.specs.declared.reply.Reply as code
-use Rattle.opened_files.specs.Views.{IsTakenReply, LostBy, ShelfCauses, reply_status, reply_view}
+use Rattle.opened_files.specs.declared.reply.Reply.TheVariants as reply_is
+use Rattle.opened_files.specs.Views.{IsTakenReply, LoadsAll, LoadsDone, LostBy, ReadsNone, ShelfCauses, reply_status, reply_view}
 use Rattle.opened_files.proofs.Reading.{if_refused}
 use Rattle.line_plans.specs.Sources as line
 use Rattle.line_plans.specs.Sources.{KeepsInput, PlansBy}
 use Rattle.serve_plans.specs.Plans as session
 use Rattle.serve_plans.specs.Plans.{FollowsSession, KeepsStreams, Serves}
 use Rattle.serve_plans.proofs.Answers.{grows_none}
-use Rattle.command_runs.specs.Lines.{IsNotOfSink, IsReplyOf, MayPlan, PlansAlone, PlansKnown, PlansSome, ReadsAll, ReadsFor}
+use Rattle.command_runs.specs.Lines.{IsNotOfSink, IsReplyOf, MakesBy, MayPlan, PlansAlone, PlansKnown, PlansSome, ReadsAll, ReadsFor}
 
 -- ---- a command that reads no input
 
@@ -67,7 +68,43 @@ pub file_refused : (shape : Shape) (limits : LimitNumbers) (files : Option Files
 file_refused shape limits (Some m) holds h = λ needs. first_refused shape.files limits m holds h
 file_refused shape limits None holds h = tt
 
+-- nothing was read
+pub reads_same : (input : SourceSeen) (result : Result code.Reply Fault) → ReadsNone input input result
+reads_same input (Ok p) = λ bad. refl
+reads_same input (Err e) = tt
+
 -- ---- the one file of a line that loads one
+
+pub one_all : (name : Text) (before now : ℕ) (result : Result code.Reply Fault) → now ≡ next before → LoadsAll (name ∷ []) before now result
+one_all name before now (Ok (reply_is.Prints out)) one = one
+one_all name before now (Ok (reply_is.Stores out to bytes)) one = one
+one_all name before now (Ok (reply_is.Refuses why)) one = tt
+one_all name before now (Err fault_is.Shelf) one = tt
+one_all name before now (Err fault_is.Source) one = one
+one_all name before now (Err fault_is.Sink) one = one
+one_all name before now (Err fault_is.OutOfMemory) one = tt
+
+-- of a command that reaches the shelf alone
+pub all_of_shelf : (names : List Text) (before now faults faults' : ℕ) (result : Result code.Reply Fault) → ShelfCauses faults faults' result
+    → IfOk result (LoadsDone names before now) → LoadsAll names before now result
+all_of_shelf names before now faults faults' (Ok p) cause done = done
+all_of_shelf names before now faults faults' (Err fault_is.Shelf) cause done = tt
+all_of_shelf names before now faults faults' (Err fault_is.Source) cause done = absurd cause
+all_of_shelf names before now faults faults' (Err fault_is.Sink) cause done = absurd cause
+all_of_shelf names before now faults faults' (Err fault_is.OutOfMemory) cause done = tt
+
+pub asks_most : (most before now : ℕ) → Asks most before now → AsksAtMost most before now
+asks_most most before now asks = omega (arith, asks)
+
+-- a file that is to be made, and a line that makes none
+pub made_file : (before now : ℕ) (result : Result code.Reply Fault) → IfOk result (λ p. reply_status p ≡ 3 → now ≡ before) → IfOk result (λ p. reply_status p ≡ 0 → Rose before now)
+    → MakesBy true before now result
+made_file before now (Ok p) there absent = λ makes. (there, absent)
+made_file before now (Err e) there absent = tt
+
+pub none_made : (before now : ℕ) (result : Result code.Reply Fault) → MakesBy false before now result
+none_made before now (Ok p) = λ makes. absurd (false≢true makes)
+none_made before now (Err e) = tt
 
 pub one_front : (name : Text) (before now : ℕ) → now ≡ next before → LoadsFront (name ∷ []) before now
 one_front name before now one = (1, one)
@@ -103,6 +140,18 @@ no_causes n (Err e) h = subst (λ fault. ShelfCauses {T = code.Reply} n n (Err f
 pub none_lost : (n : ℕ) (result : Result code.Reply Fault) → IfErr result (λ fault. fault ≡ fault_is.OutOfMemory) → LostBy n n result
 none_lost n (Ok p) h = refl
 none_lost n (Err e) h = subst (λ fault. LostBy {T = code.Reply} n n (Err fault)) (sym h) refl
+
+pub none_all : (n : ℕ) (result : Result code.Reply Fault) → LoadsAll [] n n result
+none_all n (Ok (reply_is.Prints out)) = refl
+none_all n (Ok (reply_is.Stores out to bytes)) = refl
+none_all n (Ok (reply_is.Refuses why)) = tt
+none_all n (Err fault_is.Shelf) = tt
+none_all n (Err fault_is.Source) = refl
+none_all n (Err fault_is.Sink) = refl
+none_all n (Err fault_is.OutOfMemory) = tt
+
+pub asks_none : (most n : ℕ) → AsksAtMost most n n
+asks_none most n = omega arith
 
 pub no_front : (n : ℕ) → LoadsFront [] n n
 no_front n = (0, refl)
@@ -201,11 +250,6 @@ command_reads command limits old new (Ok p) h = λ zero input left ends.
     let told : line.ReadsAll (Some input) new.left (Ok p) = subst (λ x. line.ReadsAll x new.left (Ok p)) left all in
     told zero
 
-pub command_unread : (command : Command) (old new : SourceSeen) (result : Result code.Reply Fault) → ReadsFor (reads_input (Some (does command))) old.left new.left result
-    → (reads_input (Some (does command)) ≡ false → new.faults ≡ old.faults)
-    → reads_input (Some (does command)) ≡ false → LeavesInput old.left new.left old.faults new.faults
-command_unread command old new result h quiet none = (subst (λ b. ReadsFor b old.left new.left result) none h, quiet none)
-
 pub command_causes : (before now source source' sink : ℕ) (result : Result code.Reply Fault) → line.Causes before now source source' result
     → session.Causes before now source source' sink sink result
 command_causes before now source source' sink (Ok p) cause = (cause.0, cause.1, refl)
@@ -214,12 +258,12 @@ command_causes before now source source' sink (Err fault_is.Source) cause = (cau
 command_causes before now source source' sink (Err fault_is.Sink) cause = absurd cause
 command_causes before now source source' sink (Err fault_is.OutOfMemory) cause = (cause.0, cause.1, refl)
 
-pub command_keeps : (left left' out : Option (List ℕ)) (result : Result code.Reply Fault) → KeepsInput left left' result → KeepsStreams left left' out out result
-command_keeps left left' out (Ok p) kept = tt
-command_keeps left left' out (Err fault_is.Shelf) kept = (kept, refl)
-command_keeps left left' out (Err fault_is.Source) kept = tt
-command_keeps left left' out (Err fault_is.Sink) kept = tt
-command_keeps left left' out (Err fault_is.OutOfMemory) kept = tt
+pub command_keeps : (input input' : SourceSeen) (out : Option (List ℕ)) (result : Result code.Reply Fault) → KeepsInput input input' result → KeepsStreams input input' out out result
+command_keeps input input' out (Ok p) kept = tt
+command_keeps input input' out (Err fault_is.Shelf) kept = (kept, refl)
+command_keeps input input' out (Err fault_is.Source) kept = tt
+command_keeps input input' out (Err fault_is.Sink) kept = tt
+command_keeps input input' out (Err fault_is.OutOfMemory) kept = tt
 
 -- ---- a session
 

@@ -6,7 +6,7 @@ use Rattle.ew_outside.specs.Bytes.{IsFlushed}
 use Rattle.ew_outside.specs.Counts.{IsQuiet}
 use Rattle.ew_outside.specs.Outputs.{GrowsByFront, Sends}
 use Rattle.command_table.specs.Sessions.{Session, printed_by}
-use Rattle.command_table.specs.Outcomes.{IsClosed, IsSession, FailsToStore}
+use Rattle.command_table.specs.Outcomes.{IsClosed, IsSession, FailsToStore, stored_by}
 use Rattle.command_table.specs.Seen.{Seen, Object, shelf, source, sink, TellsErr}
 use Rattle.command_table.specs.Table.{Line}
 use Rattle.command_texts.specs.Reasons.{refusal_view}
@@ -132,5 +132,38 @@ module _ (l : Option Line) (s : Session) (planned : Result own.Reply Fault) (old
   starved_so (Broken p is h) eight = absurd (omega (arith, h.six, eight))
   starved_so (Starved h) eight = kept_front old.out.taken mid.out.taken new.out.taken s.sent front h.out
 
+  stores_so : Course l planned old mid new code → code ≡ 0 → new.shelf.stores ≡ stored_by s.closing old.shelf.stores
+  stores_so (Done p is h) zero = h.stores ∙ ap (λ r. stored_by r old.shelf.stores) (by_plan p is).0
+  stores_so (Refused why is h) zero = absurd (omega (arith, h.refusal, h.status_is, zero))
+  stores_so (Stopped object x other named is h) zero = absurd (omega (arith, h.six, zero))
+  stores_so (Landed p is h) zero = absurd (omega (arith, h.six, zero))
+  stores_so (Broken p is h) zero = absurd (omega (arith, h.six, zero))
+  stores_so (Starved h) zero = absurd (omega (arith, h.eight, zero))
+
+  stores_failed_so : Course l planned old mid new code → code ≡ 6 → (new.shelf.stores ≡ old.shelf.stores) ⊎ (new.shelf.stores ≡ stored_by s.closing old.shelf.stores)
+  stores_failed_so (Done p is h) six = absurd (omega (arith, h.zero, six))
+  stores_failed_so (Refused why is h) six = inl h.stores
+  stores_failed_so (Stopped object x other named is h) six = inl h.stores
+  stores_failed_so (Landed p is h) six = inr (h.stores ∙ ap (λ r. stored_by r old.shelf.stores) (by_plan p is).0)
+  stores_failed_so (Broken p is h) six = inr (h.stores ∙ ap (λ r. stored_by r old.shelf.stores) (by_plan p is).0)
+  stores_failed_so (Starved h) six = inl h.stores
+
+  -- where the session stores nothing, nothing was stored
+  pub stores_none_so : Course l planned old mid new code → ((n : ℕ) → stored_by s.closing n ≡ n) → new.shelf.stores ≡ old.shelf.stores
+  stores_none_so (Done p is h) none = h.stores ∙ ap (λ r. stored_by r old.shelf.stores) (by_plan p is).0 ∙ none old.shelf.stores
+  stores_none_so (Refused why is h) none = h.stores
+  stores_none_so (Stopped object x other named is h) none = h.stores
+  stores_none_so (Landed p is h) none = h.stores ∙ ap (λ r. stored_by r old.shelf.stores) (by_plan p is).0 ∙ none old.shelf.stores
+  stores_none_so (Broken p is h) none = h.stores ∙ ap (λ r. stored_by r old.shelf.stores) (by_plan p is).0 ∙ none old.shelf.stores
+  stores_none_so (Starved h) none = h.stores
+
   pub is_session : Course l planned old mid new code → IsSession s old new code
-  is_session k = record { answered = closed_so k; flushed = flushed_so k; failed = failed_so k; store_failed = store_failed_so k; memory = starved_so k }
+  is_session k = record {
+    answered = closed_so k;
+    flushed = flushed_so k;
+    failed = failed_so k;
+    store_failed = store_failed_so k;
+    memory = starved_so k;
+    stores = stores_so k;
+    stores_failed = stores_failed_so k;
+  }

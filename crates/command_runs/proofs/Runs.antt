@@ -7,15 +7,15 @@ use Rattle.std.proofs.KnownBytes.{Appends-nil, Appends-trans}
 use Rattle.ew_model.specs.declared.event.Event.{Event}
 use Rattle.ew_model.specs.Limits.{LimitNumbers}
 use Rattle.ew_outside.specs.Bytes.{IsFlushed}
-use Rattle.ew_outside.specs.Counts.{Rose}
+use Rattle.ew_outside.specs.Counts.{AsksAtMost, Rose, next}
 use Rattle.ew_outside.specs.Files.{Files}
 use Rattle.ew_outside.specs.declared.fault.Fault.{Fault}
 use Rattle.ew_outside.specs.declared.fault.Fault.TheVariants as fault_is
 use Rattle.command_table.specs.Headline.{FaultLeaves, Hears, IfServes, UnlessServes, IsRun, IsRunOf, IsStatus, StoresNothing, NamesFault, ReadsToEnd}
 use Rattle.command_table.specs.Lines.{Meaning, IsInput, session_of}
-use Rattle.command_table.specs.Outcomes.{IsClosed, StoresFirst}
+use Rattle.command_table.specs.Outcomes.{IsClosed, StoresFirst, stored_by}
 use Rattle.command_table.specs.Possible.{MayComeTo}
-use Rattle.command_table.specs.Reads.{needs_file, shape_of, IfFileRefused, LeavesInput, CountsLoads, TakesAtMost}
+use Rattle.command_table.specs.Reads.{needs_file, makes_file, may_store, most_asked, shape_of, IfFileRefused, LeavesInput, CountsLoads, TakesAtMost}
 use Rattle.command_table.specs.Refusals as table
 use Rattle.command_table.specs.Refusals.{not_taken, refusal_status}
 use Rattle.command_table.specs.Seen.{Seen, Object, shelf, source, sink, faults_of, TellsErr}
@@ -24,16 +24,17 @@ use Rattle.command_table.specs.Table.{Text, Line, does, serves, opened, open_fil
 use Rattle.command_table.specs.Cli.{usage as usage_text}
 use Rattle.command_table.specs.Text.{out_of_memory}
 use Rattle.command_texts.specs.Reasons.{refusal_view}
-use Rattle.opened_files.specs.Views.{IsRefusal, MissesBy, reply_status, reply_view}
+use Rattle.opened_files.specs.Views.{IsRefusal, MissesBy, ReadsNone, reply_status, reply_view}
 use Rattle.opened_files.specs.declared.reply.Reply as own
 use Rattle.opened_files.specs.declared.reply.Reply.TheVariants as reply_is
-use Rattle.serve_plans.specs.Plans.{Causes, ReadsNone, ReadsOn, ReadsWithin, SendsReplies}
+use Rattle.serve_plans.specs.Plans.{Causes, ReadsOn, ReadsWithin, SendsReplies}
 use Rattle.command_runs.specs.declared.ending.Told.{Told}
 use Rattle.command_runs.specs.Endings.{EndFlushed, EndOut, out_of}
-use Rattle.command_runs.specs.Lines.{Heard, IsNotOfSink, IsReplyOf, MissesFor, ReadsAll, SendsNone}
+use Rattle.command_runs.specs.Lines.{Heard, IsNotOfSink, IsReplyOf, MakesBy, MissesFor, ReadsAll, SendsNone}
 use Rattle.command_runs.proofs.Faults.{calm_object}
-use Rattle.command_runs.proofs.Courses.{Course, Done, Refused, Stopped, Landed, Broken, Starved, Facts, IsDoing, IsStoring, course, sends_none}
-use Rattle.command_runs.proofs.Outputting.{is_session}
+use Rattle.command_runs.proofs.Courses.{Course, Done, Refused, Stopped, Landed, Broken, Starved, Facts, IsDoing, IsStoring, course, loaded_all, sends_none, told_whole}
+use Rattle.command_runs.proofs.Outputting.{is_session, stores_none_so}
+use Rattle.command_runs.proofs.Stores.{reads_alone}
 use Rattle.command_runs.proofs.Tables.{is_served, stores_first}
 
 pub none_taken : (a b : Option (List ℕ)) → b ≡ a → Appends a b []
@@ -53,6 +54,12 @@ storing_does : (p : own.Reply) → IsStoring p → IsDoing p
 storing_does (reply_is.Prints out) storing = absurd storing
 storing_does (reply_is.Stores out to bytes) storing = tt
 storing_does (reply_is.Refuses why) storing = absurd storing
+
+-- what a reply that is to store stores
+stores_one : (p : own.Reply) (n : ℕ) → IsStoring p → stored_by (reply_view p) n ≡ next n
+stores_one (reply_is.Prints out) n storing = absurd storing
+stores_one (reply_is.Stores out to bytes) n storing = refl
+stores_one (reply_is.Refuses why) n storing = absurd storing
 
 untaken_status : (x : table.Refusal) → refuses x ≡ refuses not_taken → refusal_status x ≡ 2
 untaken_status x h = ap refusal_status (same x h)
@@ -90,7 +97,7 @@ module _ (l : Option Line) (planned : Result own.Reply Fault) (old mid new : See
   fault_so (Done p is h) six = absurd (omega (arith, h.zero, six))
   fault_so (Refused why is h) six = absurd (omega (arith, h.refusal, h.status_is, six))
   fault_so (Stopped object x other named is h) six = record { object = object; rose = h.struck.rose; others = h.struck.others; leaves = h.leaves; text = h.text }
-  fault_so (Landed p is h) six = record { object = shelf; rose = h.struck.rose; others = h.struck.others; leaves = inr (h.lost, kept_out h.out); text = h.text }
+  fault_so (Landed p is h) six = record { object = shelf; rose = h.struck.rose; others = h.struck.others; leaves = inr (h.lost, h.stores ∙ stores_one p old.shelf.stores h.storing, kept_out h.out); text = h.text }
   fault_so (Broken p is h) six = record { object = sink; rose = h.struck.rose; others = h.struck.others; leaves = h.lost; text = h.text }
   fault_so (Starved h) six = absurd (omega (arith, h.eight, six))
 
@@ -116,15 +123,15 @@ module _ (l : Option Line) (planned : Result own.Reply Fault) (old mid new : See
   memory_so (Stopped object x other named is h) eight = absurd (omega (arith, h.six, eight))
   memory_so (Landed p is h) eight = absurd (omega (arith, h.six, eight))
   memory_so (Broken p is h) eight = absurd (omega (arith, h.six, eight))
-  memory_so (Starved h) eight = ((h.files, kept_out h.out), h.text)
+  memory_so (Starved h) eight = ((h.files, h.stores, kept_out h.out), h.text)
 
   nothing_so : Course l planned old mid new code → (code ≡ 0 → ⊥) → (code ≡ 6 → ⊥) → StoresNothing l old new
   nothing_so (Done p is h) n0 n6 = absurd (n0 h.zero)
-  nothing_so (Refused why is h) n0 n6 = (h.files, kept_out h.out)
+  nothing_so (Refused why is h) n0 n6 = (h.files, h.stores, kept_out h.out)
   nothing_so (Stopped object x other named is h) n0 n6 = absurd (n6 h.six)
   nothing_so (Landed p is h) n0 n6 = absurd (n6 h.six)
   nothing_so (Broken p is h) n0 n6 = absurd (n6 h.six)
-  nothing_so (Starved h) n0 n6 = (h.files, kept_out h.out)
+  nothing_so (Starved h) n0 n6 = (h.files, h.stores, kept_out h.out)
 
   flushed_at : Course l planned old mid new code → code ≡ 0 → IsFlushed new.out.taken new.out.flushed
   flushed_at (Done p is h) zero = h.flushed
@@ -248,6 +255,25 @@ module _ (l : Option Line) (limits : LimitNumbers) (planned : Result own.Reply F
       let a = at_reply (MissesFor (needs_file l) old.shelf.misses mid.shelf.misses) h.misses n6 n8 in
       h.no_miss ∙ (misses_of (needs_file l) old.shelf.misses mid.shelf.misses a.0 a.1 needs).2 (λ three. n3 (sym a.2 ∙ three))
 
+  there : makes_file l ≡ true → code ≡ 3 → new.shelf.misses ≡ old.shelf.misses
+  there makes three =
+      let a = at_reply (MakesBy (makes_file l) old.shelf.misses mid.shelf.misses) h.makes (λ six. omega (arith, three, six)) (λ eight. omega (arith, three, eight)) in
+      h.no_miss ∙ (a.1 makes).0 (a.2 ∙ three)
+
+  absent : makes_file l ≡ true → code ≡ 0 → Rose old.shelf.misses new.shelf.misses
+  absent makes zero =
+      let a = at_reply (MakesBy (makes_file l) old.shelf.misses mid.shelf.misses) h.makes (λ six. omega (arith, zero, six)) (λ eight. omega (arith, zero, eight)) in
+      subst (Rose old.shelf.misses) (sym h.no_miss) ((a.1 makes).1 (a.2 ∙ zero))
+
+  refused_unread : needs_file l ≡ true → (code ≡ 3) ⊎ (code ≡ 4) → LeavesInput old.input new.input
+  refused_unread needs bad =
+      let a = at_reply (ReadsNone old.input new.input) (h.refused needs) (λ six. omega (arith, bad, six)) (λ eight. omega (arith, bad, eight)) in
+      a.1 (elim bad [ inl three ↦ inl (a.2 ∙ three) | inr four ↦ inr (a.2 ∙ four) ])
+
+  -- a line that only reads never stores
+  kept : may_store l ≡ false → new.shelf.stores ≡ old.shelf.stores
+  kept only = stores_none_so l h.some.0 planned old mid new code h.some.2 here (λ n. reads_alone limits n l h.some.0 only h.some.1)
+
   read_all : code ≡ 0 → (input : List ℕ) → old.input.left ≡ Some input → ReadsToEnd l limits input → new.input.left ≡ Some []
   read_all zero input left ends =
       let a = at_reply (ReadsAll l limits old.input new.input) h.read (λ six. omega (arith, zero, six)) (λ eight. omega (arith, zero, eight)) in
@@ -282,10 +308,6 @@ hears file limits planned ending old mid new code h =
           let a = at_reply l limits planned ending old mid new code h (ReadsWithin limits old.input.left new.input.left) h.heard.2
           (λ six. omega (arith, well, six)) (λ eight. omega (arith, well, eight)) in
           a.1 (elim well [ inl zero ↦ inl (a.2 ∙ zero) | inr five ↦ inr (a.2 ∙ five) ]);
-      refused = λ bad.
-          let a = at_reply l limits planned ending old mid new code h (ReadsNone old.input.left new.input.left old.input.faults new.input.faults) h.heard.3
-          (λ six. omega (arith, bad, six)) (λ eight. omega (arith, bad, eight)) in
-          a.1 (elim bad [ inl three ↦ inl (a.2 ∙ three) | inr four ↦ inr (a.2 ∙ four) ]);
     }
 
 -- what only a session promises
@@ -316,6 +338,7 @@ is_run l limits planned ending old mid new code h =
         usage = usage_so l limits planned ending old mid new code h;
         only_usage = only_usage_so l planned old mid new code h.sends k h.line;
         flushed = flushed_at l planned old mid new code h.sends k;
+        told = told_whole l limits old mid new code planned ending h;
         silent = silent_so l planned old mid new code h.sends k;
       };
       leaves = record {
@@ -324,17 +347,24 @@ is_run l limits planned ending old mid new code h =
         later = later_so l planned old mid new code h.sends k;
         memory = memory_so l planned old mid new code h.sends k;
         nothing = nothing_so l planned old mid new code h.sends k;
+        kept = kept l limits planned ending old mid new code h;
       };
       reads = record {
         missing = missed l limits planned ending old mid new code h;
         found = found l limits planned ending old mid new code h;
+        there = there l limits planned ending old mid new code h;
+        absent = absent l limits planned ending old mid new code h;
         front = (h.front.0, h.no_load ∙ h.front.1);
         loads = loaded l limits planned ending old mid new code h;
+        loaded = loaded_all l limits old mid new code planned ending h;
+        asked = subst (AsksAtMost (most_asked l limits) old.shelf.asked) (sym h.no_ask) h.asked;
         read = read_all l limits planned ending old mid new code h;
         unread = h.unread;
+        ends = h.ends;
         few = h.few;
         untouched = λ files at. subst
-            (λ x. IfSome x (λ m. IfFileRefused (shape_of l) limits m (LeavesInput old.input.left new.input.left old.input.faults new.input.faults))) at h.untouched;
+            (λ x. IfSome x (λ m. IfFileRefused (shape_of l) limits m (LeavesInput old.input new.input))) at h.untouched;
+        refused = refused_unread l limits planned ending old mid new code h;
         hears = if_hears l limits planned ending old mid new code h;
       };
     }

@@ -1,8 +1,10 @@
 -- A run for whose words there was no memory.
-use Rattle.std.proofs.Common.{◌≡◌, ◌≤◌, ap, List, ℕ, Bool, true, false, [], refl, sym, subst, arith, Option, None, Some, Result, Err}
+use Rattle.std.proofs.Common.{◌≡◌, ◌≤◌, ap, List, ℕ, Bool, true, false, [], inl, refl, sym, subst, arith, Option, None, Some, Result, Err}
 use Rattle.ew_model.specs.Limits.{LimitNumbers}
 use Rattle.ew_outside.specs.Files.{Files}
-use Rattle.ew_outside.specs.Seen.{SinkSeen}
+use Rattle.ew_outside.specs.Seen.{SinkSeen, SourceSeen}
+use Rattle.ew_outside.specs.Bytes.{IsFlushed}
+use Rattle.ew_outside.specs.Counts.{IsQuiet}
 use Rattle.ew_outside.specs.declared.fault.Fault.{Fault}
 use Rattle.ew_outside.specs.declared.fault.Fault.TheVariants as fault_is
 use Rattle.command_table.specs.Headline.{IsRunOf}
@@ -44,7 +46,7 @@ heard_none (Some (does command)) limits old new left = tt
 heard_none (Some (serves file)) limits old new left =
     let reads : ReadsOn file limits old.shelf.files old.input.left new.input.left old.out.taken old.out.taken =
     subst (λ x. ReadsOn file limits old.shelf.files old.input.left x old.out.taken old.out.taken) (sym left) (prompt_none file limits old.shelf.files old.input.left old.out.taken) in
-    (no_replies file limits old.shelf.files old.input.left new.input.left old.out.taken old.out.taken old.out.flushed, reads, tt, tt)
+    (no_replies file limits old.shelf.files old.input.left new.input.left old.out.taken old.out.taken old.out.flushed, reads, tt)
 
 sent_none : (l : Option Line) (out : SinkSeen) → SendsNone l out out stopped
 sent_none None out = (refl, tt)
@@ -60,9 +62,10 @@ none_missed true n = omega arith
 none_missed false n = omega arith
 
 pub starved_run : (l : Option Line) (limits : LimitNumbers) (old new : Seen) (code : ℕ) → code ≡ 8 → Calm old new → new.shelf ≡ old.shelf → new.out ≡ old.out
-    → new.input.left ≡ old.input.left
-    → TellsErr old new out_of_memory → IsRunOf l limits old new code
-starved_run l limits old new code eight calm shelf out left text =
+    → new.input ≡ old.input
+    → TellsErr old new out_of_memory → (IsQuiet old.err.faults new.err.faults → IsFlushed new.err.taken new.err.flushed) → IsRunOf l limits old new code
+starved_run l limits old new code eight calm shelf out input text whole =
+    let left = ap (λ (s : SourceSeen). s.left) input in
     is_run l limits stopped (Err fault_is.OutOfMemory) old old new code (record {
       told = λ files bytes meaning at means. grows_none old.out.taken (session_of l limits files bytes meaning).sent;
       some = some_session l limits old.out;
@@ -70,16 +73,22 @@ starved_run l limits old new code eight calm shelf out left text =
       sends = sent_none l old.out;
       line = no_reply l;
       read = tt;
-      unread = λ none. (left, calm.source_same);
+      unread = λ none. input;
       same = refl;
       cause = (refl, calm.source_same, refl);
       misses = none_missed (needs_file l) old.shelf.misses;
       front = (0, refl);
       loads = tt;
       lost = refl;
+      all = tt;
+      makes = tt;
+      asked = omega arith;
+      no_store = refl;
+      ends = inl (ap (λ (s : SourceSeen). s.ends) input);
+      refused = λ needs. tt;
       kept = tt;
       few = takes_none _ old.input.left new.input.left left;
-      untouched = file_refused (shape_of l) limits old.shelf.files _ (left, calm.source_same);
+      untouched = file_refused (shape_of l) limits old.shelf.files _ input;
       which = refl;
       files = ap (λ s. s.files) shelf;
       out = ap (λ s. s.taken) out;
@@ -89,7 +98,10 @@ starved_run l limits old new code eight calm shelf out left text =
       no_miss = ap (λ s. s.misses) shelf;
       no_load = ap (λ s. s.loads) shelf;
       no_loss = ap (λ s. s.lost) shelf;
+      no_ask = ap (λ s. s.asked) shelf;
+      end_stores = ap (λ s. s.stores) shelf;
       status = eight;
       text = text;
       silent = tt;
+      whole = whole;
     })

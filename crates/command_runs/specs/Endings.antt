@@ -3,16 +3,18 @@ use Rattle.std.specs.Prelude.{◌≡◌, ◌≤◌, ⊤, ℕ, List, [], Option, 
 use Rattle.std.specs.FinMap.{insert}
 use Rattle.std.specs.Io.KnownBytes.{Appends}
 use Rattle.ew_outside.specs.Files.{Files}
-use Rattle.ew_outside.specs.Counts.{Rose}
+use Rattle.ew_outside.specs.Counts.{IsQuiet, Rose}
 use Rattle.ew_outside.specs.Bytes.{IsFlushed}
 use Rattle.ew_outside.specs.Outputs.{GrowsByFront}
 use Rattle.ew_outside.specs.Seen.{SinkSeen}
 use Rattle.ew_outside.specs.declared.fault.Fault.{Fault}
 use Rattle.ew_outside.specs.declared.fault.Fault.TheVariants as fault_is
+use Rattle.command_table.specs.Outcomes.{stored_by}
 use Rattle.command_table.specs.Refusals.{refusal_status, refusal_text}
 use Rattle.command_table.specs.Text.{shelf_failed, source_failed, sink_failed, out_of_memory}
 use Rattle.command_texts.specs.Reasons.{refusal_view}
 use Rattle.command_texts.specs.declared.refusal.Refusal.{Refusal}
+use Rattle.opened_files.specs.Views.{reply_view}
 use Rattle.opened_files.specs.declared.reply.Reply as code
 use Rattle.opened_files.specs.declared.reply.Reply.TheVariants as reply_is
 use Rattle.command_runs.specs.declared.ending.Told.{Told}
@@ -78,6 +80,12 @@ abbrev pub EndSinkCount : Result code.Reply Fault → Result (Option Told) Fault
 EndSinkCount (Ok _) (Err fault_is.Sink) before now = (before ≤ now) × Rose before now
 EndSinkCount _ _ before now = now ≡ before
 
+-- what the reply stores is stored once; not where memory ran out, nor where there is no reply
+abbrev pub EndStores : Result code.Reply Fault → Result (Option Told) Fault → ℕ → ℕ → Type 0
+EndStores (Err _) _ before now = now ≡ before
+EndStores (Ok p) (Err fault_is.OutOfMemory) before now = now ≡ before
+EndStores (Ok p) _ before now = now ≡ stored_by (reply_view p) before
+
 -- what a fault is told as, and the status that it ends with
 abbrev pub fault_text : Fault → List ℕ
 fault_text fault_is.Shelf = shelf_failed
@@ -105,6 +113,11 @@ end_text (Err fault) = fault_text fault
 abbrev pub SaysNone : Result (Option Told) Fault → SinkSeen → SinkSeen → Type 0
 SaysNone (Ok None) old new = (new.taken ≡ old.taken) × (new.faults ≡ old.faults)
 SaysNone _ old new = ⊤
+
+-- what is said is flushed, where the error output didn't fail
+abbrev pub IsToldWhole : Result (Option Told) Fault → SinkSeen → SinkSeen → Type 0
+IsToldWhole (Ok None) old new = ⊤
+IsToldWhole _ old new = IsQuiet old.faults new.faults → IsFlushed new.taken new.flushed
 
 -- what printing leaves of the output
 abbrev pub PrintLeaves : Result (Option Told) Fault → SinkSeen → SinkSeen → List ℕ → Type 0

@@ -1,13 +1,13 @@
 -- At most how often walkers are touched by a run of a line.
-use Rattle.std.specs.Prelude.{ℕ, List, Option, Some, None}
+use Rattle.std.specs.Prelude.{◌≤◌, ℕ, List, Option, Some, None}
 use Rattle.ew_model.specs.Limits.{LimitNumbers}
 use Rattle.ew_outside.specs.Files.{Files}
 use Rattle.command_table.specs.Table.{Line, does, serves}
-use Rattle.opened_files.specs.Touches.{CommandTakes, TouchesAtMost}
+use Rattle.opened_files.specs.Touches.{CommandTakes}
 use Rattle.serve_plans.specs.SessionTouches.{SessionTakes}
 
 -- where the files are told, and for a session the input too, a run of the line takes no more
 abbrev pub LineTakes : Option Line → LimitNumbers → Option Files → Option (List ℕ) → ℕ → ℕ → Type 0
 LineTakes (Some (serves name)) limits files left before now = SessionTakes name limits files left before now
 LineTakes (Some (does command)) limits files left before now = CommandTakes command limits files before now
-LineTakes None limits files left before now = TouchesAtMost (λ m. 0) files before now
+LineTakes None limits files left before now = now ≤ before

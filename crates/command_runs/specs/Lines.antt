@@ -1,5 +1,6 @@
 -- What is planned for a line.
 use Rattle.std.specs.Prelude.{◌≡◌, ◌≤◌, ⊤, ℕ, List, [], Option, None, Some, Result, Ok, Err, Bool, true, false}
+use Rattle.ew_outside.specs.Counts.{Rose}
 use Rattle.ew_outside.specs.Files.{Files}
 use Rattle.ew_outside.specs.Seen.{ShelfSeen, SourceSeen, SinkSeen}
 use Rattle.ew_model.specs.Limits.{LimitNumbers}
@@ -14,7 +15,7 @@ use Rattle.ew_outside.specs.declared.fault.Fault.{Fault}
 use Rattle.ew_outside.specs.declared.fault.Fault.TheVariants as fault_is
 use Rattle.opened_files.specs.Views.{IsTakenReply, MissesBy, reply_status, reply_view}
 use Rattle.line_plans.specs.Sources as line
-use Rattle.serve_plans.specs.Plans.{FollowsSession, ReadsNone, ReadsOn, ReadsWithin, SendsReplies}
+use Rattle.serve_plans.specs.Plans.{FollowsSession, ReadsOn, ReadsWithin, SendsReplies}
 
 -- the reply of a command that has no use for the input
 abbrev pub PlansAlone : {Reading : Type 0} → (Files → List ℕ → Reading → Reply) → Option Files → Result code.Reply Fault → Type 0
@@ -30,6 +31,11 @@ ReadsFor false old new planned = new ≡ old
 abbrev pub MissesFor : Bool → ℕ → ℕ → Result code.Reply Fault → Type 0
 MissesFor true before now planned = MissesBy before now planned
 MissesFor false before now planned = before ≤ now
+
+-- where a file is to be made: none was missed where it is there, and one where it is made
+abbrev pub MakesBy : Bool → ℕ → ℕ → Result code.Reply Fault → Type 0
+MakesBy makes before now (Ok p) = makes ≡ true → (reply_status p ≡ 3 → now ≡ before) × (reply_status p ≡ 0 → Rose before now)
+MakesBy makes before now (Err _) = ⊤
 
 -- the reply is one of the command's
 abbrev pub MayPlan : Command → LimitNumbers → Result code.Reply Fault → Type 0
@@ -74,5 +80,4 @@ Heard (Some (serves file)) limits shelf input input' out out' planned =
     SendsReplies file limits shelf.files input.left input'.left out.taken out'.taken out'.flushed planned
     × ReadsOn file limits shelf.files input.left input'.left out.taken out'.taken
     × ReadsWithin limits input.left input'.left planned
-    × ReadsNone input.left input'.left input.faults input'.faults planned
 Heard l limits shelf input input' out out' planned = ⊤

@@ -1,10 +1,12 @@
 //! How a run ends, once its reply is made.
 ghost use Rattle.std.specs.Prelude.{◌≡◌};
-ghost use Rattle.command_runs.specs.Endings.{EndFiles, EndFlushed, EndOut, EndShelfCount, EndSinkCount, EndsReply, IsTold, PrintLeaves, SaysNone, end_status, end_text, fault_status, fault_text};
+ghost use Rattle.command_runs.specs.Endings.{EndFiles, EndFlushed, EndOut, EndShelfCount, EndSinkCount, EndStores, EndsReply, IsTold, IsToldWhole, PrintLeaves, SaysNone, end_status, end_text, fault_status, fault_text};
+ghost use Rattle.ew_outside.specs.Bytes.{IsFlushed};
+ghost use Rattle.ew_outside.specs.Counts.{IsQuiet};
 ghost use Rattle.ew_outside.specs.Outputs.{Tells};
 
 use command_texts::refusal::Refusal;
-use ew_outside::{Failed, Fault, Shelf, Sink, write_all, write_and_flush};
+use ew_outside::{Failed, Fault, Shelf, Sink, write_and_flush};
 use opened_files::reply::Reply;
 use std::alloc::{AllocError, Global};
 
@@ -57,6 +59,8 @@ pub fn carry_out<H: Shelf, K: Sink>(
     ensures misses { (H.seen shelf.new).misses ≡ (H.seen shelf.old).misses }
     ensures loads { (H.seen shelf.new).loads ≡ (H.seen shelf.old).loads }
     ensures lost { (H.seen shelf.new).lost ≡ (H.seen shelf.old).lost }
+    ensures asked { (H.seen shelf.new).asked ≡ (H.seen shelf.old).asked }
+    ensures stores { EndStores planned result (H.seen shelf.old).stores (H.seen shelf.new).stores }
 {
     match planned {
         Err(fault) => Err(fault),
@@ -80,6 +84,7 @@ pub fn tell<E: Sink>(ending: Ending, err: &mut E) -> u8
     ensures status { result ≡ end_status ending }
     ensures text { Tells (E.seen err.old).taken (E.seen err.new).taken (E.seen err.old).faults (E.seen err.new).faults (end_text ending) }
     ensures silent { SaysNone ending (E.seen err.old) (E.seen err.new) }
+    ensures flushed { IsToldWhole ending (E.seen err.old) (E.seen err.new) }
 {
     match ending {
         Ok(None) => 0,
@@ -88,12 +93,13 @@ pub fn tell<E: Sink>(ending: Ending, err: &mut E) -> u8
     }
 }
 
-// Tells a text as far as it can, and answers the status all the same.
+// Tells a text as far as it can and flushes it, and answers the status all the same.
 fn say<E: Sink>(err: &mut E, text: &[u8], status: u8) -> u8
     ensures status { result ≡ status }
     ensures text { Tells (E.seen err.old).taken (E.seen err.new).taken (E.seen err.old).faults (E.seen err.new).faults text.now }
+    ensures flushed { IsQuiet (E.seen err.old).faults (E.seen err.new).faults → IsFlushed (E.seen err.new).taken (E.seen err.new).flushed }
 {
-    let _ = write_all(err, text);
+    let _ = write_and_flush(err, text);
     status
 }
 

@@ -1,16 +1,17 @@
 //! From a line to what is to be done.
-ghost use Rattle.std.specs.Prelude.{◌≡◌, ◌+◌, false, IfOk, IfSome, Some};
+ghost use Rattle.std.specs.Prelude.{◌≡◌, ◌+◌, true, false, IfOk, IfSome, Some};
 ghost use Rattle.std.specs.Option.{option_map};
-ghost use Rattle.command_table.specs.Reads.{IfFileRefused, LeavesInput, CountsLoads, LoadsFront, TakesAtMost, needs_file, reads_input, shape_of};
+ghost use Rattle.command_table.specs.Reads.{IfFileRefused, LeavesInput, CountsLoads, LoadsFront, TakesAtMost, makes_file, most_asked, needs_file, reads_input, shape_of};
 ghost use Rattle.command_table.specs.Table.{MeansTo, does, reply_to};
 ghost use Rattle.opened_files.specs.Touches.{CommandTakes};
-ghost use Rattle.opened_files.specs.Views.{IsTakenReply, LostBy, ShelfCauses};
+ghost use Rattle.opened_files.specs.Views.{IsTakenReply, LoadsAll, LostBy, ReadsNone, ShelfCauses};
 ghost use Rattle.line_plans.specs.Sources.{KeepsInput, PlansBy};
 ghost use Rattle.line_plans.specs.Sources as line;
 ghost use Rattle.serve_plans.specs.Plans.{Causes, KeepsStreams};
 ghost use Rattle.command_runs.specs.LineTouches.{LineTakes};
-ghost use Rattle.command_runs.specs.Lines.{Heard, IsReplyOf, MayPlan, MissesFor, PlansAlone, PlansKnown, PlansSome, ReadsAll, ReadsFor, SendsNone};
+ghost use Rattle.command_runs.specs.Lines.{Heard, IsReplyOf, MakesBy, MayPlan, MissesFor, PlansAlone, PlansKnown, PlansSome, ReadsAll, ReadsFor, SendsNone};
 ghost use Rattle.command_words.specs.Words.{command_view, line_view};
+ghost use Rattle.ew_outside.specs.Counts.{AsksAtMost, RisesOnceAtMost};
 
 use crate::commands::{create, show};
 use crate::making::make_history;
@@ -45,15 +46,21 @@ pub fn plan<H: Shelf, S: Source, K: Sink, L: Ledger>(
     ensures line { IsReplyOf (option_map line_view line.entry) result }
     ensures same { (H.seen shelf.new).files ≡ (H.seen shelf.old).files }
     ensures read { ReadsAll (option_map line_view line.entry) limits.now (S.seen input.old) (S.seen input.new) result }
-    ensures unread { reads_input (option_map line_view line.entry) ≡ false → LeavesInput (S.seen input.old).left (S.seen input.new).left (S.seen input.old).faults (S.seen input.new).faults }
+    ensures unread { reads_input (option_map line_view line.entry) ≡ false → LeavesInput (S.seen input.old) (S.seen input.new) }
     ensures cause { Causes (H.seen shelf.old).faults (H.seen shelf.new).faults (S.seen input.old).faults (S.seen input.new).faults (K.seen out.old).faults (K.seen out.new).faults result }
     ensures misses { MissesFor (needs_file (option_map line_view line.entry)) (H.seen shelf.old).misses (H.seen shelf.new).misses result }
     ensures few { TakesAtMost (limits.now.input + 1) (S.seen input.old).left (S.seen input.new).left }
-    ensures kept { KeepsStreams (S.seen input.old).left (S.seen input.new).left (K.seen out.old).taken (K.seen out.new).taken result }
-    ensures untouched { IfSome (H.seen shelf.old).files (λ m. IfFileRefused (shape_of (option_map line_view line.entry)) limits.now m (LeavesInput (S.seen input.old).left (S.seen input.new).left (S.seen input.old).faults (S.seen input.new).faults)) }
+    ensures kept { KeepsStreams (S.seen input.old) (S.seen input.new) (K.seen out.old).taken (K.seen out.new).taken result }
+    ensures untouched { IfSome (H.seen shelf.old).files (λ m. IfFileRefused (shape_of (option_map line_view line.entry)) limits.now m (LeavesInput (S.seen input.old) (S.seen input.new))) }
     ensures front { LoadsFront (shape_of (option_map line_view line.entry)).files (H.seen shelf.old).loads (H.seen shelf.new).loads }
     ensures loads { IfOk result (λ p. CountsLoads (shape_of (option_map line_view line.entry)).files limits.now (H.seen shelf.old).files (H.seen shelf.old).loads (H.seen shelf.new).loads) }
     ensures lost { LostBy (H.seen shelf.old).lost (H.seen shelf.new).lost result }
+    ensures all { LoadsAll (shape_of (option_map line_view line.entry)).files (H.seen shelf.old).loads (H.seen shelf.new).loads result }
+    ensures makes { MakesBy (makes_file (option_map line_view line.entry)) (H.seen shelf.old).misses (H.seen shelf.new).misses result }
+    ensures asked { AsksAtMost (most_asked (option_map line_view line.entry) limits.now) (H.seen shelf.old).asked (H.seen shelf.new).asked }
+    ensures stores { (H.seen shelf.new).stores ≡ (H.seen shelf.old).stores }
+    ensures ends { RisesOnceAtMost (S.seen input.old).ends (S.seen input.new).ends }
+    ensures refused { needs_file (option_map line_view line.entry) ≡ true → ReadsNone (S.seen input.old) (S.seen input.new) result }
     ensures most { LineTakes (option_map line_view line.entry) limits.now (H.seen shelf.old).files (S.seen input.old).left steps.old steps.new }
 {
     match line {
@@ -78,15 +85,21 @@ fn plan_command<H: Shelf, S: Source, L: Ledger>(
     ensures plan { IfOk result IsTakenReply }
     ensures same { (H.seen shelf.new).files ≡ (H.seen shelf.old).files }
     ensures read { ReadsFor (reads_input (Some (does (command_view command.entry)))) (S.seen input.old).left (S.seen input.new).left result }
-    ensures quiet { reads_input (Some (does (command_view command.entry))) ≡ false → (S.seen input.new).faults ≡ (S.seen input.old).faults }
+    ensures quiet { reads_input (Some (does (command_view command.entry))) ≡ false → LeavesInput (S.seen input.old) (S.seen input.new) }
     ensures cause { line.Causes (H.seen shelf.old).faults (H.seen shelf.new).faults (S.seen input.old).faults (S.seen input.new).faults result }
     ensures misses { MissesFor (needs_file (Some (does (command_view command.entry)))) (H.seen shelf.old).misses (H.seen shelf.new).misses result }
     ensures few { TakesAtMost (limits.now.input + 1) (S.seen input.old).left (S.seen input.new).left }
-    ensures kept { KeepsInput (S.seen input.old).left (S.seen input.new).left result }
-    ensures untouched { IfSome (H.seen shelf.old).files (λ m. IfFileRefused (shape_of (Some (does (command_view command.entry)))) limits.now m (LeavesInput (S.seen input.old).left (S.seen input.new).left (S.seen input.old).faults (S.seen input.new).faults)) }
+    ensures kept { KeepsInput (S.seen input.old) (S.seen input.new) result }
+    ensures untouched { IfSome (H.seen shelf.old).files (λ m. IfFileRefused (shape_of (Some (does (command_view command.entry)))) limits.now m (LeavesInput (S.seen input.old) (S.seen input.new))) }
     ensures front { LoadsFront (shape_of (Some (does (command_view command.entry)))).files (H.seen shelf.old).loads (H.seen shelf.new).loads }
     ensures loads { IfOk result (λ p. CountsLoads (shape_of (Some (does (command_view command.entry)))).files limits.now (H.seen shelf.old).files (H.seen shelf.old).loads (H.seen shelf.new).loads) }
     ensures lost { LostBy (H.seen shelf.old).lost (H.seen shelf.new).lost result }
+    ensures all { LoadsAll (shape_of (Some (does (command_view command.entry)))).files (H.seen shelf.old).loads (H.seen shelf.new).loads result }
+    ensures makes { MakesBy (makes_file (Some (does (command_view command.entry)))) (H.seen shelf.old).misses (H.seen shelf.new).misses result }
+    ensures asked { AsksAtMost (most_asked (Some (does (command_view command.entry))) limits.now) (H.seen shelf.old).asked (H.seen shelf.new).asked }
+    ensures stores { (H.seen shelf.new).stores ≡ (H.seen shelf.old).stores }
+    ensures ends { RisesOnceAtMost (S.seen input.old).ends (S.seen input.new).ends }
+    ensures refused { needs_file (Some (does (command_view command.entry))) ≡ true → ReadsNone (S.seen input.old) (S.seen input.new) result }
     ensures most { CommandTakes (command_view command.entry) limits.now (H.seen shelf.old).files steps.old steps.new }
 {
     match command {
@@ -114,6 +127,10 @@ fn plan_unread<H: Shelf, L: Ledger>(
     ensures front { LoadsFront (shape_of (Some (does (command_view command.entry)))).files (H.seen shelf.old).loads (H.seen shelf.new).loads }
     ensures loads { IfOk result (λ p. CountsLoads (shape_of (Some (does (command_view command.entry)))).files limits.now (H.seen shelf.old).files (H.seen shelf.old).loads (H.seen shelf.new).loads) }
     ensures lost { LostBy (H.seen shelf.old).lost (H.seen shelf.new).lost result }
+    ensures all { LoadsAll (shape_of (Some (does (command_view command.entry)))).files (H.seen shelf.old).loads (H.seen shelf.new).loads result }
+    ensures makes { MakesBy (makes_file (Some (does (command_view command.entry)))) (H.seen shelf.old).misses (H.seen shelf.new).misses result }
+    ensures asked { AsksAtMost (most_asked (Some (does (command_view command.entry))) limits.now) (H.seen shelf.old).asked (H.seen shelf.new).asked }
+    ensures stores { (H.seen shelf.new).stores ≡ (H.seen shelf.old).stores }
     ensures most { CommandTakes (command_view command.entry) limits.now (H.seen shelf.old).files steps.old steps.new }
 {
     match command {

@@ -3,6 +3,8 @@ ghost use Rattle.std.specs.Prelude.{◌≡◌, ◌<◌, map, string_bytes};
 ghost use Rattle.std.specs.Process.{exit_status};
 ghost use Rattle.command_table.specs.Headline.{IsRun};
 ghost use Rattle.command_table.specs.Seen.{seen};
+ghost use Rattle.ew_outside.specs.Bytes.{IsFlushed};
+ghost use Rattle.ew_outside.specs.Counts.{IsQuiet};
 ghost use Rattle.ew_outside.specs.Outputs.{Tells};
 ghost use Rattle.command_table.specs.Text.{out_of_memory};
 
@@ -60,6 +62,7 @@ pub fn run_process<L: Ledger, H: Shelf, S: Source, K: Sink, E: Sink>(
 pub fn end_starved<E: Sink>(err: &mut E) -> ExitCode
     ensures status { exit_status result ≡ 8 }
     ensures text { Tells (E.seen err.old).taken (E.seen err.new).taken (E.seen err.old).faults (E.seen err.new).faults out_of_memory }
+    ensures flushed { IsQuiet (E.seen err.old).faults (E.seen err.new).faults → IsFlushed (E.seen err.new).taken (E.seen err.new).flushed }
 {
     ExitCode::from(tell(Err(Fault::OutOfMemory), err))
 }

@@ -16,8 +16,7 @@ use Rattle.ew_model.specs.Sound.{IsSoundId}
 use Rattle.ew_model.proofs.Decimals.{digits_value_is}
 use Rattle.ew_model.proofs.LineLaws.{Lacks}
 use Rattle.history_words.specs.Versions.{IsVersion}
-use Rattle.event_words.proofs.IdTexts.{name_lacks, id_lacks_comma, id_cut, version_once}
-use Rattle.command_table.specs.PastLaws.{VersionsAreTaken}
+use Rattle.history_words.proofs.IdTexts.{name_lacks, id_lacks_comma, id_cut, version_once}
 use Rattle.command_table.specs.VersionWords.{is_sound_id, is_version, id_within, ids_within, version_in}
 
 -- a list that lacks a byte has it at no place
@@ -101,7 +100,7 @@ taken_if word ids found true is e =
 taken_if word ids found false is e = cc
 
 -- a word that is taken is the version of the ids
-is_taken : (word : List ℕ) (ids : List Id) → version_in word ≡ Some ids → IsVersion word ids
+pub is_taken : (word : List ℕ) (ids : List Id) → version_in word ≡ Some ids → IsVersion word ids
 unfolding version_in
 is_taken word ids e = taken_if word ids (ids_within word) (is_version word (ids_within word)) refl e
 
@@ -112,9 +111,6 @@ takes word ids v =
     let found : ids_within word ≡ ids = ap ids_within (sym v.spelled) ∙ version_again ids v.sound in
     let same : is_version word ids ≡ true = and_from (list_all is_sound_id ids) (bytes_eq (version_text ids) word) (are_sound ids v.sound) ((bytes_eq-Decides (version_text ids) word).1 v.spelled) in
     ap (λ (xs : List Id). if is_version word xs then Some xs else None) found ∙ ap (λ (b : Bool). if b then Some ids else None) same
-
-pub versions_are_taken : VersionsAreTaken
-versions_are_taken word ids = (is_taken word ids, takes word ids)
 
 none_taken : (word : List ℕ) (o : Option (List Id)) → version_in word ≡ o → ((ids : List Id) → ¬ IsVersion word ids) → o ≡ None
 none_taken word None is none = refl

@@ -1,8 +1,8 @@
 -- The command line as `clap` knows it: words without the program's name, of which the first names a subcommand.
-use Rattle.std.specs.Prelude.{true, ℕ, List, Some, codes}
+use Rattle.std.specs.Prelude.{true, ℕ, pos, List, [], ◌∷◌, Some, codes}
 use Rattle.clap.specs.Words.{App, Rule, new_app, new_rule, with_rule, with_subcommand}
 use Rattle.clap.specs.Simple.{on_top}
-use Rattle.clap.specs.declared.builder.value_parser.ValueParser.TheVariants.{Unsigned}
+use Rattle.clap.specs.declared.builder.value_parser.ValueParser.TheVariants.{Signed, Unsigned}
 
 -- a file's name, which has to be there
 abbrev pub file_rule : Rule
@@ -24,6 +24,7 @@ other_rule = record (new_rule (codes "other")) { required = true }
 unfoldable pub merge_app : App
 merge_app = with_rule (with_rule (new_app (codes "merge")) file_rule) other_rule
 
+-- the command of a file and its agent
 unfoldable pub edit_app : App
 edit_app = with_rule (with_rule (new_app (codes "edit")) file_rule) agent_rule
 
@@ -31,23 +32,29 @@ edit_app = with_rule (with_rule (new_app (codes "edit")) file_rule) agent_rule
 abbrev pub at_rule : Rule
 at_rule = record (new_rule (codes "at")) { long = Some (codes "at") }
 
+-- the command of a file and perhaps a version of it
 unfoldable pub cat_app : App
 cat_app = with_rule (with_rule (new_app (codes "cat")) file_rule) at_rule
 
--- the greatest seed, and the most edits that are made
+-- the greatest seed
 abbrev pub most_seed : ℕ
 most_seed = 18446744073709551615
 
+-- the most edits that are made
 abbrev pub most_made : ℕ
 most_made = 1000000
 
--- a number up to another, which has to be given
+-- the seed, a number of 64 bits, which has to be given
+abbrev pub seed_rule : Rule
+seed_rule = record (new_rule (codes "seed")) { long = Some (codes "seed"); parser = Some (Unsigned 0 most_seed); required = true }
+
+-- a number of 32 bits up to another, which has to be given; it is read with its sign
 abbrev pub number_rule : List ℕ → ℕ → Rule
-number_rule name most = record (new_rule name) { long = Some name; parser = Some (Unsigned 0 most); required = true }
+number_rule name most = record (new_rule name) { long = Some name; parser = Some (Signed (pos 0) (pos most)); required = true }
 
 -- the command that makes a history
 unfoldable pub make_app : App
-make_app = with_rule (with_rule (new_app (codes "make")) (number_rule (codes "seed") most_seed)) (number_rule (codes "count") most_made)
+make_app = with_rule (with_rule (new_app (codes "make")) seed_rule) (number_rule (codes "count") most_made)
 
 -- the command of a net, which has no arguments
 abbrev pub net_app : App
@@ -61,10 +68,18 @@ bare_app = on_top (λ s. record s { no_binary_name = true; subcommand_required =
 abbrev pub then_app : App → App → App
 then_app app more = with_subcommand app more.top
 
+-- the commands of one file that have no options
+abbrev pub file_commands : List (List ℕ)
+file_commands = codes "new" ∷ codes "heads" ∷ codes "log" ∷ codes "replay" ∷ codes "check" ∷ codes "ask" ∷ codes "serve" ∷ []
+
+-- with a command of one file more for each name
+abbrev pub with_file_apps : App → List (List ℕ) → App
+with_file_apps app [] = app
+with_file_apps app (name ∷ names) = with_file_apps (then_app app (file_app name)) names
+
+-- the program, with all of its commands
 unfoldable pub egw_app : App
-egw_app =
-    then_app (then_app (then_app (then_app (then_app (then_app (then_app (then_app (then_app (then_app (then_app (then_app bare_app
-    (file_app (codes "new"))) edit_app) cat_app) (file_app (codes "heads"))) (file_app (codes "log"))) (file_app (codes "replay"))) (file_app (codes "check"))) merge_app) (file_app (codes "ask"))) (file_app (codes "serve"))) net_app) make_app
+egw_app = then_app (then_app (then_app (then_app (then_app (with_file_apps bare_app file_commands) edit_app) cat_app) merge_app) net_app) make_app
 
 -- the usage: a line for each command
 abbrev pub usage : List ℕ

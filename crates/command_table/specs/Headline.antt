@@ -1,18 +1,18 @@
 -- What a run of a command line is, seen from its objects before and after. The last definition here is the sentence that the program
 -- is proved against: a run answers what the command table says, leaves no more than is said here after a fault, makes no more loads than
--- its line has files, and takes input only where its line reads it.
+-- its line has files, stores only what its reply stores, and takes input only where its line reads it.
 use Rattle.std.specs.Prelude.{◌≡◌, ◌≤◌, ◌<◌, ◌+◌, ◌⊎◌, ⊤, ℕ, true, false, List, [], length, drop, Option, None, Some}
 use Rattle.std.specs.List.{list_any}
 use Rattle.ew_model.specs.declared.event.Event.{Event}
 use Rattle.ew_model.specs.Limits.{LimitNumbers}
 use Rattle.ew_outside.specs.Bytes.{IsFlushed}
-use Rattle.ew_outside.specs.Counts.{Rose}
+use Rattle.ew_outside.specs.Counts.{AsksAtMost, IsQuiet, Rose, RisesOnceAtMost, next}
 use Rattle.ew_outside.specs.Files.{Files}
 use Rattle.command_table.specs.Framings.{Framing, IsFramingOf}
 use Rattle.command_table.specs.Lines.{Meaning, IsInput, session_of}
 use Rattle.command_table.specs.Outcomes.{IsServed, IsSession, StoresFirst}
 use Rattle.command_table.specs.Possible.{MayComeTo}
-use Rattle.command_table.specs.Reads.{shape_of, reads_input, needs_file, CountsLoads, LoadsFront, TakesAtMost, LeavesInput, IfFileRefused}
+use Rattle.command_table.specs.Reads.{shape_of, reads_input, needs_file, may_store, makes_file, most_asked, loads_of_all, CountsLoads, LoadsFront, TakesAtMost, LeavesInput, IfFileRefused}
 use Rattle.command_table.specs.Seen.{Seen, Object, shelf, source, sink, faults_of, failed_text, TellsErr}
 use Rattle.command_table.specs.Sessions.{Session, is_bye, RepliesTo, IsPrompt}
 use Rattle.command_table.specs.Table.{Text, Line, does, serves, line_of, opened, open_file}
@@ -43,19 +43,21 @@ pub record Answers (line : Option Line) (limits : LimitNumbers) (old new : Seen)
   pub only_usage : line ≡ None → (status ≡ 2) ⊎ (status ≡ 8)
   -- at status 0 all that was taken is flushed
   pub flushed : status ≡ 0 → IsFlushed new.out.taken new.out.flushed
-  -- and the error output is left alone at status 0
+  -- and at every other status the message is, where the error output didn't fail
+  pub told : (status ≡ 0 → ⊥) → IsQuiet old.err.faults new.err.faults → IsFlushed new.err.taken new.err.flushed
+  -- the error output is left alone at status 0
   pub silent : status ≡ 0 → (new.err.taken ≡ old.err.taken) × (new.err.faults ≡ old.err.faults)
 
--- nothing was stored; and nothing printed, unless the line serves a peer
+-- nothing was stored, whatever is known of the shelf; and nothing printed, unless the line serves a peer
 abbrev pub StoresNothing : Option Line → Seen → Seen → Type 0
-StoresNothing line old new = (new.shelf.files ≡ old.shelf.files) × UnlessServes line (new.out.taken ≡ old.out.taken)
+StoresNothing line old new = (new.shelf.files ≡ old.shelf.files) × (new.shelf.stores ≡ old.shelf.stores) × UnlessServes line (new.out.taken ≡ old.out.taken)
 
 -- How far a run came that met a fault of an object. A failed load leaves files, output and input as they were. A failed read stores
--- nothing, and prints nothing unless in a session. A failed store prints nothing; of a session `FailsToStore` says it.
+-- nothing, and prints nothing unless in a session. A failed store is the only one, and prints nothing; of a session `FailsToStore` says it.
 abbrev pub FaultLeaves : Option Line → Object → Seen → Seen → Type 0
 FaultLeaves line shelf old new =
-    (Rose old.shelf.lost new.shelf.lost × (new.shelf.files ≡ old.shelf.files) × (new.out.taken ≡ old.out.taken) × LeavesInput old.input.left new.input.left old.input.faults new.input.faults)
-    ⊎ ((new.shelf.lost ≡ old.shelf.lost) × UnlessServes line (new.out.taken ≡ old.out.taken))
+    (Rose old.shelf.lost new.shelf.lost × (new.shelf.files ≡ old.shelf.files) × (new.shelf.stores ≡ old.shelf.stores) × (new.out.taken ≡ old.out.taken) × LeavesInput old.input new.input)
+    ⊎ ((new.shelf.lost ≡ old.shelf.lost) × (new.shelf.stores ≡ next old.shelf.stores) × UnlessServes line (new.out.taken ≡ old.out.taken))
 FaultLeaves line source old new = (new.shelf.lost ≡ old.shelf.lost) × StoresNothing line old new
 FaultLeaves line sink old new = new.shelf.lost ≡ old.shelf.lost
 
@@ -78,6 +80,8 @@ pub record Leaves (line : Option Line) (old new : Seen) (status : ℕ) : Type 0 
   pub memory : status ≡ 8 → StoresNothing line old new × TellsErr old new out_of_memory
   -- at a status other than 0 and 6 nothing is stored, nor printed unless by a session
   pub nothing : (status ≡ 0 → ⊥) → (status ≡ 6 → ⊥) → StoresNothing line old new
+  -- and a line that only reads never stores
+  pub kept : may_store line ≡ false → new.shelf.stores ≡ old.shelf.stores
 
 -- nothing but the end of the input ends the reading of it
 abbrev pub ReadsToEnd : Option Line → LimitNumbers → List ℕ → Type 0
@@ -95,9 +99,8 @@ pub record Hears (file : Text) (limits : LimitNumbers) (old new : Seen) (status 
       → old.input.left ≡ Some input → IsPrompt limits events input new.input.left old.out.taken new.out.taken
   -- no byte after the limit is taken at status 0 or 5
   pub within : (status ≡ 0) ⊎ (status ≡ 5) → TakesAtMost limits.input old.input.left new.input.left
-  -- none is taken where the file is missing or bad, whatever is known of the shelf
-  pub refused : (status ≡ 3) ⊎ (status ≡ 4) → LeavesInput old.input.left new.input.left old.input.faults new.input.faults
 
+-- of a line that serves a peer: what is read of the peer
 abbrev pub IfServes : Option Line → LimitNumbers → Seen → Seen → ℕ → Type 0
 IfServes (Some (serves file)) limits old new status = Hears file limits old new status
 IfServes line limits old new status = ⊤
@@ -107,17 +110,26 @@ pub record Reads (line : Option Line) (limits : LimitNumbers) (old new : Seen) (
   -- status 3 comes of a load that found nothing, where the line needs its files
   pub missing : needs_file line ≡ true → status ≡ 3 → Rose old.shelf.misses new.shelf.misses
   pub found : needs_file line ≡ true → (status ≡ 3 → ⊥) → (status ≡ 6 → ⊥) → (status ≡ 8 → ⊥) → new.shelf.misses ≡ old.shelf.misses
+  -- where a line is to make its file, status 3 says that the load found one, and status 0 that it found none
+  pub there : makes_file line ≡ true → status ≡ 3 → new.shelf.misses ≡ old.shelf.misses
+  pub absent : makes_file line ≡ true → status ≡ 0 → Rose old.shelf.misses new.shelf.misses
   -- never more loads than the line has files, and as many as it has up to the first that is refused
   pub front : LoadsFront (shape_of line).files old.shelf.loads new.shelf.loads
   pub loads : (status ≡ 6 → ⊥) → (status ≡ 8 → ⊥) → CountsLoads (shape_of line).files limits old.shelf.files old.shelf.loads new.shelf.loads
+  -- at status 0, and where something failed that is no load, all loads were made
+  pub loaded : (status ≡ 0) ⊎ ((status ≡ 6) × IsQuiet old.shelf.lost new.shelf.lost) → new.shelf.loads ≡ loads_of_all (shape_of line).files old.shelf.loads
+  -- and no load asks for more bytes than a file may have, nor for any of a file that is to be made
+  pub asked : AsksAtMost (most_asked line limits) old.shelf.asked new.shelf.asked
   -- at status 0 the input is read to its end, if nothing else ends the reading; a line that doesn't read it leaves it
   pub read : status ≡ 0 → (input : List ℕ) → old.input.left ≡ Some input → ReadsToEnd line limits input → new.input.left ≡ Some []
-  pub unread : reads_input line ≡ false → LeavesInput old.input.left new.input.left old.input.faults new.input.faults
+  pub unread : reads_input line ≡ false → LeavesInput old.input new.input
+  -- and an end is believed: the input isn't read again after it
+  pub ends : RisesOnceAtMost old.input.ends new.input.ends
   -- no more than one byte after the limit is taken
   pub few : TakesAtMost (limits.input + 1) old.input.left new.input.left
-  -- and none where the file is refused
-  pub untouched : (files : Files) → old.shelf.files ≡ Some files
-      → IfFileRefused (shape_of line) limits files (LeavesInput old.input.left new.input.left old.input.faults new.input.faults)
+  -- and none where the file is refused; whatever is known of the shelf, none where it is missing or bad
+  pub untouched : (files : Files) → old.shelf.files ≡ Some files → IfFileRefused (shape_of line) limits files (LeavesInput old.input new.input)
+  pub refused : needs_file line ≡ true → (status ≡ 3) ⊎ (status ≡ 4) → LeavesInput old.input new.input
   pub hears : IfServes line limits old new status
 
 -- A run of a line, which may not be taken.

@@ -4,15 +4,12 @@ pub mod Framings
 pub mod Headline
 pub mod Lines
 pub mod Loads
-pub mod MergeLaws
 pub mod Outcomes
-pub mod PastLaws
 pub mod Possible
 pub mod Reads
 pub mod Refusals
 pub mod Scripts
 pub mod Seen
-pub mod Sequences
 pub mod Sessions
 pub mod Table
 pub mod Text

@@ -9,7 +9,7 @@ use Rattle.command_table.specs.Sessions.{Session, closed_by, served, session_ans
 use Rattle.command_table.specs.Reads.{reads_input}
 use Rattle.command_table.specs.Table.{Text, Line, does, serves, Answer, refuses, reply_to, line_of, ReadingOf, MeansTo}
 
--- frames to a session, and a script, perhaps a bad one, to every other line: to a net a net script
+-- Frames to a session, a net script to a net, and an edit script to every other line, though `edit` alone reads it. A script may be bad.
 abbrev pub Meaning : Option Line → Type 0
 Meaning None = Reading
 Meaning (Some (does command)) = ReadingOf command

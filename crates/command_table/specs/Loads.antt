@@ -7,6 +7,7 @@ pub data File : Type 0 where
   too_long : File
   whole : (bytes : List ℕ) → File
 
+-- what is loaded where a shelf has these bytes for a name, or none, and a file may have so many
 abbrev pub whole_of : ℕ → Option (List ℕ) → File
 whole_of most None = missing
 whole_of most (Some bytes) = if nat_lt most (length bytes) then too_long else whole bytes

@@ -2,7 +2,7 @@
 use Rattle.std.specs.Prelude.{◌≡◌, ◌<◌, ◌+◌, ◌⊎◌, ℕ, List, [], ◌++◌, length, Some}
 use Rattle.std.specs.Io.KnownBytes.{Appends}
 use Rattle.ew_outside.specs.Bytes.{IsFlushed}
-use Rattle.ew_outside.specs.Counts.{IsQuiet}
+use Rattle.ew_outside.specs.Counts.{IsQuiet, next}
 use Rattle.ew_outside.specs.Files.{Files}
 use Rattle.ew_outside.specs.Outputs.{GrowsByFront, Sends}
 use Rattle.command_table.specs.Refusals.{refusal_status, refusal_text}
@@ -31,13 +31,22 @@ pub record FailsToStore (s : Session) (old new : Seen) : Type 0 where
   pub closing : s.closing ≡ stores out name bytes
   pub sends : Sends old.out.taken new.out.taken new.out.flushed s.sent
 
--- the output and the status of a session, whatever the shelf tells
+-- the count of stores after one of what a reply stores
+abbrev pub stored_by : Reply → ℕ → ℕ
+stored_by (prints out) count = count
+stored_by (stores out name bytes) count = next count
+stored_by (refuses why) count = count
+
+-- the output, the status and the stores of a session, whatever the shelf tells
 pub record IsSession (s : Session) (old new : Seen) (status : ℕ) : Type 0 where
   pub answered : (status ≡ 6 → ⊥) → (status ≡ 8 → ⊥) → IsClosed s.sent s.closing old new status
   pub flushed : (status ≡ 6 → ⊥) → (status ≡ 8 → ⊥) → (s.sent ≡ []) ⊎ IsFlushed new.out.taken new.out.flushed
   pub failed : status ≡ 6 → GrowsByFront old.out.taken new.out.taken (s.sent ++ printed_by s.closing)
   pub store_failed : old.shelf.faults < new.shelf.faults → IsQuiet old.shelf.lost new.shelf.lost → FailsToStore s old new
   pub memory : status ≡ 8 → GrowsByFront old.out.taken new.out.taken s.sent
+  -- one store is made where the reply stores, and else none; where something failed, it may be that none was
+  pub stores : status ≡ 0 → new.shelf.stores ≡ stored_by s.closing old.shelf.stores
+  pub stores_failed : status ≡ 6 → (new.shelf.stores ≡ old.shelf.stores) ⊎ (new.shelf.stores ≡ stored_by s.closing old.shelf.stores)
 
 -- a session over files that are known
 pub record IsServed (s : Session) (files : Files) (old new : Seen) (status : ℕ) : Type 0 where

@@ -1,11 +1,12 @@
--- What a line reads: its files in the order of their loads, and how much of the input.
-use Rattle.std.specs.Prelude.{◌≡◌, ◌≤◌, ⊤, ℕ, Bool, true, false, List, [], ◌∷◌, take, drop, Option, None, Some}
-use Rattle.ew_model.specs.Limits.{LimitNumbers}
+-- What a line reads and may store: its files in the order of their loads, how much of them is asked for, and how much of the input is taken.
+use Rattle.std.specs.Prelude.{◌≡◌, ◌≤◌, ⊤, ℕ, Bool, true, false, List, [], ◌∷◌, take, drop, not, ◌&&◌, Option, None, Some, if◌then◌else◌}
+use Rattle.ew_model.specs.Limits.{LimitNumbers, most_file_bytes}
 use Rattle.ew_outside.specs.Files.{Files}
 use Rattle.ew_outside.specs.Counts.{next}
+use Rattle.ew_outside.specs.Seen.{SourceSeen}
 use Rattle.command_table.specs.Table.{Text, Line, does, serves, create, edit, show, merge, make, net, Opened, opened, refused, open_file}
 
--- what a line reads
+-- what a line reads, and whether it may store
 pub record Shape : Type 0 where
   -- the files that it names, in the order of their loads
   pub files : List Text
@@ -13,23 +14,38 @@ pub record Shape : Type 0 where
   pub needs : Bool
   -- the input is read
   pub input : Bool
+  -- the first of these files may be stored
+  pub stores : Bool
 
 -- the shape of a line, which may not be taken
 abbrev pub shape_of : Option Line → Shape
-shape_of (Some (does (create file))) = record { files = file ∷ []; needs = false; input = false }
-shape_of (Some (does (edit file agent))) = record { files = file ∷ []; needs = true; input = true }
-shape_of (Some (does (show listing file))) = record { files = file ∷ []; needs = true; input = false }
-shape_of (Some (does (merge file other))) = record { files = file ∷ other ∷ []; needs = true; input = false }
-shape_of (Some (does (make seed count))) = record { files = []; needs = false; input = false }
-shape_of (Some (does net)) = record { files = []; needs = false; input = true }
-shape_of (Some (serves file)) = record { files = file ∷ []; needs = true; input = true }
-shape_of None = record { files = []; needs = false; input = false }
+shape_of (Some (does (create file))) = record { files = file ∷ []; needs = false; input = false; stores = true }
+shape_of (Some (does (edit file agent))) = record { files = file ∷ []; needs = true; input = true; stores = true }
+shape_of (Some (does (show listing file))) = record { files = file ∷ []; needs = true; input = false; stores = false }
+shape_of (Some (does (merge file other))) = record { files = file ∷ other ∷ []; needs = true; input = false; stores = true }
+shape_of (Some (does (make seed count))) = record { files = []; needs = false; input = false; stores = false }
+shape_of (Some (does net)) = record { files = []; needs = false; input = true; stores = false }
+shape_of (Some (serves file)) = record { files = file ∷ []; needs = true; input = true; stores = true }
+shape_of None = record { files = []; needs = false; input = false; stores = false }
 
+-- the line reads the input
 abbrev pub reads_input : Option Line → Bool
 reads_input l = (shape_of l).input
 
+-- the line has files that have to be there
 abbrev pub needs_file : Option Line → Bool
 needs_file l = (shape_of l).needs
+
+abbrev pub may_store : Option Line → Bool
+may_store l = (shape_of l).stores
+
+-- the line is to make its file, which isn't there
+abbrev pub makes_file : Option Line → Bool
+makes_file l = may_store l && not (needs_file l)
+
+-- the most bytes that a load may ask for: those of the greatest file where the line needs its files; and none of a file that is to be made
+abbrev pub most_asked : Option Line → LimitNumbers → ℕ
+most_asked l limits = if needs_file l then most_file_bytes limits.events else 0
 
 -- a count where a file is open, and another where it is refused
 abbrev pub if_open : Opened → ℕ → ℕ → ℕ
@@ -65,9 +81,9 @@ abbrev pub TakesAtMost : ℕ → Option (List ℕ) → Option (List ℕ) → Typ
 TakesAtMost most (Some input) new = (n : ℕ) × (n ≤ most) × (new ≡ Some (drop n input))
 TakesAtMost most None new = ⊤
 
--- the input is as before, and so is the count of its faults
-abbrev pub LeavesInput : Option (List ℕ) → Option (List ℕ) → ℕ → ℕ → Type 0
-LeavesInput old new before now = (new ≡ old) × (now ≡ before)
+-- the input is as before, and so are its counts
+abbrev pub LeavesInput : SourceSeen → SourceSeen → Type 0
+LeavesInput old new = new ≡ old
 
 -- it holds where a file is refused
 abbrev pub IfRefused : Opened → Type 0 → Type 0

@@ -13,10 +13,10 @@ use Rattle.command_table.specs.Cli.{usage}
 pub data Refusal : Type 0 where
   -- the words aren't taken
   not_taken : Refusal
-  -- a file isn't there, and for a new one, that it is
+  -- a file that has to be there isn't, and a file that is to be made is there already
   no_file : (name : List ℕ) → Refusal
   file_there : (name : List ℕ) → Refusal
-  -- what is wrong with a file as a whole
+  -- what is wrong with a file as a whole: it is shorter than its fixed part, it isn't an event file, its version isn't known, or its digest isn't that of its bytes
   short_file : (name : List ℕ) (len : ℕ) → Refusal
   no_event_file : (name : List ℕ) → Refusal
   unknown_version : (name : List ℕ) (version : ℕ) → Refusal

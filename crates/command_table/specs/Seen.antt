@@ -11,6 +11,7 @@ pub record Seen : Type 0 where
   pub out : SinkSeen
   pub err : SinkSeen
 
+-- the four, put together
 abbrev pub seen : ShelfSeen → SourceSeen → SinkSeen → SinkSeen → Seen
 seen shelf input out err = record { shelf = shelf; input = input; out = out; err = err }
 
@@ -20,11 +21,13 @@ pub data Object : Type 0 where
   source : Object
   sink : Object
 
+-- how many faults an object had
 abbrev pub faults_of : Object → Seen → ℕ
 faults_of shelf s = s.shelf.faults
 faults_of source s = s.input.faults
 faults_of sink s = s.out.faults
 
+-- what is told where an object failed
 abbrev pub failed_text : Object → List ℕ
 failed_text shelf = shelf_failed
 failed_text source = source_failed

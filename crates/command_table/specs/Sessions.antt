@@ -6,20 +6,20 @@ use Rattle.ew_model.specs.File.{file_of}
 use Rattle.ew_model.specs.Kept.{ReplicaState}
 use Rattle.ew_model.specs.Limits.{LimitNumbers}
 use Rattle.ew_outside.specs.Files.{Files}
-use Rattle.peer_frames.specs.declared.frame.Frame.{Frame}
-use Rattle.peer_frames.specs.declared.frame.Frame.TheVariants as frame
-use Rattle.peer_frames.specs.Cutting.{Front, AreFrames}
-use Rattle.peer_frames.specs.Cutting.Front.{Whole, Partial, BadKind, TooLong, BadBody}
-use Rattle.peer_frames.specs.Spelling.{frame_bytes}
-use Rattle.peer_exchange.specs.Answering.{Answered, answer_to}
-use Rattle.peer_exchange.specs.declared.reply.End.{End}
-use Rattle.peer_exchange.specs.declared.reply.End.TheVariants as end
+use Rattle.peer_words.specs.declared.frame.Frame.{Frame}
+use Rattle.peer_words.specs.declared.frame.Frame.TheVariants as frame
+use Rattle.peer_words.specs.Cutting.{Front, AreFrames}
+use Rattle.peer_words.specs.Cutting.Front.{Whole, Partial, BadKind, TooLong, BadBody}
+use Rattle.peer_words.specs.Spelling.{frame_bytes}
+use Rattle.peer_words.specs.Answering.{Answered, answer_to}
+use Rattle.peer_words.specs.declared.end.End.{End}
+use Rattle.peer_words.specs.declared.end.End.TheVariants as end
 use Rattle.command_table.specs.Framings.{Framing}
 use Rattle.ew_outside.specs.Outputs.{Sends}
 use Rattle.command_table.specs.Refusals.{clash, input_too_long, frame_cut, bad_kind, frame_too_long, bad_body}
 use Rattle.command_table.specs.Table.{Text, Reply, prints, stores, refuses, Opened, opened, refused, open_file, Answer, answer_of}
 
--- the spellings of frames, one behind the other
+-- the spellings of frames, one after the other
 abbrev pub bytes_of : List Frame → List ℕ
 bytes_of frames = flat_map frame_bytes frames
 
@@ -115,12 +115,12 @@ is_bye f = false
 pub record IsReplied (t : Exchange) (stop : Front) (out out' : Option (List ℕ)) (flushed : Option ℕ) : Type 0 where
   -- none of the frames ends the session
   pub unended : t.end ≡ None
-  -- and what stands behind them is no more than the front of a frame
+  -- and what comes after them is no more than the front of a frame
   pub partial : stop ≡ Partial
   -- the replies were taken, and flushed if there are any
   pub sends : Sends out out' flushed t.sent
 
--- exactly the frames that end within the first n bytes of the input were answered, and the session goes on behind them
+-- exactly the frames that end within the first n bytes of the input were answered, and the session goes on after them
 abbrev pub RepliesTo : LimitNumbers → List Event → List ℕ → ℕ → Option (List ℕ) → Option (List ℕ) → Option ℕ → Type 0
 RepliesTo limits events input n out out' flushed =
     (frames : List Frame) (stop : Front) → AreFrames limits (take n input) frames stop → IsReplied (exchanged (opened_state limits events) frames) stop out out' flushed
@@ -129,7 +129,7 @@ RepliesTo limits events input n out out' flushed =
 abbrev pub GoesOn : Exchange → Front → Option (List ℕ) → Option (List ℕ) → Type 0
 GoesOn t stop out out' = (t.end ≡ None) × (stop ≡ Partial) × ((more : List ℕ) × Appends out out' (t.sent ++ more))
 
--- No more than a piece of 4,096 bytes was read behind bytes that ended no session and whose frames were answered.
+-- No more than a piece of 4,096 bytes was read after bytes that ended no session and whose frames were answered.
 pub record IsPrompt (limits : LimitNumbers) (events : List Event) (input : List ℕ) (left out out' : Option (List ℕ)) : Type 0 where
   pub taken : ℕ
   pub answered : ℕ

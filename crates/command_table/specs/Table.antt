@@ -1,11 +1,11 @@
 -- The command table: what a command line answers over a map of files and an input.
-use Rattle.std.specs.Prelude.{ℕ, ◌-◌, Bool, true, false, List, [], ◌∷◌, length, find, Option, None, Some, option_and_then, if◌then◌else◌, nat_lt, codes, encode_utf8_all}
+use Rattle.std.specs.Prelude.{ℕ, pos, ◌-◌, Bool, true, false, List, [], ◌∷◌, length, find, Option, None, Some, option_and_then, if◌then◌else◌, nat_lt, codes, encode_utf8_all}
 use Rattle.std.specs.List.{list_any}
 use Rattle.std.specs.Option.{option_map}
 use Rattle.std.specs.Str.{bytes_eq}
-use Rattle.std.specs.Str.Parse.{digits_value, without_leading_plus}
+use Rattle.std.specs.Str.Parse.{digits_value, without_leading_plus, without_leading_sign}
 use Rattle.std.specs.FinMap.{get, insert}
-use Rattle.clap.specs.ValueTests.{is_unsigned_in}
+use Rattle.clap.specs.ValueTests.{is_signed_in, is_unsigned_in}
 use Rattle.clap.specs.Words.{Row, Kinds, first_of, fault_of, subcommand_of}
 use Rattle.ew_model.specs.declared.id.Id.{Id}
 use Rattle.ew_model.specs.declared.event.Event.{Event}
@@ -23,10 +23,10 @@ use Rattle.ew_model.specs.File.{file_of}
 use Rattle.ew_model.specs.FileFaults.{FileFinding, file_finding}
 use Rattle.ew_model.specs.FileFaults.FileFinding.{IsFile, Short, BadMagic, BadVersion, BadDigest, BadRecord, TooMany}
 use Rattle.ew_outside.specs.Files.{Files}
-use Rattle.event_graph.specs.Summary.{summary_of}
-use Rattle.peer_frames.specs.declared.frame.Frame.TheVariants.{Have}
-use Rattle.peer_frames.specs.Spelling.{frame_bytes}
-use Rattle.peer_exchange.specs.Answering.{is_clash}
+use Rattle.history_words.specs.Summary.{summary_of}
+use Rattle.peer_words.specs.declared.frame.Frame.TheVariants.{Have}
+use Rattle.peer_words.specs.Spelling.{frame_bytes}
+use Rattle.peer_words.specs.Answering.{is_clash}
 use Rattle.history_words.specs.Listings.{check_text, heads_text, log_text}
 use Rattle.history_words.specs.Replays.{replay_text}
 use Rattle.history_words.specs.Tallies.{accepted_in, repeats_in, refused_in}
@@ -44,6 +44,7 @@ use Rattle.command_table.specs.Scripts.{Reading, Means, script, bad_line, NetRea
 use Rattle.command_table.specs.Text.{made_text, received_text}
 use Rattle.command_table.specs.Refusals.{Refusal, refusal_status, refusal_text, not_taken, no_file, file_there, short_file, no_event_file, unknown_version, bad_digest, bad_field, bad_event, unreadable, line_out_of_range, out_of_range, no_peer, peer_there, no_packet, unknown, clash, file_too_long, file_too_many, input_too_long, too_many_events, too_many_heads}
 
+-- a word of a command line, in bytes
 abbrev pub Text : Type 0
 Text = List ℕ
 
@@ -71,6 +72,7 @@ pub data Line : Type 0 where
   does : (command : Command) → Line
   serves : (file : Text) → Line
 
+-- a command that has a file and nothing else
 abbrev pub file_line : (Text → Command) → List Row → Option Command
 file_line command rows = option_map command (first_of (codes "file") rows)
 
@@ -86,23 +88,30 @@ abbrev pub content_at : Option Text → Option Listing
 content_at None = Some content
 content_at (Some word) = option_map past (version_in word)
 
+-- the file, and what is shown of it
 abbrev pub cat_line : List Row → Option Command
 cat_line rows =
     option_and_then (λ file. option_map (λ listing. show listing file) (content_at (first_of (codes "at") rows))) (first_of (codes "file") rows)
 
+-- the file, and the one that it takes in
 abbrev pub merge_line : List Row → Option Command
 merge_line rows =
     option_and_then (λ file. option_map (merge file) (first_of (codes "other") rows)) (first_of (codes "file") rows)
 
--- the number up to another that a word spells
-abbrev pub number_up_to : ℕ → Text → Option ℕ
-number_up_to most word = if is_unsigned_in 0 most word then Some (digits_value 10 (without_leading_plus word)) else None
+-- the seed that a word spells
+abbrev pub seed_in : Text → Option ℕ
+seed_in word = if is_unsigned_in 0 most_seed word then Some (digits_value 10 (without_leading_plus word)) else None
 
+-- the number up to another that a word spells; a minus sign may stand before zeros
+abbrev pub number_up_to : ℕ → Text → Option ℕ
+number_up_to most word = if is_signed_in (pos 0) (pos most) word then Some (digits_value 10 (without_leading_sign word)) else None
+
+-- the seed and the count, both numbers within their bounds
 abbrev pub make_line : List Row → Option Command
 make_line rows =
     option_and_then
     (λ seed. option_map (make seed) (option_and_then (number_up_to most_made) (first_of (codes "count") rows)))
-    (option_and_then (number_up_to most_seed) (first_of (codes "seed") rows))
+    (option_and_then seed_in (first_of (codes "seed") rows))
 
 -- the command of a subcommand and its values
 abbrev pub command_in : Text → List Row → Option Command
@@ -166,6 +175,7 @@ opened_as name limits missing = refused (no_file name)
 opened_as name limits too_long = refused (file_too_long name (most_file_bytes limits.events))
 opened_as name limits (whole bytes) = read_as name limits (file_finding limits.events bytes)
 
+-- the file of a name, opened
 abbrev pub open_file : Text → LimitNumbers → Files → Opened
 open_file name limits files = opened_as name limits (whole_of (most_file_bytes limits.events) (get files name))
 
@@ -194,9 +204,11 @@ abbrev pub unless_unknown : Option Id → Reply → Reply
 unless_unknown None reply = reply
 unless_unknown (Some id) reply = refuses (unknown id)
 
+-- a listing is printed, unless it is of a version with an id that isn't held
 abbrev pub show_reply : Listing → List Event → Reply
 show_reply listing events = unless_unknown (unknown_in listing events) (prints (listing_text listing events))
 
+-- an empty history is stored, unless the file is there
 abbrev pub create_reply : Text → File → Reply
 create_reply name missing = stores [] name (file_of [])
 create_reply name found = refuses (file_there name)
@@ -253,6 +265,7 @@ abbrev pub outcome_text : ℕ → Outcome → List ℕ
 outcome_text before o =
     received_text (accepted_in o.answers) (length o.desk.waiting) (repeats_in o.answers) (length (refused_in o.answers)) (latest_cut o.desk.held before)
 
+-- what receiving came to, with so many events held before, is stored and told, or refused
 abbrev pub outcome_reply : Text → LimitNumbers → ℕ → Outcome → Reply
 outcome_reply name limits before o =
     unless_refused limits (refused_in o.answers) (received_reply name o.desk.held (accepted_in o.answers) (outcome_text before o))
@@ -297,7 +310,7 @@ net_script_reply limits (net_script steps) = net_run_reply limits (net_run (empt
 abbrev pub net_reply : LimitNumbers → List ℕ → NetReading → Reply
 net_reply limits input reading = if nat_lt limits.input (length input) then refuses (input_too_long limits.input) else net_script_reply limits reading
 
--- what an input is read as: a net script by a net, and an edit script by every other command
+-- what an input is read as: a net script by a net; as an edit script for every other command, of which `edit` alone reads it
 abbrev pub ReadingOf : Command → Type 0
 ReadingOf net = NetReading
 ReadingOf command = Reading
@@ -320,7 +333,7 @@ reply_to (merge name other) limits files input reading = over_both (merge_reply 
 reply_to (make seed count) limits files input reading = make_reply limits (made limits seed count)
 reply_to net limits files input reading = net_reply limits input reading
 
--- what a run answers: its status, what it prints, what it says on the error output, and the files after it
+-- what a run answers: its status, what it prints, what it writes on the error output, and the files after it
 pub record Answer : Type 0 where
   pub status : ℕ
   pub out : List ℕ

@@ -47,15 +47,18 @@ received_text accepted waiting repeats refused cut =
     codes "accepted "
     ++ (decimal accepted ++ (codes " waiting " ++ (decimal waiting ++ (codes " repeats " ++ (decimal repeats ++ (codes " refused " ++ (decimal refused ++ (codes " cut " ++ (decimal cut ++ codes "\n")))))))))
 
--- a fault of the shelf, the source or a sink, and that memory ran out
+-- told where the shelf failed
 abbrev pub shelf_failed : List ℕ
 shelf_failed = codes "egw: shelf failed\n"
 
+-- told where the source failed
 abbrev pub source_failed : List ℕ
 source_failed = codes "egw: source failed\n"
 
+-- told where the output failed
 abbrev pub sink_failed : List ℕ
 sink_failed = codes "egw: sink failed\n"
 
+-- told where memory ran out
 abbrev pub out_of_memory : List ℕ
 out_of_memory = codes "egw: out of memory\n"

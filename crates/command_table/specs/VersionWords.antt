@@ -15,7 +15,7 @@ is_sound_id x = is_name x.agent && nat_lt x.seq (2 ^ 32)
 abbrev pub is_version : List ℕ → List Id → Bool
 is_version bytes ids = list_all is_sound_id ids && bytes_eq (version_text ids) bytes
 
--- the one id that bytes may be: a name in front of the first colon, and a number behind it
+-- the one id that bytes may be: a name before the first colon, and a number after it
 abbrev pub id_within : List ℕ → Id
 id_within bytes = record { agent = before_first (λ b. b == 58) bytes; seq = digits_value 10 (after_first (λ b. b == 58) bytes) }
 

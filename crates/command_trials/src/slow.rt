@@ -20,7 +20,7 @@ impl Slow {
 }
 
 impl Source for Slow {
-    ghost seen = { λ s. record { left = Some s.source.left; faults = s.source.calls.faults } };
+    ghost seen = { λ s. record { left = Some s.source.left; faults = s.source.calls.faults; ends = s.source.ends } };
 
     fn read(&mut self, buf: &mut [u8]) -> Result<usize, Failed> {
         let count = buf.len().min(self.piece.max(1));

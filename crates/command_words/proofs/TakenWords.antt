@@ -132,6 +132,14 @@ too_many_to_make : line_of (codes "make" ∷ codes "--seed=7" ∷ codes "--count
 unfolding line_of egw_app edit_app cat_app merge_app make_app clap_on_literals digits
 too_many_to_make = refl
 
+a_making_of_nothing : line_of (codes "make" ∷ codes "--seed=7" ∷ codes "--count=-0" ∷ []) ≡ Some (does (make 7 0))
+unfolding line_of egw_app edit_app cat_app merge_app make_app clap_on_literals digits
+a_making_of_nothing = refl
+
+a_seed_with_a_minus : line_of (codes "make" ∷ codes "--seed=-0" ∷ codes "--count=0" ∷ []) ≡ None
+unfolding line_of egw_app edit_app cat_app merge_app make_app clap_on_literals digits
+a_seed_with_a_minus = refl
+
 a_making_of_a_file : line_of (codes "make" ∷ codes "F" ∷ codes "--seed=7" ∷ codes "--count=1" ∷ []) ≡ None
 unfolding line_of egw_app edit_app cat_app merge_app make_app clap_on_literals
 a_making_of_a_file = refl

@@ -1,3 +1,2 @@
 -- What the words of a command line were read as.
-pub mod Apps
 pub mod Words

@@ -2,8 +2,7 @@
 ghost use Rattle.std.specs.Prelude.{◌≡◌, false, IfOk};
 ghost use Rattle.clap.specs.Words.{app_of, rule_of};
 ghost use Rattle.clap.specs.declared.builder.command.Command.TheViews.{out-Command};
-ghost use Rattle.command_table.specs.Cli.{bare_app, cat_app, edit_app, egw_app, file_app, make_app, merge_app, net_app, number_rule, then_app};
-ghost use Rattle.command_words.specs.Apps.{with_shows_app};
+ghost use Rattle.command_table.specs.Cli.{bare_app, cat_app, edit_app, egw_app, file_app, file_commands, make_app, merge_app, net_app, number_rule, seed_rule, then_app, with_file_apps};
 
 use clap::builder::ValueParser;
 use clap::{Arg, Command};
@@ -47,20 +46,28 @@ fn merge_command<'a>(alloc: Global) -> Result<Command<'a>, AllocError>
     Command::new(alloc, "merge").arg(file)?.arg(other)
 }
 
-/// The greatest seed of a history that is made.
-pub const MOST_SEED: u64 = u64::MAX;
-
 /// The greatest number of edits that are made.
-pub const MOST_MADE: u64 = 1_000_000;
+pub const MOST_MADE: u32 = 1_000_000;
 
-/// A number up to another that has to be given.
-fn number_arg<'a>(alloc: Global, name: &'static str, most: u64) -> Arg<'a>
+/// The seed, which has to be given.
+fn seed_arg<'a>(alloc: Global) -> Arg<'a>
+    ensures rule { rule_of result ≡ seed_rule }
+    ensures local { result.global ≡ false }
+{
+    Arg::new(alloc, "seed")
+        .long("seed")
+        .value_parser(ValueParser::unsigned(0, u64::MAX))
+        .required(true)
+}
+
+/// A number up to another, which has to be given.
+fn number_arg<'a>(alloc: Global, name: &'static str, most: u32) -> Arg<'a>
     ensures rule { rule_of result ≡ number_rule name.now most }
     ensures local { result.global ≡ false }
 {
     Arg::new(alloc, name)
         .long(name)
-        .value_parser(ValueParser::unsigned(0, most))
+        .value_parser(ValueParser::signed(0, i64::from(most)))
         .required(true)
 }
 
@@ -69,7 +76,7 @@ fn make_command<'a>(alloc: Global) -> Result<Command<'a>, AllocError>
     ensures app { IfOk result (λ c. app_of c ≡ make_app) }
     ensures local { IfOk result (λ c. (out-Command c).has_globals ≡ false) }
 {
-    let seed = number_arg(alloc, "seed", MOST_SEED);
+    let seed = seed_arg(alloc);
     let count = number_arg(alloc, "count", MOST_MADE);
     Command::new(alloc, "make").arg(seed)?.arg(count)
 }
@@ -95,22 +102,29 @@ fn with_file_command<'a>(
     command.subcommand(file)
 }
 
+/// The commands of one file that have no options.
+const FILE_COMMANDS: [&str; 7] = ["new", "heads", "log", "replay", "check", "ask", "serve"];
+
+/// Adds the commands of one file that have no options.
+fn with_file_commands<'a>(
+    alloc: Global,
+    command: Command<'a>,
+) -> Result<Command<'a>, AllocError>
+    ensures { IfOk result (λ c. app_of c ≡ with_file_apps (app_of command.entry) file_commands) }
+{
+    let mut command = command;
+    for name in FILE_COMMANDS {
+        command = with_file_command(alloc, command, name)?;
+    }
+    Ok(command)
+}
+
 /// Adds the command that shows a text.
 fn with_cat<'a>(alloc: Global, command: Command<'a>) -> Result<Command<'a>, AllocError>
     ensures { IfOk result (λ c. app_of c ≡ then_app (app_of command.entry) cat_app) }
 {
     let cat = cat_command(alloc)?;
     command.subcommand(cat)
-}
-
-/// Adds the commands that show a history.
-fn with_shows<'a>(alloc: Global, command: Command<'a>) -> Result<Command<'a>, AllocError>
-    ensures { IfOk result (λ c. app_of c ≡ with_shows_app (app_of command.entry)) }
-{
-    let command = with_file_command(alloc, command, "heads")?;
-    let command = with_file_command(alloc, command, "log")?;
-    let command = with_file_command(alloc, command, "replay")?;
-    with_file_command(alloc, command, "check")
 }
 
 /// Adds the command that edits a file.
@@ -148,13 +162,10 @@ fn with_net<'a>(alloc: Global, command: Command<'a>) -> Result<Command<'a>, Allo
 pub fn egw_command<'a>(alloc: Global) -> Result<Command<'a>, AllocError>
     ensures { IfOk result (λ c. app_of c ≡ egw_app) }
 {
-    let command = with_file_command(alloc, bare_command(alloc), "new")?;
+    let command = with_file_commands(alloc, bare_command(alloc))?;
     let command = with_edit(alloc, command)?;
     let command = with_cat(alloc, command)?;
-    let command = with_shows(alloc, command)?;
     let command = with_merge(alloc, command)?;
-    let command = with_file_command(alloc, command, "ask")?;
-    let command = with_file_command(alloc, command, "serve")?;
     let command = with_net(alloc, command)?;
     with_make(alloc, command)
 }

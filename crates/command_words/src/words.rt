@@ -1,12 +1,12 @@
 //! The words of a command line.
-ghost use Rattle.std.specs.Prelude.{◌≡◌, ◌≤◌, IfOk, IfSome, codes, map, string_bytes};
+ghost use Rattle.std.specs.Prelude.{◌≡◌, IfOk, codes, map, string_bytes};
 ghost use Rattle.std.specs.Option.{option_map};
 ghost use Rattle.clap.specs.Words.{first_of, found_of, rows_of, subcommand_rows_of};
-ghost use Rattle.command_table.specs.Table.{cat_line, command_in, create, edit_line, file_line, line_in, line_of, make_line, merge_line, number_up_to, show};
+ghost use Rattle.command_table.specs.Table.{cat_line, command_in, create, edit_line, file_line, line_in, line_of, make_line, merge_line, number_up_to, seed_in, show};
 ghost use Rattle.command_table.specs.Table as table;
 ghost use Rattle.command_words.specs.Words.{command_view, line_view, listing_view};
 
-use crate::cli::{MOST_MADE, MOST_SEED, egw_command};
+use crate::cli::{MOST_MADE, egw_command};
 use clap::ArgMatches;
 use clap::error::ErrorKind;
 use event_words::version::{VersionTextFault, read_version};
@@ -116,25 +116,31 @@ fn read_merge<'a>(values: &ArgMatches<'a>) -> Option<Taken<'a>>
     Some(Taken::Merge { file, other })
 }
 
-/// The number that a word spells, if it is at most `most`.
-#[tactic(auto, using(crate::proofs::Numbers::number_taken, crate::proofs::Numbers::number_above, crate::proofs::Numbers::number_unread))]
-fn number_up_to(word: &str, most: u64) -> Option<u64>
-    ensures number { result ≡ number_up_to most word.now }
-    ensures few { IfSome result (λ n. n ≤ most) }
+/// The seed that a word spells.
+fn seed_in(word: &str) -> Option<u64>
+    ensures { result ≡ seed_in word.now }
 {
-    let number = word.parse::<u64>().ok()?;
-    if number <= most { Some(number) } else { None }
+    word.parse().ok()
+}
+
+/// The number that a word spells with its sign, if it is at least 0 and at most `most`.
+fn number_up_to(word: &str, most: u32) -> Option<u32>
+    ensures number { result ≡ number_up_to most word.now }
+{
+    let number = word.parse::<i64>().ok()?;
+    if 0 <= number && number <= i64::from(most) {
+        Some(number as u32)
+    } else {
+        None
+    }
 }
 
 fn read_make<'a>(values: &ArgMatches<'a>) -> Option<Taken<'a>>
     ensures { option_map command_view result ≡ make_line (rows_of (found_of values.now)) }
 {
-    let seed = number_up_to(value(values, "seed")?, MOST_SEED)?;
+    let seed = seed_in(value(values, "seed")?)?;
     let count = number_up_to(value(values, "count")?, MOST_MADE)?;
-    Some(Taken::Make {
-        seed,
-        count: count as u32,
-    })
+    Some(Taken::Make { seed, count })
 }
 
 fn read_command<'a>(

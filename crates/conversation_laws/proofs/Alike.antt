@@ -21,7 +21,7 @@ use Rattle.ew_model.proofs.SameEvents.{event_among}
 use Rattle.ew_model.proofs.SetLaws.{among_filter, among_joined, filter_among, joined_left, joined_right}
 use Rattle.peer_exchange.specs.Laws.{unheld}
 use Rattle.command_table.specs.Table.{content, over_events, prints, show_reply}
-use Rattle.command_table.proofs.MergedFiles.{storable}
+use Rattle.table_laws.proofs.MergedFiles.{storable}
 use Rattle.conversation_laws.specs.Conversations.{CanBeOne, ConversationsAgree}
 use Rattle.conversation_laws.proofs.Brought.{brought, joined_storable, opened_good, opens_of}
 use Rattle.conversation_laws.proofs.GoodBehind.{good_behind, good_joined}

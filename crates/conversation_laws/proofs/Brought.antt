@@ -18,34 +18,34 @@ use Rattle.ew_model.proofs.SetLaws.{among_joined, among_filter}
 use Rattle.ew_model.proofs.SortingLaws.{all_at, all_filter, all_from}
 use Rattle.ew_model.proofs.WritableLaws.{good_is_writable}
 use Rattle.ew_outside.specs.Files.{Files}
-use Rattle.event_graph.specs.Missing.{missing}
-use Rattle.event_graph.specs.Summary.{summary_of}
-use Rattle.peer_frames.specs.declared.frame.Frame.{Frame}
-use Rattle.peer_frames.specs.declared.frame.Frame.TheVariants.{Have, Events, Done, Bye}
+use Rattle.history_words.specs.Missing.{missing}
+use Rattle.history_words.specs.Summary.{summary_of}
+use Rattle.peer_words.specs.declared.frame.Frame.{Frame}
+use Rattle.peer_words.specs.declared.frame.Frame.TheVariants.{Have, Events, Done, Bye}
 use Rattle.peer_frames.specs.Laws.{IsTaken}
-use Rattle.peer_frames.specs.Spelling.{frame_bytes}
+use Rattle.peer_words.specs.Spelling.{frame_bytes}
 use Rattle.peer_exchange.proofs.Ascending.{summary_sound}
-use Rattle.peer_exchange.specs.Answering.{event_frames}
+use Rattle.peer_words.specs.Answering.{event_frames}
 use Rattle.peer_exchange.specs.Laws.{unheld}
-use Rattle.peer_exchange.specs.Pieces.{frame_room, pieces}
+use Rattle.peer_words.specs.Pieces.{frame_room, pieces}
 use Rattle.peer_exchange.proofs.Lengths.{bye_taken, missing_few, question_taken, sent_taken}
 use Rattle.peer_exchange.proofs.MissingLaw.{missing_are_unheld}
 use Rattle.peer_exchange.proofs.PieceLaws.{pieces_whole, some_room}
 use Rattle.command_table.specs.Framings.{Framing}
-use Rattle.command_table.specs.MergeLaws.{command_answer}
+use Rattle.table_laws.specs.MergeLaws.{command_answer}
 use Rattle.command_table.specs.Scripts.{Reading}
 use Rattle.command_table.specs.Sessions.{Exchange, Session, bytes_of, closed_reply, exchanged, opened_state, or_closed, served, served_as, served_by, served_from, session_answer}
 use Rattle.command_table.specs.Table.{Text, Answer, Reply, Opened, opened, open_file, over_events, prints, question, refuses, show, show_reply, stores, answer_of}
 use Rattle.command_table.specs.Refusals.{input_too_long}
-use Rattle.command_table.proofs.FileSizes.{file_length}
-use Rattle.command_table.proofs.MergedFiles.{IsStorable, Opens, opened_is, opens, read_again, status_in, storable, not_longer}
+use Rattle.table_laws.proofs.FileSizes.{file_length}
+use Rattle.table_laws.proofs.MergedFiles.{IsStorable, Opens, opened_is, opens, read_again, status_in, storable, not_longer}
 use Rattle.arrival_laws.proofs.Answered.{each_swapped}
 use Rattle.replica.proofs.Beginnings.{good_from_none_bad}
 use Rattle.conversation_laws.specs.Conversations.{CanBeOne, ConversationsBring, IsBrought, IsConversation}
 use Rattle.conversation_laws.proofs.GoodBehind.{good_behind, good_joined}
 use Rattle.conversation_laws.proofs.Received.{IsTalked, talked}
 use Rattle.conversation_laws.proofs.Spoken.{framed, just}
-use Rattle.command_table.proofs.Pasts.{same_events}
+use Rattle.command_table.proofs.Openings.{same_events}
 
 -- ---- files
 

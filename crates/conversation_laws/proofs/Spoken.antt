@@ -2,15 +2,15 @@
 use Rattle.std.proofs.Common.{◌≡◌, ℕ, ◌≤◌, List, [], ◌∷◌, length, refl, sym, ◌∙◌, subst, take_all}
 use Rattle.std.specs.List.{AllByRecursion}
 use Rattle.ew_model.specs.Limits.{LimitNumbers}
-use Rattle.peer_frames.specs.declared.frame.Frame.{Frame}
-use Rattle.peer_frames.specs.Cutting.{Tells}
-use Rattle.peer_frames.specs.Cutting.Front.{Whole, Partial}
+use Rattle.peer_words.specs.declared.frame.Frame.{Frame}
+use Rattle.peer_words.specs.Cutting.{Tells}
+use Rattle.peer_words.specs.Cutting.Front.{Whole, Partial}
 use Rattle.peer_frames.specs.Laws.{IsTaken}
 use Rattle.peer_frames.proofs.Cuts.{frames_come_back}
 use Rattle.peer_frames.proofs.Heads.{head_spelled}
 use Rattle.command_table.specs.Framings.{Framing, BeginWith, IsFramingOf}
 use Rattle.command_table.specs.Sessions.{bytes_of}
-use Rattle.command_table.proofs.Framings.{framings_are_one}
+use Rattle.table_laws.proofs.FramingLaws.{framings_are_one}
 
 -- the bytes of frames begin with them, and nothing is left
 begin_with : (limits : LimitNumbers) (frames : List Frame) → AllByRecursion (IsTaken limits) frames → BeginWith limits (bytes_of frames) frames []

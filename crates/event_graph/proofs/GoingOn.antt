@@ -21,7 +21,7 @@ use Rattle.ew_model.proofs.CoverLaws.{ids_alike, event_of, held_by}
 use Rattle.ew_model.proofs.GoodLaws.{no_parent}
 use Rattle.ew_model.proofs.GraphVersions.{taken_named}
 use Rattle.ew_model.proofs.IdLaws.{is_same_id}
-use Rattle.agent_ids.specs.Agents.{count_of, AreNumbered}
+use Rattle.history_words.specs.Agents.{count_of, AreNumbered}
 use Rattle.agent_ids.specs.IdRuns.{last_in}
 use Rattle.agent_ids.proofs.LastIds.{last_split, next_number}
 use Rattle.history_words.specs.Chains.{event_behind, next_id, last_id}

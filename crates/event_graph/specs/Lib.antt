@@ -2,8 +2,6 @@ pub mod Finding
 pub mod GoingOn
 pub mod Joining
 pub mod Keeping
-pub mod Missing
 pub mod Rows
 pub mod Subgraphs
-pub mod Summary
 pub mod Tails

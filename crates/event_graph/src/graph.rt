@@ -22,7 +22,7 @@ ghost use Rattle.event_graph.specs.Keeping.{IsAdmitted, bare_events};
 ghost use Rattle.event_graph.specs.Finding.{found_in};
 ghost use Rattle.event_graph.specs.Joining.{IsGoodBehind, event_on};
 ghost use Rattle.event_graph.specs.Rows.{row_in};
-ghost use Rattle.event_graph.specs.Summary.{summary_of};
+ghost use Rattle.history_words.specs.Summary.{summary_of};
 
 use crate::ids::{agents, ascend, counts, ids_at, is_among};
 use crate::near::Near;

@@ -14,7 +14,7 @@ use Rattle.history_words.specs.Versions.{IsVersion}
 use Rattle.event_words.specs.declared.version.VersionTextFault.{VersionTextFault}
 use Rattle.event_words.specs.declared.version.VersionTextFault.TheVariants.{Unreadable, OutOfMemory}
 use Rattle.event_words.specs.IdLists.{AreIds}
-use Rattle.event_words.proofs.IdTexts.{name_lacks, id_cut, id_lacks_comma, id_once, behind}
+use Rattle.history_words.proofs.IdTexts.{name_lacks, id_cut, id_lacks_comma, id_once, behind}
 
 -- no id is spelled so
 abbrev pub SpellsNoId : List ℕ → Type 0

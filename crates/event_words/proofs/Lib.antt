@@ -1,10 +1,10 @@
 pub mod Escapes
 pub mod Faults
 pub mod IdReading
-pub mod IdTexts
 pub mod LineParts
 pub mod Lines
 pub mod Numbers
-pub mod Texts
 pub mod LineWords
+pub mod Spellings
+pub mod NetReading
 pub mod Verbs

@@ -9,12 +9,12 @@ use Rattle.ew_model.specs.Names.{is_name}
 use Rattle.ew_model.specs.Scripts.{escaped_text}
 use Rattle.ew_model.proofs.LineLaws.{Lacks, cut_once, never_cut}
 use Rattle.ew_model.proofs.ScriptReading.{decimal_lacks_space}
-use Rattle.event_words.proofs.IdTexts.{name_lacks}
+use Rattle.history_words.proofs.IdTexts.{name_lacks}
 use Rattle.event_words.proofs.LineParts.{AreCut}
 use Rattle.event_words.proofs.Numbers.{SpellsNone}
-use Rattle.event_words.specs.declared.net.step.NetStep.{NetStep}
+use Rattle.peer_words.specs.declared.net_step.NetStep.{NetStep}
 use Rattle.event_words.specs.declared.net.verb.Verb.TheVariants as verb
-use Rattle.event_words.specs.NetScripts.{IsStepReading, MeansStep}
+use Rattle.peer_words.specs.NetScripts.{IsStepReading, MeansStep}
 use Rattle.event_words.proofs.Verbs.{Says, said}
 
 lacks_space : (word : List ℕ) → All (λ x. x ≢ 32) word → Lacks word 32

@@ -1,15 +1,17 @@
 -- Steps by their first words: what stands behind the word, and which lines mean none.
-use Rattle.std.proofs.Common.{◌≡◌, ◌≢◌, ℕ, ◌⊎◌, inl, inr, if◌then◌else◌, List, ◌∷◌, ◌++◌, codes, append-nil, refl, sym, ap, subst, ◌∙◌}
+use Rattle.std.proofs.Common.{◌≡◌, ◌≢◌, ℕ, ◌⊎◌, inl, inr, true, false, if◌then◌else◌, List, ◌∷◌, ◌++◌, codes, append-nil, refl, sym, ap, subst, ◌∙◌}
 use Rattle.std.specs.Fmt.{decimal}
 use Rattle.std.specs.Str.{bytes_eq}
+use Rattle.std.proofs.lemmas.Bool.{cases_Bool, both_ways}
+use Rattle.std.proofs.lemmas.Slice.Eq.{bytes_eq-Decides}
 use Rattle.ew_model.specs.Scripts.{escaped_text}
 use Rattle.ew_model.proofs.LineLaws.{Lacks, cut_once, never_cut}
-use Rattle.event_words.proofs.IdTexts.{name_lacks}
-use Rattle.event_words.specs.declared.net.step.NetStep.{NetStep}
-use Rattle.event_words.specs.declared.net.step.NetStep.TheVariants as step
+use Rattle.history_words.proofs.IdTexts.{name_lacks}
+use Rattle.peer_words.specs.declared.net_step.NetStep.{NetStep}
+use Rattle.peer_words.specs.declared.net_step.NetStep.TheVariants as step
 use Rattle.event_words.specs.declared.net.verb.Verb.{Verb}
 use Rattle.event_words.specs.declared.net.verb.Verb.TheVariants as verb
-use Rattle.event_words.specs.NetScripts.{IsSoundStep, MeansStep, net_line}
+use Rattle.peer_words.specs.NetScripts.{IsSoundStep, MeansStep, net_line}
 use Rattle.event_words.specs.Verbs.{verb_word}
 
 -- what a step with this word says beside it
@@ -49,7 +51,7 @@ words_of verb.Restart name = name
 words_of verb.Show name = name
 
 -- the line is the first word, a space and the others
-line_of : (v : Verb) (c : Contents v) → net_line (step_of v c) ≡ verb_word v ++ 32 ∷ words_of v c
+pub line_of : (v : Verb) (c : Contents v) → net_line (step_of v c) ≡ verb_word v ++ 32 ∷ words_of v c
 line_of verb.Peer name = ap (λ x. codes "peer " ++ x) (append-nil name)
 line_of verb.Ins c = ap (λ x. codes "ins " ++ (c.0 ++ 32 ∷ (decimal c.1 ++ 32 ∷ x))) (append-nil (escaped_text c.2))
 line_of verb.Del c = ap (λ x. codes "del " ++ (c.0 ++ 32 ∷ (decimal c.1 ++ 32 ∷ x))) (append-nil (decimal c.2))
@@ -79,10 +81,19 @@ verb_of-word verb.Deliver = refl
 verb_of-word verb.Restart = refl
 verb_of-word verb.Show = refl
 
-verb_once : (v w : Verb) → verb_word v ≡ verb_word w → v ≡ w
+pub verb_once : (v w : Verb) → verb_word v ≡ verb_word w → v ≡ w
 verb_once v w e = sym (verb_of-word v) ∙ ap verb_of e ∙ verb_of-word w
 
-verb_lacks_space : (v : Verb) → Lacks (verb_word v) 32
+-- whether a word is the first of steps
+pub verb_decided : (word : List ℕ) → ((v : Verb) × (verb_word v ≡ word)) ⊎ ((v : Verb) → verb_word v ≢ word)
+verb_decided word = by (cases_Bool (bytes_eq (verb_word (verb_of word)) word))
+  where
+    by : (bytes_eq (verb_word (verb_of word)) word ≡ true) ⊎ (bytes_eq (verb_word (verb_of word)) word ≡ false)
+        → ((v : Verb) × (verb_word v ≡ word)) ⊎ ((v : Verb) → verb_word v ≢ word)
+    by (inl same) = inl (verb_of word, (bytes_eq-Decides (verb_word (verb_of word)) word).0 same)
+    by (inr other) = inr (λ v e. both_ways _ other ((bytes_eq-Decides (verb_word (verb_of word)) word).1 (ap verb_word (ap verb_of (sym e) ∙ verb_of-word v) ∙ e)))
+
+pub verb_lacks_space : (v : Verb) → Lacks (verb_word v) 32
 verb_lacks_space verb.Peer = name_lacks 32 (codes "peer") refl refl
 verb_lacks_space verb.Ins = name_lacks 32 (codes "ins") refl refl
 verb_lacks_space verb.Del = name_lacks 32 (codes "del") refl refl
@@ -94,13 +105,13 @@ verb_lacks_space verb.Restart = name_lacks 32 (codes "restart") refl refl
 verb_lacks_space verb.Show = name_lacks 32 (codes "show") refl refl
 
 -- a step with a first word, and what it says beside it
-record Worded (s : NetStep) : Type 0 where
-  first : Verb
-  contents : Contents first
-  is : step_of first contents ≡ s
+pub record Worded (s : NetStep) : Type 0 where
+  pub first : Verb
+  pub contents : Contents first
+  pub is : step_of first contents ≡ s
 
 -- each step but one has a first word and others
-worded : (s : NetStep) → (s ≡ step.Agree) ⊎ Worded s
+pub worded : (s : NetStep) → (s ≡ step.Agree) ⊎ Worded s
 worded (step.Peer name) = inr (record { first = verb.Peer; contents = name; is = refl })
 worded (step.Ins who at text) = inr (record { first = verb.Ins; contents = (who, at, text); is = refl })
 worded (step.Del who at n) = inr (record { first = verb.Del; contents = (who, at, n); is = refl })

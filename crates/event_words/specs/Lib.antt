@@ -1,4 +1,4 @@
 pub mod IdLists
 pub mod Meaning
-pub mod NetScripts
+pub mod NetLaws
 pub mod Verbs

@@ -1,6 +1,6 @@
 //! The edits of a script.
 
-use crate::text::Text;
+use peer_words::text::Text;
 
 /// A change of the text that a person asks for. Indices and numbers count Unicode scalar values.
 #[derive(Drop)]

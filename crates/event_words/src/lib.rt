@@ -1,13 +1,15 @@
 //! The words of the editor as bytes: edit scripts, net scripts and versions are read, and ids, versions and characters are
 //! printed. What the bytes mean is said in `specs/Scripts.antt` of `ew_model`, in `specs/Versions.antt` of `history_words`, and for
-//! net scripts in `specs/NetScripts.antt`.
+//! net scripts in `specs/NetScripts.antt` of `peer_words`.
 #![tactic(auto)]
 
 pub mod edit;
+pub mod laws;
 mod line;
 pub mod net;
 pub mod print;
 pub mod script;
-pub mod text;
 pub mod version;
 pub mod words;
+
+pub use peer_words::text;

@@ -6,8 +6,8 @@ ghost use Rattle.std.specs.Str.{all_scalars};
 ghost use Rattle.std.specs.Str.Iter.{chars_rest};
 ghost use Rattle.ew_model.specs.Scripts.{escaped_char, escaped_text};
 
-use crate::text::Text;
 use ew_model::NoMem;
+use peer_words::text::Text;
 use std::alloc::Global;
 use std::str;
 use std::str::Chars;

@@ -1,5 +1,5 @@
-//! A count of faults or of misses.
-ghost use Rattle.std.specs.Prelude.{◌≡◌, ◌≤◌};
+//! Counts of what was done, and the greatest number that was asked for.
+ghost use Rattle.std.specs.Prelude.{◌≡◌, ◌≤◌, max};
 ghost use Rattle.ew_outside.specs.Counts.{next};
 
 use std::marker::Model;
@@ -36,5 +36,42 @@ impl Counter {
         ensures later { self.old ≤ self.new }
     {
         self.value = self.value.saturating_add(1);
+    }
+}
+
+/// The greatest number so far.
+#[derive(Debug, Drop)]
+pub struct Greatest {
+    value: usize,
+}
+
+impl Model for Greatest {
+    ghost use Rattle.std.specs.Prelude.{ℕ};
+
+    ghost Value = { ℕ };
+
+    ghost view = { λ g. g.value };
+}
+
+impl Greatest {
+    pub fn new() -> Greatest
+        ensures { result ≡ 0 }
+    {
+        Greatest { value: 0 }
+    }
+
+    pub fn get(&self) -> usize
+        ensures { result ≡ self.now }
+    {
+        self.value
+    }
+
+    /// Takes a number into account.
+    pub fn reach(&mut self, number: usize)
+        ensures { self.new ≡ max number self.old }
+    {
+        if self.value < number {
+            self.value = number;
+        }
     }
 }

@@ -1,16 +1,19 @@
 //! The files of the system as a shelf.
 ghost use Rattle.std.specs.Prelude.{◌≡◌, ◌≢◌, ◌+◌, ◌<◌, ◌≤◌, ◌^◌, None, Ok, take, IsErr, IfOk, IfErr, IfSome, IsSomeAnd, OnOk, vec_len};
-ghost use Rattle.std.specs.Io.KnownBytes.{Appends};
+ghost use Rattle.std.specs.Io.KnownBytes.{Appends, Consumes};
 ghost use Rattle.std.specs.IoError.{error_kind};
 
 use crate::loaded_files::{OpenedFile, OpenedFiles};
-use crate::{Counter, Shelf, ShelfFault};
+use crate::{Counter, Greatest, Shelf, ShelfFault};
 use std::alloc::Global;
 use std::fs::{File, Metadata, OpenFile, Permissions};
 use std::io::{ErrorKind, Read, Write};
 use std::os::unix::fs::{MetadataExt, OpenOptionsExt, PermissionsExt, fchown};
 use std::rt::Files;
 use std::{fs, io};
+
+/// The most bytes that are read at a time.
+const PIECE: usize = 65_536;
 
 /// Files by their paths, as the system reads these from the working directory. It tells nothing of what they hold.
 ///
@@ -22,7 +25,8 @@ use std::{fs, io};
 /// The new file has the owner, the group and the rights of the old one. A symbolic link stays, and the file that it leads to is
 /// replaced. Nothing but a file is replaced: no folder, pipe or device.
 ///
-/// Proved are the counts, what is read of a file that was opened (`front_of`), and what a new file is filled with (`fill`). All else
+/// Proved are the counts, what is read of a file that was opened and what is left of it (`front_of`, `read_front`), and what a new
+/// file is filled with (`fill`). All else
 /// that is said here is tested, over files of the system. What isn't seen: a program that takes no lock and writes to the file while
 /// it is being replaced, or writes as many bytes in the same tick of the system's clock as the change before. Access lists aren't
 /// kept, nor other names of the old file, which keep the old bytes.
@@ -35,6 +39,8 @@ pub struct DirShelf<R> {
     pub misses: Counter,
     pub loads: Counter,
     pub lost: Counter,
+    pub asked: Greatest,
+    pub stores: Counter,
 }
 
 impl<R: Files<File = File>> DirShelf<R> {
@@ -43,6 +49,8 @@ impl<R: Files<File = File>> DirShelf<R> {
         ensures misses { result.misses ≡ 0 }
         ensures loads { result.loads ≡ 0 }
         ensures lost { result.lost ≡ 0 }
+        ensures asked { result.asked ≡ 0 }
+        ensures stores { result.stores ≡ 0 }
     {
         DirShelf {
             system,
@@ -52,16 +60,19 @@ impl<R: Files<File = File>> DirShelf<R> {
             misses: Counter::new(),
             loads: Counter::new(),
             lost: Counter::new(),
+            asked: Greatest::new(),
+            stores: Counter::new(),
         }
     }
 }
 
 impl<R: Files<File = File>> Shelf for DirShelf<R> {
-    ghost seen = { λ s. record { files = None; faults = s.faults; misses = s.misses; loads = s.loads; lost = s.lost } };
+    ghost seen = { λ s. record { files = None; faults = s.faults; misses = s.misses; loads = s.loads; lost = s.lost; asked = s.asked; stores = s.stores } };
 
     /// `None` is for a file that isn't there. Whatever else the system refuses is a fault. A store stands on what was opened here.
     fn load(&mut self, name: &str, max: usize) -> Result<Option<Vec<u8>>, ShelfFault> {
         self.loads.rise();
+        self.asked.reach(max);
         let opened = fs::open(&self.system, name);
         match remember_and_read(&mut self.opened, self.alloc, name, opened, max) {
             Ok(Some(bytes)) => Ok(Some(bytes)),
@@ -86,11 +97,15 @@ impl<R: Files<File = File>> Shelf for DirShelf<R> {
             None => create(&self.system, self.alloc, name, bytes),
         };
         match stored {
-            Ok(()) => Ok(()),
+            Ok(()) => {
+                self.stores.rise();
+                Ok(())
+            }
             Err(error) => {
                 let fault = fault_of(&error);
                 if fault == ShelfFault::Failed {
                     self.faults.rise();
+                    self.stores.rise();
                 }
                 Err(fault)
             }
@@ -134,7 +149,7 @@ fn front_of<F: Read + Drop>(
     ensures refused { IfErr opened (λ e. error_kind e ≢ ErrorKind.NotFound → IsErr result) }
 {
     match opened {
-        Ok(file) => Ok(Some(read_front(alloc, file, max)?)),
+        Ok(mut file) => Ok(Some(read_front(alloc, &mut file, max)?)),
         Err(error) if error.kind() == ErrorKind::NotFound => Ok(None),
         Err(error) => Err(fault_of(&error)),
     }
@@ -150,21 +165,35 @@ fn fault_of(error: &io::Error) -> ShelfFault
     }
 }
 
-// The first `max + 1` bytes, or all where there are fewer.
-fn read_front<F: Read + Drop>(alloc: Global, file: F, max: usize) -> Result<Vec<u8>, ShelfFault>
+// The first `max + 1` bytes, or all where there are fewer. No more are read: the others are left. A read that was interrupted is tried
+// again.
+fn read_front<F: Read>(alloc: Global, file: &mut F, max: usize) -> Result<Vec<u8>, ShelfFault>
     requires { max < 2 ^ 62 }
     ensures most { IfOk result (λ v. vec_len v ≤ max + 1) }
-    ensures bytes { IfOk result (λ v. IfSome (F.remaining file) (λ xs. v.items ≡ take (max + 1) xs)) }
+    ensures bytes { IfOk result (λ v. IfSome (F.remaining file.old) (λ xs. v.items ≡ take (max + 1) xs)) }
+    ensures left { IfOk result (λ v. Consumes (F.remaining file.old) (F.remaining file.new) v.items) }
 {
     let mut bytes = Vec::new(alloc);
-    match file.take(max as u64 + 1).read_to_end(&mut bytes) {
-        Ok(_) => {
-            // They are no more already, but a reader promises that only where it tells its bytes.
-            bytes.truncate(max + 1);
-            Ok(bytes)
+    let mut buffer = [0u8; PIECE];
+    let mut tries = 1_000_000u32;
+    'pieces: while bytes.len() <= max {
+        let room = (max + 1 - bytes.len()).min(PIECE);
+        match file.read(&mut buffer[..room]) {
+            Ok(count) => {
+                if count == 0 {
+                    return Ok(bytes);
+                }
+                bytes.extend_from_slice(&buffer[..count])?;
+            }
+            Err(error) => {
+                if error.kind() != ErrorKind::Interrupted || tries == 0 {
+                    return Err(fault_of(&error));
+                }
+                tries -= 1;
+            }
         }
-        Err(error) => Err(fault_of(&error)),
     }
+    Ok(bytes)
 }
 
 // The file that has this name: the one that it leads to, where it is a symbolic link.

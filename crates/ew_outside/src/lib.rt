@@ -27,7 +27,7 @@ mod unread_bytes;
 
 pub use bounded_bytes::BoundedBytes;
 pub use calls::Calls;
-pub use counter::Counter;
+pub use counter::{Counter, Greatest};
 pub use dir_shelf::DirShelf;
 pub use fault::{Failed, Fault, ShelfFault};
 pub use file_map::FileMap;

@@ -1,11 +1,11 @@
 //! A shelf in memory that fails where a test asks for it.
 ghost use Rattle.std.specs.Prelude.{⊤, ◌≡◌, ◌+◌, ◌<◌, ◌≤◌, ◌^◌, ◌↔◌, Some, IfOk, IfSome, IsTrue, Contains, vec_len};
 ghost use Rattle.std.specs.FinMap.{empty};
-ghost use Rattle.ew_outside.specs.Counts.{CountsFaults, CountsMisses, is_failed, next};
+ghost use Rattle.ew_outside.specs.Counts.{Asks, CountsFaults, CountsMisses, CountsStores, is_failed, next};
 ghost use Rattle.ew_outside.specs.Files.{LoadGives, StoreLeaves};
 ghost use Rattle.ew_outside.specs.Memory.{after_call, StoresAsPlanned};
 
-use crate::{Calls, Counter, FileMap, Shelf, ShelfFault};
+use crate::{Calls, Counter, FileMap, Greatest, Shelf, ShelfFault};
 use std::alloc::{AllocError, Global};
 
 /// Files in memory. Exactly the listed calls fail; a store among them whose number is listed in `landing` too has stored its bytes all the same.
@@ -17,6 +17,8 @@ pub struct MemShelf {
     pub misses: Counter,
     pub loads: Counter,
     pub lost: Counter,
+    pub asked: Greatest,
+    pub stores: Counter,
 }
 
 impl MemShelf {
@@ -28,6 +30,8 @@ impl MemShelf {
         ensures misses { result.misses ≡ 0 }
         ensures loads { result.loads ≡ 0 }
         ensures lost { result.lost ≡ 0 }
+        ensures asked { result.asked ≡ 0 }
+        ensures stores { result.stores ≡ 0 }
     {
         MemShelf {
             files: FileMap::new(alloc),
@@ -36,6 +40,8 @@ impl MemShelf {
             misses: Counter::new(),
             loads: Counter::new(),
             lost: Counter::new(),
+            asked: Greatest::new(),
+            stores: Counter::new(),
         }
     }
 
@@ -49,14 +55,18 @@ impl MemShelf {
         ensures misses { self.new.misses ≡ self.old.misses }
         ensures loads { self.new.loads ≡ self.old.loads }
         ensures lost { self.new.lost ≡ self.old.lost }
+        ensures asked { self.new.asked ≡ self.old.asked }
+        ensures stores { CountsStores self.old.stores self.new.stores result }
     {
         if !self.landing.contains(&self.calls.made()) {
             self.calls.count(true);
+            self.stores.rise();
             return Err(ShelfFault::Failed);
         }
         match self.files.put(name, bytes) {
             Ok(()) => {
                 self.calls.count(true);
+                self.stores.rise();
                 Err(ShelfFault::Failed)
             }
             Err(AllocError) => {
@@ -68,7 +78,7 @@ impl MemShelf {
 }
 
 impl Shelf for MemShelf {
-    ghost seen = { λ s. record { files = Some s.files; faults = s.calls.faults; misses = s.misses; loads = s.loads; lost = s.lost } };
+    ghost seen = { λ s. record { files = Some s.files; faults = s.calls.faults; misses = s.misses; loads = s.loads; lost = s.lost; asked = s.asked; stores = s.stores } };
 
     fn load(&mut self, name: &str, max: usize) -> Result<Option<Vec<u8>>, ShelfFault>
         requires { max < 2 ^ 62 }
@@ -79,11 +89,14 @@ impl Shelf for MemShelf {
         ensures misses { CountsMisses self.old.misses self.new.misses result }
         ensures loads { self.new.loads ≡ next self.old.loads }
         ensures lost { CountsFaults self.old.lost self.new.lost result }
+        ensures asked { Asks max self.old.asked self.new.asked }
+        ensures stores { self.new.stores ≡ self.old.stores }
         ensures exactly { IsTrue (is_failed result) ↔ Contains self.old.calls.failing self.old.calls.made }
         ensures calls { self.new.calls ≡ after_call self.old.calls (is_failed result) }
         ensures landing { self.new.landing.items ≡ self.old.landing.items }
     {
         self.loads.rise();
+        self.asked.reach(max);
         if self.calls.fails_next() {
             self.calls.count(true);
             self.lost.rise();
@@ -105,6 +118,8 @@ impl Shelf for MemShelf {
         ensures misses { self.new.misses ≡ self.old.misses }
         ensures loads { self.new.loads ≡ self.old.loads }
         ensures lost { self.new.lost ≡ self.old.lost }
+        ensures asked { self.new.asked ≡ self.old.asked }
+        ensures stores { CountsStores self.old.stores self.new.stores result }
         ensures planned { StoresAsPlanned (Contains self.old.calls.failing self.old.calls.made) (Contains self.old.landing.items self.old.calls.made) self.old.files self.new.files name.now bytes.now result }
         ensures calls { self.new.calls ≡ after_call self.old.calls (is_failed result) }
         ensures landing { self.new.landing.items ≡ self.old.landing.items }
@@ -114,6 +129,7 @@ impl Shelf for MemShelf {
         }
         self.calls.count(false);
         self.files.put(name, bytes)?;
+        self.stores.rise();
         Ok(())
     }
 }

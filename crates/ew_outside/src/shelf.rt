@@ -1,6 +1,6 @@
 //! Where files lie.
 ghost use Rattle.std.specs.Prelude.{◌≡◌, ◌+◌, ◌<◌, ◌≤◌, ◌^◌, IfOk, IfSome, vec_len};
-ghost use Rattle.ew_outside.specs.Counts.{CountsFaults, CountsMisses, next};
+ghost use Rattle.ew_outside.specs.Counts.{Asks, CountsFaults, CountsMisses, CountsStores, next};
 ghost use Rattle.ew_outside.specs.Files.{LoadGives, StoreLeaves};
 ghost use Rattle.ew_outside.specs.Seen.{ShelfSeen};
 
@@ -20,7 +20,9 @@ pub trait Shelf {
         ensures cause { CountsFaults (seen self.old).faults (seen self.new).faults result }
         ensures misses { CountsMisses (seen self.old).misses (seen self.new).misses result }
         ensures loads { (seen self.new).loads ≡ next (seen self.old).loads }
-        ensures lost { CountsFaults (seen self.old).lost (seen self.new).lost result };
+        ensures lost { CountsFaults (seen self.old).lost (seen self.new).lost result }
+        ensures asked { Asks max (seen self.old).asked (seen self.new).asked }
+        ensures stores { (seen self.new).stores ≡ (seen self.old).stores };
 
     /// Gives one name these bytes, and leaves the others as they are. After `Failed` the name may have its old bytes.
     fn store(&mut self, name: &str, bytes: &[u8]) -> Result<(), ShelfFault>
@@ -28,5 +30,7 @@ pub trait Shelf {
         ensures cause { CountsFaults (seen self.old).faults (seen self.new).faults result }
         ensures misses { (seen self.new).misses ≡ (seen self.old).misses }
         ensures loads { (seen self.new).loads ≡ (seen self.old).loads }
-        ensures lost { (seen self.new).lost ≡ (seen self.old).lost };
+        ensures lost { (seen self.new).lost ≡ (seen self.old).lost }
+        ensures asked { (seen self.new).asked ≡ (seen self.old).asked }
+        ensures stores { CountsStores (seen self.old).stores (seen self.new).stores result };
 }

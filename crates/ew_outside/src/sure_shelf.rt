@@ -1,10 +1,10 @@
 //! A shelf in memory that never fails.
 ghost use Rattle.std.specs.Prelude.{◌≡◌, ◌+◌, ◌<◌, ◌≤◌, ◌^◌, ℕ, Some, false, IfOk, IfSome, vec_len};
 ghost use Rattle.std.specs.FinMap.{empty};
-ghost use Rattle.ew_outside.specs.Counts.{CountsFaults, CountsMisses, is_failed, next};
+ghost use Rattle.ew_outside.specs.Counts.{Asks, CountsFaults, CountsMisses, CountsStores, is_failed, next};
 ghost use Rattle.ew_outside.specs.Files.{LoadGives, StoreLeaves};
 
-use crate::{Counter, FileMap, Shelf, ShelfFault};
+use crate::{Counter, FileMap, Greatest, Shelf, ShelfFault};
 use std::alloc::Global;
 
 /// Files in memory. Want of memory is its one fault, and isn't counted; a miss is.
@@ -13,6 +13,8 @@ pub struct SureShelf {
     pub files: FileMap,
     pub misses: Counter,
     pub loads: Counter,
+    pub asked: Greatest,
+    pub stores: Counter,
 }
 
 impl SureShelf {
@@ -21,17 +23,21 @@ impl SureShelf {
         ensures files { result.files ≡ empty }
         ensures misses { result.misses ≡ 0 }
         ensures loads { result.loads ≡ 0 }
+        ensures asked { result.asked ≡ 0 }
+        ensures stores { result.stores ≡ 0 }
     {
         SureShelf {
             files: FileMap::new(alloc),
             misses: Counter::new(),
             loads: Counter::new(),
+            asked: Greatest::new(),
+            stores: Counter::new(),
         }
     }
 }
 
 impl Shelf for SureShelf {
-    ghost seen = { λ s. record { files = Some s.files; faults = 0; misses = s.misses; loads = s.loads; lost = 0 } };
+    ghost seen = { λ s. record { files = Some s.files; faults = 0; misses = s.misses; loads = s.loads; lost = 0; asked = s.asked; stores = s.stores } };
 
     fn load(&mut self, name: &str, max: usize) -> Result<Option<Vec<u8>>, ShelfFault>
         requires { max < 2 ^ 62 }
@@ -42,9 +48,12 @@ impl Shelf for SureShelf {
         ensures misses { CountsMisses self.old.misses self.new.misses result }
         ensures loads { self.new.loads ≡ next self.old.loads }
         ensures lost { CountsFaults 0 0 result }
+        ensures asked { Asks max self.old.asked self.new.asked }
+        ensures stores { self.new.stores ≡ self.old.stores }
         ensures sure { is_failed result ≡ false }
     {
         self.loads.rise();
+        self.asked.reach(max);
         match self.files.first(name, max)? {
             Some(bytes) => Ok(Some(bytes)),
             None => {
@@ -60,9 +69,12 @@ impl Shelf for SureShelf {
         ensures misses { self.new.misses ≡ self.old.misses }
         ensures loads { self.new.loads ≡ self.old.loads }
         ensures lost { ◌≡◌ {A = ℕ} 0 0 }
+        ensures asked { self.new.asked ≡ self.old.asked }
+        ensures stores { CountsStores self.old.stores self.new.stores result }
         ensures sure { is_failed result ≡ false }
     {
         self.files.put(name, bytes)?;
+        self.stores.rise();
         Ok(())
     }
 }

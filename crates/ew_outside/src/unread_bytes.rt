@@ -1,6 +1,8 @@
 //! Bytes in memory that are read from the front.
 ghost use Rattle.std.specs.Prelude.{◌≡◌, length, take, drop, min};
+ghost use Rattle.ew_outside.specs.Counts.{EndsAfter};
 
+use crate::Counter;
 use std::marker::Model;
 
 /// The bytes that are left to read.
@@ -52,5 +54,19 @@ fn copy_front(from: &[u8], buf: &mut [u8]) -> usize
 {
     let count = from.len().min(buf.len());
     buf[..count].copy_from_slice(&from[..count]);
+    count
+}
+
+/// Gives as many bytes as there is room for, and counts an end where there is room and none are left.
+pub fn give_and_count(left: &mut UnreadBytes, ends: &mut Counter, buf: &mut [u8]) -> usize
+    ensures count { result ≡ min (length left.old) (length buf.new) }
+    ensures given { take result buf.new ≡ take result left.old }
+    ensures rest { left.new ≡ drop result left.old }
+    ensures ends { EndsAfter (length buf.new) result ends.old ends.new }
+{
+    let count = left.give(buf);
+    if count == 0 && !buf.is_empty() {
+        ends.rise();
+    }
     count
 }

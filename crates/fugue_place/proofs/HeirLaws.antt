@@ -105,7 +105,7 @@ module _ (children : List Attached) (all : AreAttached [] children) (line : Line
 
     module _ (k : ℕ) (heir : IsHeirIn line children k) where
       -- each child in the line is the heir, or none
-      heir_or_other : (P : Attached → Type 0) → P heir.child → ((j : ℕ) (a : Attached) → slice_get children j ≡ Some a → is_heir (take j children) a ≡ false → is_in_line line a ≡ true → P a)
+      pub heir_or_other : (P : Attached → Type 0) → P heir.child → ((j : ℕ) (a : Attached) → slice_get children j ≡ Some a → is_heir (take j children) a ≡ false → is_in_line line a ≡ true → P a)
           → (j : ℕ) (a : Attached) → slice_get children j ≡ Some a → is_in_line line a ≡ true → P a
       heir_or_other P own others j a here fits = at (is_heir (take j children) a) refl
         where

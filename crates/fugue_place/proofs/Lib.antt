@@ -6,6 +6,7 @@ pub mod FoundLaws
 pub mod HeirLaws
 pub mod IndexLaws
 pub mod KeptLaws
+pub mod KnownLaws
 pub mod LeaderLaws
 pub mod LineLaws
 pub mod ListLaws

@@ -104,6 +104,30 @@ by_rank v s r t =
 pub spot_itself : (p : Spot) → is_at (spot_cmp p) p ≡ true
 spot_itself p = ap is_eq (by_rank p.parent p.side p.rank p.rank ∙ rank_tied p.rank)
 
+rank_back : (r t : Rank) → rank_cmp r t ≡ ordering_reverse (rank_cmp t r)
+rank_back First First = refl
+rank_back First (Of y) = refl
+rank_back First Last = refl
+rank_back (Of x) First = refl
+rank_back (Of x) (Of y) = id_total.antisymm x y
+rank_back (Of x) Last = refl
+rank_back Last First = refl
+rank_back Last (Of y) = refl
+rank_back Last Last = refl
+
+then_back : (r s : Ordering) → ordering_then (ordering_reverse r) (ordering_reverse s) ≡ ordering_reverse (ordering_then r s)
+then_back Less s = refl
+then_back Equal s = refl
+then_back Greater s = refl
+
+pub spot_back : (p q : Spot) → spot_cmp p q ≡ ordering_reverse (spot_cmp q p)
+spot_back p q =
+    ap (λ (o : Ordering). ordering_then o (ordering_then (side_cmp p.side q.side) (rank_cmp p.rank q.rank))) (node_back p.parent q.parent)
+    ∙ ap (λ (o : Ordering). ordering_then (ordering_reverse (node_cmp q.parent p.parent)) (ordering_then o (rank_cmp p.rank q.rank))) (side_back p.side q.side)
+    ∙ ap (λ (o : Ordering). ordering_then (ordering_reverse (node_cmp q.parent p.parent)) (ordering_then (ordering_reverse (side_cmp q.side p.side)) o)) (rank_back p.rank q.rank)
+    ∙ ap (ordering_then (ordering_reverse (node_cmp q.parent p.parent))) (then_back (side_cmp q.side p.side) (rank_cmp q.rank p.rank))
+    ∙ then_back (node_cmp q.parent p.parent) (ordering_then (side_cmp q.side p.side) (rank_cmp q.rank p.rank))
+
 -- BETWEEN THE ENDS OF A LINE
 -- what lies between two spots that agree in the first part agrees with them
 squeezed : (r s x y : Ordering) → r ≡ ordering_reverse s → is_gt (ordering_then r x) ≡ false → ordering_then s y ≡ Less → (r ≡ Equal) × (is_gt x ≡ false) × (y ≡ Less)

@@ -1,12 +1,13 @@
 -- Children that hang, on the right, on the one that was attached just before them.
 use Rattle.std.specs.Prelude.{◌≡◌, ℕ, Bool, true, false, ◌&&◌, List, take, slice_get, Option, Some, None}
+use Rattle.ew_model.specs.declared.node.Node.{Node}
 use Rattle.fugue_place.specs.declared.child.Side.{Side}
 use Rattle.fugue_place.specs.declared.child.Side.TheVariants.{Right}
 use Rattle.fugue_place.specs.declared.child.Attached.{Attached}
 use Rattle.fugue_place.specs.declared.line.Line.{Line}
 use Rattle.fugue_place.specs.Attachments.{is_newest}
 use Rattle.fugue_place.specs.Lines.{is_in_line, is_further}
-use Rattle.fugue_place.specs.Neighbours.{side_eq}
+use Rattle.fugue_place.specs.Neighbours.{is_child, side_eq}
 
 -- behind these the child is such an heir
 abbrev pub is_heir : List Attached → Attached → Bool
@@ -34,3 +35,7 @@ pub record IsOuterThanOthers (line : Line) (end : Side) (children : List Attache
 abbrev pub IsBestOfOthers : Line → Side → List Attached → Option ℕ → Type 0
 IsBestOfOthers line end children None = (j : ℕ) (a : Attached) → slice_get children j ≡ Some a → is_heir (take j children) a ≡ false → is_in_line line a ≡ false
 IsBestOfOthers line end children (Some k) = IsOuterThanOthers line end children k
+
+-- so it is of each right child of the node that is no heir
+abbrev pub EveryOther : (Node → Type 0) → List Attached → Node → Type 0
+EveryOther P children node = (k : ℕ) (a : Attached) → slice_get children k ≡ Some a → is_heir (take k children) a ≡ false → is_child node Right a ≡ true → P a.node

@@ -5,6 +5,7 @@
 mod chains;
 mod child;
 mod children;
+mod known;
 mod leaders;
 mod line;
 mod neighbour;

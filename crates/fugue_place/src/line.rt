@@ -29,7 +29,7 @@ pub struct Line {
 
 impl Line {
     /// The spot ahead of all its children.
-    fn ahead(&self) -> Spot
+    pub fn ahead(&self) -> Spot
         ensures { result ≡ ahead_of self.now }
     {
         Spot {
@@ -40,7 +40,7 @@ impl Line {
     }
 
     /// The spot behind all its children.
-    fn behind(&self) -> Spot
+    pub fn behind(&self) -> Spot
         ensures { result ≡ behind self.now }
     {
         let rank = match self.below {
@@ -115,7 +115,7 @@ fn outermost_of_others(spots: &BTreeMap<Spot, usize>, line: &Line, end: Side) ->
 }
 
 /// The place of the heir in the line, if there is one: it stands right behind the parent.
-fn heir_in(children: &Children, places: &Places, line: &Line) -> Option<usize>
+pub fn heir_in(children: &Children, places: &Places, line: &Line) -> Option<usize>
     requires attached { AreAttached [] children.now.items }
     requires places { ArePlaces children.now.items places.now }
     ensures some { IfSome result (IsHeirIn line.now children.now.items) }

@@ -3,11 +3,12 @@
 ghost use Rattle.std.specs.Prelude.{◌≡◌, true, false, [], ◌∷◌, ◌++◌, IfOk, OnOk, OnErr};
 ghost use Rattle.fugue_place.specs.Attachments.{is_event, is_attached, is_there, has_id, MayAttach};
 ghost use Rattle.fugue_place.specs.Heirs.{is_heir};
-ghost use Rattle.fugue_place.specs.Neighbours.{has_beyond, IsPlaceOfNew};
+ghost use Rattle.fugue_place.specs.Neighbours.{has_beyond, SomeRightChild, EveryRightChild, IsPlaceOfNew};
 
 use crate::chains::Chains;
 use crate::child::{Attached, Side, is_heir};
 use crate::children::Children;
+use crate::known::has_known_right;
 use crate::leaders::leader_of;
 use crate::neighbour::Place;
 use crate::places::Places;
@@ -107,6 +108,15 @@ impl Siblings {
             side,
             id,
         )
+    }
+
+    /// Whether an attached right child of the node is known.
+    pub fn has_known_right<F: Fn(Node) -> bool>(&self, node: Node, known: F) -> bool
+        requires { EveryRightChild (F.pre known) self.now node }
+        ensures one { result ≡ true → SomeRightChild (λ v. F.post known v true) self.now node }
+        ensures none { result ≡ false → EveryRightChild (λ v. F.post known v false) self.now node }
+    {
+        has_known_right(&self.children, &self.spots, &self.places, node, known)
     }
 
     /// Attaches a child on the right of the one that was attached last, which has no other: it is found without its spot.

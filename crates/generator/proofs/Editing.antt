@@ -89,12 +89,12 @@ edit_stopped state n peers p new f number is edits =
     subst (λ (m : Made). TellsStop m f) (sym (step_of state n peers p number is)) (refused (record { state = state; peers = peers }) n p new (drawn_for state p) f edits)
 
 -- a drawn edit makes one event
-one_event : (held : List Event) (agent : List ℕ) (x len : ℕ) → (o : Op) × (events_of_edit held agent (drawn_edit x len).edit ≡ event_by held agent o ∷ [])
+pub one_event : (held : List Event) (agent : List ℕ) (x len : ℕ) → (o : Op) × (events_of_edit held agent (drawn_edit x len).edit ≡ event_by held agent o ∷ [])
 unfolding events_of_ops
 one_event held agent x len = let one = one_op x len in (one.0, ap (events_of_ops held agent) one.1)
 
 -- the three agents are apart
-agents_apart : (n m : ℕ) → n < 3 → m < 3 → name_eq (agent_of n) (agent_of m) ≡ true → n ≡ m
+pub agents_apart : (n m : ℕ) → n < 3 → m < 3 → name_eq (agent_of n) (agent_of m) ≡ true → n ≡ m
 agents_apart zero zero a b e = refl
 agents_apart zero (suc zero) a b e = absurd (false≢true e)
 agents_apart zero (suc (suc zero)) a b e = absurd (false≢true e)

@@ -6,3 +6,12 @@ pub mod Owned
 pub mod Steps
 pub mod Touching
 pub mod Missing
+pub mod AgentCounts
+pub mod AgentHeads
+pub mod TakenWhole
+pub mod Makers
+pub mod Accepted
+pub mod MadeLaws
+pub mod NetPeers
+pub mod NetGifts
+pub mod NetMakings

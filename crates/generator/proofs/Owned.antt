@@ -9,7 +9,7 @@ use Rattle.ew_model.specs.Arrival.{arrive, desk_of, most_judgements}
 use Rattle.ew_model.specs.ArrivalLaw.{NoneReady}
 use Rattle.ew_model.specs.Kept.{ReplicaState}
 use Rattle.ew_model.specs.Limits.{program_limits}
-use Rattle.replica.specs.Receiving.{state_at}
+use Rattle.history_words.specs.Outcomes.{state_at}
 use Rattle.arrival_laws.specs.Repeats.{without_held}
 use Rattle.arrival_laws.proofs.Repeats.{held_events_change_nothing}
 use Rattle.arrival_laws.proofs.Settling.{none_ready_behind}
@@ -17,7 +17,7 @@ use Rattle.peer_words.specs.Making.{gives, newcomer, peer_at}
 use Rattle.generator.specs.Owning.{ArePeers, HasOwned, IsOwned, NamesOwned}
 use Rattle.generator.proofs.Growing.{HoldsMore, judgements_grow}
 
-equal_or_not : (m n : ℕ) → (m ≡ n) ⊎ (m ≢ n)
+pub equal_or_not : (m n : ℕ) → (m ≡ n) ⊎ (m ≢ n)
 equal_or_not zero zero = inl refl
 equal_or_not zero (suc n) = inr (λ e. omega (arith, e))
 equal_or_not (suc m) zero = inr (λ e. omega (arith, e))
@@ -27,7 +27,7 @@ pub here : (peers : List ReplicaState) (n : ℕ) (p : ReplicaState) → n < leng
 unfolding peer_at
 here peers n p less = get_or-set_same peers n p (newcomer program_limits) less
 
-elsewhere : (peers : List ReplicaState) (n m : ℕ) (p : ReplicaState) → m ≢ n → peer_at (set peers n p) m ≡ peer_at peers m
+pub elsewhere : (peers : List ReplicaState) (n m : ℕ) (p : ReplicaState) → m ≢ n → peer_at (set peers n p) m ≡ peer_at peers m
 unfolding peer_at
 elsewhere peers n m p ne = get_or-set_other peers n m p (newcomer program_limits) ne
 

@@ -2,6 +2,7 @@
 #![tactic(auto)]
 
 mod draws;
+pub mod laws;
 mod making;
 mod peers;
 mod told;

@@ -9,7 +9,7 @@ use Rattle.ew_model.specs.Sound.{IsSound, IsSoundOp}
 use Rattle.ew_model.proofs.Decimals.{decimal_lacks, decimal_once}
 use Rattle.ew_model.proofs.EscapedText.{escaped_same}
 use Rattle.ew_model.proofs.LineLaws.{cut_once, never_cut}
-use Rattle.event_words.proofs.IdTexts.{id_lacks_space, id_once, version_once, version_lacks_space}
+use Rattle.history_words.proofs.IdTexts.{id_lacks_space, id_once, version_once, version_lacks_space}
 use Rattle.history_words.specs.Listings.{event_line, log_text, op_words}
 use Rattle.history_view.specs.LogLaw.{LogsDiffer}
 

@@ -1,5 +1,9 @@
+pub mod Agents
 pub mod Chains
 pub mod Listings
+pub mod Missing
+pub mod Outcomes
 pub mod Replays
+pub mod Summary
 pub mod Tallies
 pub mod Versions

@@ -1,13 +1,15 @@
 -- Which files a merge loaded.
-use Rattle.std.proofs.Common.{◌≡◌, ◌∙◌, ℕ, List, [], ◌∷◌, Option, Some, None, IfOk, IfSome, Result, Ok, Err, ap}
+use Rattle.std.proofs.Common.{◌≡◌, ◌∙◌, ℕ, List, [], ◌∷◌, Option, Some, None, IfOk, IfSome, Result, Ok, Err, ap, arith}
 use Rattle.ew_model.specs.declared.event.Event.{Event}
 use Rattle.ew_model.specs.Limits.{LimitNumbers}
-use Rattle.ew_outside.specs.Counts.{next}
+use Rattle.ew_outside.specs.Counts.{Asks, AsksAtMost, next}
 use Rattle.ew_outside.specs.Files.{Files}
 use Rattle.command_table.specs.Reads.{if_open, CountsLoads, LoadsFront}
 use Rattle.command_table.specs.Refusals.{Refusal}
 use Rattle.command_table.specs.Table.{Text, opened, refused, open_file}
 use Rattle.ew_outside.specs.declared.fault.Fault.{Fault}
+use Rattle.opened_files.specs.Views.{LoadsDone}
+use Rattle.opened_files.specs.declared.reply.Reply.TheVariants as reply_is
 use Rattle.opened_files.specs.declared.reply.Reply as code
 
 pub first_front : (name other : Text) (before now : ℕ) → now ≡ next before → LoadsFront (name ∷ other ∷ []) before now
@@ -30,3 +32,15 @@ loads_opened name other limits held (Some m) before mid now (Ok p) is first seco
     second ∙ ap next first ∙ ap (λ o. if_open o (next (next before)) (next before)) is
 loads_opened name other limits held None before mid now (Ok p) is first second = tt
 loads_opened name other limits held files before mid now (Err e) is first second = tt
+
+-- both loads were made
+pub all_both : (name other : Text) (before mid now : ℕ) (result : Result code.Reply Fault) → mid ≡ next before → now ≡ next mid
+    → IfOk result (LoadsDone (name ∷ other ∷ []) before now)
+all_both name other before mid now (Ok (reply_is.Prints out)) first second = second ∙ ap next first
+all_both name other before mid now (Ok (reply_is.Stores out to bytes)) first second = second ∙ ap next first
+all_both name other before mid now (Ok (reply_is.Refuses why)) first second = tt
+all_both name other before mid now (Err e) first second = tt
+
+-- both ask for the same at most
+pub asked_both : (most before mid now : ℕ) → Asks most before mid → Asks most mid now → AsksAtMost most before now
+asked_both most before mid now first second = omega (arith, first, second)

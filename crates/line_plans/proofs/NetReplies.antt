@@ -3,7 +3,7 @@ use Rattle.std.proofs.Common.{◌≡◌, ◌≤◌, ◌∙◌, inr, ℕ, List, l
 use Rattle.std.specs.declared.alloc.AllocError.{AllocError}
 use Rattle.ew_model.specs.FileLaws.{AreBytes}
 use Rattle.ew_model.specs.Limits.{LimitNumbers}
-use Rattle.event_words.specs.declared.net.step.NetStep.{NetStep}
+use Rattle.peer_words.specs.declared.net_step.NetStep.{NetStep}
 use Rattle.net_core.specs.declared.fault.NetFault.{NetFault}
 use Rattle.net_core.specs.declared.fault.NetFault.TheVariants as fault
 use Rattle.net_core.specs.Answers.{RunsTo, refusal_told}

@@ -1,5 +1,5 @@
 -- From how a file was opened, or an input read, to what a line may answer.
-use Rattle.std.proofs.Common.{◌≡◌, ◌≤◌, ◌∙◌, inr, ℕ, List, length, Option, Result, Ok, Err, IfOk, ap, refl, sym, subst}
+use Rattle.std.proofs.Common.{◌≡◌, ◌≤◌, ◌∙◌, inl, inr, ℕ, List, length, Option, Result, Ok, Err, IfOk, ap, refl, sym, subst}
 use Rattle.std.specs.declared.alloc.AllocError.{AllocError}
 use Rattle.ew_model.specs.declared.event.Event.{Event}
 use Rattle.ew_model.specs.FileLaws.{AreBytes}
@@ -12,9 +12,14 @@ use Rattle.command_table.specs.Refusals.{Refusal}
 use Rattle.command_table.specs.Scripts.{script}
 use Rattle.command_table.specs.Table.{Text, edit, refuses, opened, refused, script_reply}
 use Rattle.opened_files.specs.declared.reply.Reply as code
+use Rattle.ew_outside.specs.Seen.{SourceSeen}
 use Rattle.ew_outside.specs.declared.fault.Fault.{Fault}
 use Rattle.ew_outside.specs.declared.fault.Fault.TheVariants as fault_is
-use Rattle.opened_files.specs.Views.{LostBy, reply_view}
+use Rattle.opened_files.specs.Views.{LostBy, ReadsNone, reply_status, reply_view}
+use Rattle.ew_outside.specs.Counts.{RisesOnceAtMost}
+use Rattle.line_plans.specs.Inputs.{MeetsEnd}
+use Rattle.line_plans.specs.declared.input.Input.{Input}
+use Rattle.line_plans.specs.declared.input.Input.TheVariants as input_is
 use Rattle.line_plans.specs.Edits.{MayScript, edits_reply}
 use Rattle.line_plans.specs.Sources.{Causes, KeepsInput, SourceCauses}
 
@@ -41,17 +46,28 @@ may_edit name agent input given limits r p same short bytes is some =
     let most : length given ≤ limits.input = subst (λ xs. length xs ≤ limits.input) (sym is) short in
     inr (given, some.0, most, some.1, some.2 ∙ ap (λ (l : LimitNumbers). script_reply name agent l r.held some.0) same, bytes)
 
--- ---- the input, where a load failed
+-- ---- the input, where the file is open, and where a load failed
 
-pub keeps_same : (left : Option (List ℕ)) (result : Result code.Reply Fault) → KeepsInput left left result
-keeps_same left (Ok p) = tt
-keeps_same left (Err fault_is.Shelf) = refl
-keeps_same left (Err fault_is.Source) = tt
-keeps_same left (Err fault_is.Sink) = tt
-keeps_same left (Err fault_is.OutOfMemory) = tt
+-- no reply is of a status of a file that is missing or bad
+pub reads_open : (old new : SourceSeen) (result : Result code.Reply Fault) → IfOk result (λ p. reply_status p ≡ 3 → ⊥) → IfOk result (λ p. reply_status p ≡ 4 → ⊥) → ReadsNone old new result
+reads_open old new (Ok p) found good = λ bad. elim bad [ inl three ↦ absurd (found three) | inr four ↦ absurd (good four) ]
+reads_open old new (Err e) found good = tt
+
+-- an end is met once at most
+pub ends_once : (before now : ℕ) (result : Result Input Fault) → MeetsEnd before now result → RisesOnceAtMost before now
+ends_once before now (Ok (input_is.Whole bytes)) met = inr met
+ends_once before now (Ok input_is.TooLong) met = inl met
+ends_once before now (Err e) met = inl met
+
+pub keeps_same : (input : SourceSeen) (result : Result code.Reply Fault) → KeepsInput input input result
+keeps_same input (Ok p) = tt
+keeps_same input (Err fault_is.Shelf) = refl
+keeps_same input (Err fault_is.Source) = tt
+keeps_same input (Err fault_is.Sink) = tt
+keeps_same input (Err fault_is.OutOfMemory) = tt
 
 -- no load fails where the source alone is read
-pub source_keeps : (old new : Option (List ℕ)) (before now : ℕ) (result : Result code.Reply Fault) → SourceCauses before now result → KeepsInput old new result
+pub source_keeps : (old new : SourceSeen) (before now : ℕ) (result : Result code.Reply Fault) → SourceCauses before now result → KeepsInput old new result
 source_keeps old new before now (Ok p) cause = tt
 source_keeps old new before now (Err fault_is.Shelf) cause = absurd cause
 source_keeps old new before now (Err fault_is.Source) cause = tt

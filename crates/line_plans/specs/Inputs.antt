@@ -1,5 +1,6 @@
 -- Inputs that are read whole.
 use Rattle.std.specs.Prelude.{◌≡◌, ◌≤◌, ⊤, ℕ, List, [], length, Option, Some, Result, Ok, nat_lt, if◌then◌else◌}
+use Rattle.ew_outside.specs.Counts.{next}
 use Rattle.line_plans.specs.declared.input.Input.{Input}
 use Rattle.line_plans.specs.declared.input.Input.TheVariants as input
 use Rattle.ew_outside.specs.declared.fault.Fault.{Fault}
@@ -22,6 +23,11 @@ input_view (input.Whole bytes) = whole bytes.items
 abbrev pub EndsInput : Option (List ℕ) → Option (List ℕ) → Result Input Fault → Type 0
 EndsInput (Some old) new (Ok (input.Whole _)) = new ≡ Some []
 EndsInput _ new _ = ⊤
+
+-- the end was met once where the input was read whole, and else not at all
+abbrev pub MeetsEnd : ℕ → ℕ → Result Input Fault → Type 0
+MeetsEnd before now (Ok (input.Whole _)) = now ≡ next before
+MeetsEnd before now _ = now ≡ before
 
 -- an input that was read whole keeps to the bound
 abbrev pub IsWithin : ℕ → Input → Type 0

@@ -2,6 +2,8 @@
 use Rattle.std.specs.Prelude.{◌≡◌, ⊤, ℕ, List, [], Option, Some, Result, Ok, Err}
 use Rattle.ew_outside.specs.Files.{Files}
 use Rattle.ew_outside.specs.Counts.{Rises}
+use Rattle.ew_outside.specs.Seen.{SourceSeen}
+use Rattle.command_table.specs.Reads.{LeavesInput}
 use Rattle.command_table.specs.Table.{Reply}
 use Rattle.opened_files.specs.declared.reply.Reply as code
 use Rattle.ew_outside.specs.declared.fault.Fault.{Fault}
@@ -35,6 +37,6 @@ ReadsAll (Some input) new (Ok p) = reply_status p ≡ 0 → new ≡ Some []
 ReadsAll _ new _ = ⊤
 
 -- where a load failed, the input is as before
-abbrev pub KeepsInput : Option (List ℕ) → Option (List ℕ) → Result code.Reply Fault → Type 0
-KeepsInput old new (Err fault_is.Shelf) = new ≡ old
+abbrev pub KeepsInput : SourceSeen → SourceSeen → Result code.Reply Fault → Type 0
+KeepsInput old new (Err fault_is.Shelf) = LeavesInput old new
 KeepsInput old new _ = ⊤

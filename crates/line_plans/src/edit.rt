@@ -10,9 +10,10 @@ ghost use Rattle.command_table.specs.Scripts.{Means};
 ghost use Rattle.command_table.specs.Table as table;
 ghost use Rattle.command_table.specs.Table.{input_reply, made_reply, open_file, opened, over_events};
 ghost use Rattle.opened_files.specs.Touches.{TouchesAtMost, file_touches};
-ghost use Rattle.opened_files.specs.Views.{IsTakenReply, LostBy, MissesBy, reply_view, reply_status};
+ghost use Rattle.opened_files.specs.Views.{IsTakenReply, LostBy, MissesBy, ReadsNone, reply_view, reply_status};
 ghost use Rattle.line_plans.specs.Sources.{Causes, KeepsInput, PlansBy, ReadsAll, SourceCauses};
-ghost use Rattle.ew_outside.specs.Counts.{next};
+ghost use Rattle.ew_outside.specs.Counts.{Asks, RisesOnceAtMost, next};
+ghost use Rattle.ew_model.specs.Limits.{most_file_bytes};
 
 use crate::input::{Input, read_input};
 use command_texts::refusal::Refusal;
@@ -111,6 +112,7 @@ fn run_edits<L: Ledger>(
     ensures told { IfOk result (λ p. reply_view p ≡ edits_reply name.now agent replica.old (numbered_edits edits.now)) }
     ensures plan { IfOk result IsTakenReply }
     ensures found { IfOk result (λ p. reply_status p ≢ 3) }
+    ensures good { IfOk result (λ p. reply_status p ≢ 4) }
     ensures steps { steps.new ≡ steps.old }
 {
     let before = replica.count();
@@ -136,6 +138,7 @@ fn run_script<L: Ledger>(
     ensures fits { AreBytes script.now }
     ensures plan { IfOk result IsTakenReply }
     ensures found { IfOk result (λ p. reply_status p ≢ 3) }
+    ensures good { IfOk result (λ p. reply_status p ≢ 4) }
     ensures steps { steps.new ≡ steps.old }
 {
     let edits = match read_script(alloc, script) {
@@ -165,7 +168,9 @@ fn take_input<S: Source, L: Ledger>(
     ensures end { ReadsAll (S.seen input.old).left (S.seen input.new).left result }
     ensures few { TakesAtMost (limits.now.input + 1) (S.seen input.old).left (S.seen input.new).left }
     ensures cause { SourceCauses (S.seen input.old).faults (S.seen input.new).faults result }
+    ensures ends { RisesOnceAtMost (S.seen input.old).ends (S.seen input.new).ends }
     ensures found { IfOk result (λ p. reply_status p ≢ 3) }
+    ensures good { IfOk result (λ p. reply_status p ≢ 4) }
     ensures plan { IfOk result IsTakenReply }
     ensures steps { steps.new ≡ steps.old }
 {
@@ -194,10 +199,14 @@ pub fn edit<H: Shelf, S: Source, L: Ledger>(
     ensures cause { Causes (H.seen shelf.old).faults (H.seen shelf.new).faults (S.seen input.old).faults (S.seen input.new).faults result }
     ensures misses { MissesBy (H.seen shelf.old).misses (H.seen shelf.new).misses result }
     ensures few { TakesAtMost (limits.now.input + 1) (S.seen input.old).left (S.seen input.new).left }
-    ensures kept { KeepsInput (S.seen input.old).left (S.seen input.new).left result }
-    ensures untouched { IfSome (H.seen shelf.old).files (λ m. IfRefused (open_file name.now limits.now m) (LeavesInput (S.seen input.old).left (S.seen input.new).left (S.seen input.old).faults (S.seen input.new).faults)) }
+    ensures kept { KeepsInput (S.seen input.old) (S.seen input.new) result }
+    ensures untouched { IfSome (H.seen shelf.old).files (λ m. IfRefused (open_file name.now limits.now m) (LeavesInput (S.seen input.old) (S.seen input.new))) }
     ensures loads { (H.seen shelf.new).loads ≡ next (H.seen shelf.old).loads }
     ensures lost { LostBy (H.seen shelf.old).lost (H.seen shelf.new).lost result }
+    ensures asked { Asks (most_file_bytes limits.now.events) (H.seen shelf.old).asked (H.seen shelf.new).asked }
+    ensures stores { (H.seen shelf.new).stores ≡ (H.seen shelf.old).stores }
+    ensures ends { RisesOnceAtMost (S.seen input.old).ends (S.seen input.new).ends }
+    ensures refused { ReadsNone (S.seen input.old) (S.seen input.new) result }
     ensures most { TouchesAtMost (file_touches name.now limits.now) (H.seen shelf.old).files steps.old steps.new }
 {
     match open(alloc, name, limits, shelf, steps)? {

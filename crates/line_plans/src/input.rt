@@ -1,6 +1,6 @@
 //! Reading the input whole, where it isn't above a bound.
 ghost use Rattle.std.specs.Prelude.{◌≡◌, ◌<◌, ◌+◌, IfOk, IfSome};
-ghost use Rattle.line_plans.specs.Inputs.{input_view, input_of, EndsInput, IsWithin};
+ghost use Rattle.line_plans.specs.Inputs.{input_view, input_of, EndsInput, IsWithin, MeetsEnd};
 ghost use Rattle.line_plans.specs.Sources.{SourceCauses};
 ghost use Rattle.command_table.specs.Reads.{TakesAtMost};
 
@@ -23,6 +23,7 @@ pub fn read_input<S: Source>(alloc: Global, source: &mut S, most: u32) -> Result
     ensures end { EndsInput (S.seen source.old).left (S.seen source.new).left result }
     ensures few { TakesAtMost (most + 1) (S.seen source.old).left (S.seen source.new).left }
     ensures cause { SourceCauses (S.seen source.old).faults (S.seen source.new).faults result }
+    ensures ends { MeetsEnd (S.seen source.old).ends (S.seen source.new).ends result }
 {
     let bound = most as usize;
     let mut bytes = Vec::new(alloc);

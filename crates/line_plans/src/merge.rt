@@ -11,10 +11,10 @@ ghost use Rattle.command_table.specs.Table as table;
 ghost use Rattle.ew_model.specs.Limits.{most_file_bytes};
 ghost use Rattle.ew_model.specs.Rounds.{most_touches};
 ghost use Rattle.opened_files.specs.Touches.{TouchesAtMost, file_touches, merge_touches, touches_over};
-ghost use Rattle.peer_exchange.specs.Answering as answering;
-ghost use Rattle.opened_files.specs.Views.{IsTakenReply, LostBy, MissesBy, ShelfCauses, reply_view, reply_status};
+ghost use Rattle.peer_words.specs.Answering as answering;
+ghost use Rattle.opened_files.specs.Views.{IsTakenReply, LoadsDone, LostBy, MissesBy, ShelfCauses, reply_view, reply_status};
 ghost use Rattle.command_table.specs.Reads.{CountsLoads, LoadsFront};
-ghost use Rattle.ew_outside.specs.Counts.{next};
+ghost use Rattle.ew_outside.specs.Counts.{Asks, AsksAtMost, next};
 
 use crate::taking::take;
 use command_texts::refusal::Refusal;
@@ -140,6 +140,8 @@ fn take_other<H: Shelf, L: Ledger>(
     ensures misses { MissesBy (H.seen shelf.old).misses (H.seen shelf.new).misses result }
     ensures loads { (H.seen shelf.new).loads ≡ next (H.seen shelf.old).loads }
     ensures lost { LostBy (H.seen shelf.old).lost (H.seen shelf.new).lost result }
+    ensures asked { Asks (most_file_bytes limits.now.events) (H.seen shelf.old).asked (H.seen shelf.new).asked }
+    ensures stores { (H.seen shelf.new).stores ≡ (H.seen shelf.old).stores }
     ensures most { TouchesAtMost (λ m. merge_touches other.now limits.now m replica.old.held) (H.seen shelf.old).files steps.old steps.new }
 {
     match open_graph(alloc, other, limits, shelf, steps)? {
@@ -168,7 +170,10 @@ pub fn merge<H: Shelf, L: Ledger>(
     ensures misses { MissesBy (H.seen shelf.old).misses (H.seen shelf.new).misses result }
     ensures front { LoadsFront (name.now ∷ other.now ∷ []) (H.seen shelf.old).loads (H.seen shelf.new).loads }
     ensures loads { IfOk result (λ p. CountsLoads (name.now ∷ other.now ∷ []) limits.now (H.seen shelf.old).files (H.seen shelf.old).loads (H.seen shelf.new).loads) }
+    ensures all { IfOk result (LoadsDone (name.now ∷ other.now ∷ []) (H.seen shelf.old).loads (H.seen shelf.new).loads) }
     ensures lost { LostBy (H.seen shelf.old).lost (H.seen shelf.new).lost result }
+    ensures asked { AsksAtMost (most_file_bytes limits.now.events) (H.seen shelf.old).asked (H.seen shelf.new).asked }
+    ensures stores { (H.seen shelf.new).stores ≡ (H.seen shelf.old).stores }
     ensures most { TouchesAtMost (λ m. file_touches name.now limits.now m + touches_over (merge_touches other.now limits.now m) (open_file name.now limits.now m)) (H.seen shelf.old).files steps.old steps.new }
 {
     match open(alloc, name, limits, shelf, steps)? {

@@ -5,6 +5,7 @@ ghost use Rattle.command_table.specs.Possible.{MayReplyTo};
 ghost use Rattle.command_table.specs.Reads.{TakesAtMost};
 ghost use Rattle.command_table.specs.Table as table;
 ghost use Rattle.command_table.specs.Table.{net_run_reply};
+ghost use Rattle.ew_outside.specs.Counts.{RisesOnceAtMost};
 ghost use Rattle.line_plans.specs.Sources.{ReadsAll, SourceCauses};
 ghost use Rattle.peer_words.specs.Runs.{net_run};
 ghost use Rattle.peer_words.specs.Machine.{empty_network};
@@ -99,6 +100,7 @@ pub fn net<S: Source, L: Ledger>(
     ensures end { ReadsAll (S.seen input.old).left (S.seen input.new).left result }
     ensures few { TakesAtMost (limits.now.input + 1) (S.seen input.old).left (S.seen input.new).left }
     ensures cause { SourceCauses (S.seen input.old).faults (S.seen input.new).faults result }
+    ensures ends { RisesOnceAtMost (S.seen input.old).ends (S.seen input.new).ends }
 {
     let most = limits.input();
     match read_input(alloc, input, most)? {

@@ -8,9 +8,9 @@ use Rattle.std.proofs.lemmas.Bool.{cases_Bool, cond-true, cond-false}
 use Rattle.ew_model.specs.Kept.{ReplicaState}
 use Rattle.ew_model.specs.Limits.{LimitNumbers}
 use Rattle.ew_model.proofs.SortingLaws.{all_at}
-use Rattle.event_words.specs.declared.net.step.NetStep.TheVariants as step
+use Rattle.peer_words.specs.declared.net_step.NetStep.TheVariants as step
 use Rattle.peer_frames.specs.Laws.{IsTaken}
-use Rattle.peer_frames.specs.declared.frame.Frame.{Frame}
+use Rattle.peer_words.specs.declared.frame.Frame.{Frame}
 use Rattle.net_core.specs.declared.fault.NetFault.{NetFault}
 use Rattle.net_core.specs.declared.fault.NetFault.TheVariants as fault
 use Rattle.net_core.specs.Answers.{IsLeftAt, IsLeftIn, StepsTo, refusal_told, told_bytes}

@@ -15,14 +15,15 @@ use Rattle.ew_model.proofs.EntryLaws.{all_joined}
 use Rattle.ew_model.proofs.LimitsKept.{arrivals_keep, judgements_keep_limits}
 use Rattle.ew_model.proofs.SortingLaws.{all_at, all_filter, all_from}
 use Rattle.event_graph.proofs.Tails.{all_first}
-use Rattle.event_graph.specs.Missing.{count_in, missing}
+use Rattle.history_words.specs.Missing.{count_in, missing}
 use Rattle.history_words.specs.Tallies.{refused_in}
-use Rattle.peer_exchange.specs.Answering.{IsLeftBy, answer_to, event_frames, first_clash, frame_for, took_of}
-use Rattle.peer_exchange.specs.Pieces.{frame_room, pieces_from}
+use Rattle.peer_exchange.specs.Replies.{IsLeftBy}
+use Rattle.peer_words.specs.Answering.{answer_to, event_frames, first_clash, frame_for, took_of}
+use Rattle.peer_words.specs.Pieces.{frame_room, pieces_from}
 use Rattle.peer_exchange.proofs.Lengths.{all_drop, few_after}
-use Rattle.peer_frames.specs.declared.frame.Frame.{Frame}
-use Rattle.peer_frames.specs.declared.frame.Frame.TheVariants.{Have, Events, Done, Took, Clash, Bye}
-use Rattle.peer_frames.specs.declared.frame.Frame.TheVariants as frame
+use Rattle.peer_words.specs.declared.frame.Frame.{Frame}
+use Rattle.peer_words.specs.declared.frame.Frame.TheVariants.{Have, Events, Done, Took, Clash, Bye}
+use Rattle.peer_words.specs.declared.frame.Frame.TheVariants as frame
 use Rattle.net_core.specs.Answers.{IsLeftIn}
 use Rattle.net_core.specs.Keeping.{IsHome, IsReplica}
 use Rattle.net_core.specs.Laws.{IsRoomRefusal, NoneClashes, answers_in, answers_to, is_clash}

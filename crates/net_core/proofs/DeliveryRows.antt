@@ -6,12 +6,12 @@ use Rattle.ew_model.specs.declared.event.Event.{Event}
 use Rattle.ew_model.specs.Arrival.{Answer, arrive}
 use Rattle.ew_model.specs.Cuts.{latest_cut}
 use Rattle.ew_model.specs.Kept.{ReplicaState}
-use Rattle.event_graph.specs.Missing.{missing}
-use Rattle.peer_exchange.specs.Answering.{answer_to, frame_for, took_of}
-use Rattle.peer_exchange.specs.Pieces.{frame_room, pieces_from}
-use Rattle.peer_frames.specs.declared.frame.Frame.{Frame}
-use Rattle.peer_frames.specs.declared.frame.Frame.TheVariants.{Have, Events, Done, Took, Clash, Bye}
-use Rattle.peer_frames.specs.declared.frame.Frame.TheVariants as frame
+use Rattle.history_words.specs.Missing.{missing}
+use Rattle.peer_words.specs.Answering.{answer_to, frame_for, took_of}
+use Rattle.peer_words.specs.Pieces.{frame_room, pieces_from}
+use Rattle.peer_words.specs.declared.frame.Frame.{Frame}
+use Rattle.peer_words.specs.declared.frame.Frame.TheVariants.{Have, Events, Done, Took, Clash, Bye}
+use Rattle.peer_words.specs.declared.frame.Frame.TheVariants as frame
 use Rattle.net_core.specs.Bytes.{reply_lines}
 use Rattle.net_core.specs.Laws.{NoneClashes, is_clash}
 use Rattle.peer_words.specs.Machine.{Peer, frame_line}

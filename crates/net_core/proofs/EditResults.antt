@@ -6,7 +6,7 @@ use Rattle.std.specs.Prelude.{Err, Ok, Result, codes, decimal}
 use Rattle.ew_model.specs.Edits.{Edit, edit_refusal}
 use Rattle.ew_model.specs.Edits as model
 use Rattle.ew_model.specs.Kept.{ReplicaState}
-use Rattle.event_words.specs.declared.net.step.NetStep.{NetStep}
+use Rattle.peer_words.specs.declared.net_step.NetStep.{NetStep}
 use Rattle.replica.specs.Answers.{EditsBy}
 use Rattle.replica.specs.declared.fault.EditFault.{EditFault}
 use Rattle.replica.specs.declared.fault.EditFault.TheVariants as edit

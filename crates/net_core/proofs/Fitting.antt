@@ -1,6 +1,6 @@
 -- At every moment of every script readers take the frames of all packets, and events stand where they were made.
 use Rattle.std.proofs.Common.{◌≡◌, ℕ, ◌+◌, ◌<◌, ◌≤◌, ◌^◌, true, false, ◌⊎◌, inl, inr, List, [], ◌∷◌, ◌++◌, length, map, Option, Some, None, refl, sym, ap, ◌∙◌, subst, arith}
-use Rattle.std.specs.List.{AllByRecursion, slice_get}
+use Rattle.std.specs.List.{AllByRecursion, slice_get, flat_map}
 use Rattle.std.specs.Option.{option_and_then, option_map_or}
 use Rattle.std.proofs.lemmas.Bool.{cases_Bool}
 use Rattle.std.proofs.lemmas.List.{length-append}
@@ -20,21 +20,20 @@ use Rattle.ew_model.proofs.EntryLaws.{all_joined}
 use Rattle.ew_model.proofs.LimitsKept.{arrivals_keep}
 use Rattle.ew_model.proofs.SortingLaws.{all_at}
 use Rattle.event_graph.proofs.Tails.{all_first}
-use Rattle.event_graph.specs.Missing.{missing}
+use Rattle.history_words.specs.Missing.{missing}
 use Rattle.history_words.specs.Tallies.{accepted_in, is_repeat, refused_in, repeats_in}
-use Rattle.event_words.specs.NetScripts.{IsSoundStep}
-use Rattle.event_words.specs.declared.net.step.NetStep.{NetStep}
-use Rattle.event_words.specs.declared.net.step.NetStep.TheVariants as step
+use Rattle.peer_words.specs.NetScripts.{IsSoundStep}
+use Rattle.peer_words.specs.declared.net_step.NetStep.{NetStep}
+use Rattle.peer_words.specs.declared.net_step.NetStep.TheVariants as step
 use Rattle.peer_exchange.proofs.Ascending.{summary_sound}
 use Rattle.peer_exchange.proofs.Lengths.{all_drop, bye_taken, missing_few, missing_sound, question_taken, sent_taken, took_taken}
 use Rattle.peer_exchange.proofs.Refused.{refused_each}
-use Rattle.peer_exchange.specs.Answering.{answer_to, event_frames, frame_for, question, took_of}
+use Rattle.peer_words.specs.Answering.{answer_to, event_frames, frame_for, question, took_of}
 use Rattle.peer_frames.specs.Laws.{IsTaken}
-use Rattle.peer_frames.specs.Spelling.{event_bytes, events_body, id_bytes}
+use Rattle.peer_words.specs.Spelling.{event_bytes, events_body, id_bytes}
 use Rattle.ew_model.specs.File.{four_bytes, op_bytes}
-use Rattle.peer_frames.specs.declared.frame.Frame.{Frame}
-use Rattle.peer_frames.specs.declared.frame.Frame.TheVariants.{Have, Events, Done, Took, Clash, Bye}
-use Rattle.std.specs.List.{flat_map}
+use Rattle.peer_words.specs.declared.frame.Frame.{Frame}
+use Rattle.peer_words.specs.declared.frame.Frame.TheVariants.{Have, Events, Done, Took, Clash, Bye}
 use Rattle.net_core.specs.Keeping.{IsHome, IsReached, IsReplica}
 use Rattle.net_core.specs.Laws.{NetsAreReached, after_steps, network_left}
 use Rattle.peer_words.specs.Machine.{Network, Packet, Peer, deliver_step, delivery_of, edit_outcome, empty_network, net_step, peer_of, peer_step, piece_of, print_before, put_replica, restart_outcome, with_packet, with_peer, with_replies}

@@ -4,9 +4,9 @@ use Rattle.std.specs.List.{AllByRecursion, slice_get}
 use Rattle.std.specs.Option.{option_map_or}
 use Rattle.ew_model.specs.Kept.{ReplicaState}
 use Rattle.ew_model.specs.Limits.{LimitNumbers}
-use Rattle.event_words.specs.declared.net.step.NetStep.TheVariants as step
-use Rattle.peer_exchange.specs.Answering.{answer_to}
-use Rattle.peer_frames.specs.declared.frame.Frame.{Frame}
+use Rattle.peer_words.specs.declared.net_step.NetStep.TheVariants as step
+use Rattle.peer_words.specs.Answering.{answer_to}
+use Rattle.peer_words.specs.declared.frame.Frame.{Frame}
 use Rattle.peer_frames.specs.Laws.{IsTaken}
 use Rattle.net_core.specs.Answers.{IsLeftAt, IsLeftIn}
 use Rattle.net_core.specs.Laws.{NoneClashes}

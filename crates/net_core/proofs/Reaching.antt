@@ -12,7 +12,7 @@ use Rattle.ew_model.specs.Sets.{Among}
 use Rattle.ew_model.specs.Verdicts.{IsGood}
 use Rattle.ew_model.proofs.EntryLaws.{all_joined}
 use Rattle.ew_model.proofs.IdLaws.{names_equal}
-use Rattle.peer_frames.specs.declared.frame.Frame.{Frame}
+use Rattle.peer_words.specs.declared.frame.Frame.{Frame}
 use Rattle.peer_frames.specs.Laws.{IsTaken}
 use Rattle.net_core.specs.Keeping.{AreNamedApart, IsFrame, IsHome, IsPacket, IsReached, IsReplica, events_in}
 use Rattle.peer_words.specs.Machine.{Network, Packet, Peer, peer_among}

@@ -3,9 +3,10 @@ use Rattle.std.proofs.Common.{◌≡◌, ℕ, false, List, [], ◌∷◌, ◌++�
 use Rattle.std.specs.List.{AllByRecursion}
 use Rattle.ew_model.specs.Arrival.{Answer}
 use Rattle.ew_model.specs.Kept.{ReplicaState}
-use Rattle.peer_exchange.specs.Answering.{IsLeftBy, answer_to}
-use Rattle.peer_frames.specs.declared.frame.Frame.{Frame}
-use Rattle.peer_frames.specs.declared.frame.Frame.TheVariants.{Have, Events, Done, Took, Clash, Bye}
+use Rattle.peer_exchange.specs.Replies.{IsLeftBy}
+use Rattle.peer_words.specs.Answering.{answer_to}
+use Rattle.peer_words.specs.declared.frame.Frame.{Frame}
+use Rattle.peer_words.specs.declared.frame.Frame.TheVariants.{Have, Events, Done, Took, Clash, Bye}
 use Rattle.net_core.specs.Answers.{IsLeftIn}
 use Rattle.net_core.specs.Bytes.{reply_line, reply_lines}
 use Rattle.net_core.specs.Laws.{NoneClashes, answers_in, answers_to, is_clash}

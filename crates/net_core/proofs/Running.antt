@@ -1,6 +1,6 @@
 -- Steps one after another: what the first ones print comes before what the others print.
 use Rattle.std.proofs.Common.{◌≡◌, ℕ, List, [], ◌∷◌, ◌++◌, refl, sym, ap, ◌∙◌, append_assoc, append-nil}
-use Rattle.event_words.specs.declared.net.step.NetStep.{NetStep}
+use Rattle.peer_words.specs.declared.net_step.NetStep.{NetStep}
 use Rattle.peer_words.specs.Runs.{RunOutcome, go_on, more_printed, net_run}
 use Rattle.peer_words.specs.Runs.RunOutcome.{Ran, Broke}
 use Rattle.peer_words.specs.Machine.{Network, Refusal, net_step}

@@ -8,10 +8,10 @@ use Rattle.ew_model.specs.Kept.{ReplicaState}
 use Rattle.ew_model.specs.Scripts.{escaped_text}
 use Rattle.ew_model.specs.Texts.{text_of}
 use Rattle.ew_model.proofs.ListParts.{element_there}
-use Rattle.event_words.specs.declared.net.step.NetStep.{NetStep}
-use Rattle.event_words.specs.declared.net.step.NetStep.TheVariants as step
-use Rattle.peer_exchange.specs.Answering.{event_frames, question}
-use Rattle.peer_frames.specs.declared.frame.Frame.{Frame}
+use Rattle.peer_words.specs.declared.net_step.NetStep.{NetStep}
+use Rattle.peer_words.specs.declared.net_step.NetStep.TheVariants as step
+use Rattle.peer_words.specs.Answering.{event_frames, question}
+use Rattle.peer_words.specs.declared.frame.Frame.{Frame}
 use Rattle.net_core.specs.declared.fault.NetFault.{NetFault}
 use Rattle.net_core.specs.declared.fault.NetFault.TheVariants as fault
 use Rattle.net_core.specs.Answers.{StepsTo, refusal_told}

@@ -4,10 +4,11 @@ use Rattle.std.specs.Global.{Vec}
 use Rattle.ew_model.specs.Edits.EditRefusal.{OutOfRange, TooManyHeads, Full}
 use Rattle.ew_model.specs.Kept.{ReplicaState}
 use Rattle.ew_model.specs.Limits.{LimitNumbers}
-use Rattle.event_words.specs.declared.net.step.NetStep.{NetStep}
-use Rattle.event_words.specs.declared.net.step.NetStep.TheVariants as step
-use Rattle.peer_exchange.specs.Answering.{answer_to, IsLeftBy}
-use Rattle.peer_frames.specs.declared.frame.Frame.{Frame}
+use Rattle.peer_words.specs.declared.net_step.NetStep.{NetStep}
+use Rattle.peer_words.specs.declared.net_step.NetStep.TheVariants as step
+use Rattle.peer_words.specs.Answering.{answer_to}
+use Rattle.peer_exchange.specs.Replies.{IsLeftBy}
+use Rattle.peer_words.specs.declared.frame.Frame.{Frame}
 use Rattle.replica.specs.declared.fault.EditFault.{EditFault}
 use Rattle.replica.specs.declared.fault.EditFault.TheVariants as edit
 use Rattle.net_core.specs.declared.fault.NetFault.{NetFault}

@@ -6,8 +6,8 @@ use Rattle.ew_model.specs.Ids.{name_eq}
 use Rattle.ew_model.specs.Kept.{IsKept, ReplicaState}
 use Rattle.ew_model.specs.Limits.{AreLimits, LimitNumbers}
 use Rattle.ew_model.specs.Sets.{Among}
-use Rattle.peer_frames.specs.declared.frame.Frame.{Frame}
-use Rattle.peer_frames.specs.declared.frame.Frame.TheVariants.{Events}
+use Rattle.peer_words.specs.declared.frame.Frame.{Frame}
+use Rattle.peer_words.specs.declared.frame.Frame.TheVariants.{Events}
 use Rattle.peer_frames.specs.Laws.{IsTaken}
 use Rattle.peer_words.specs.Machine.{Network, Packet, Peer, peer_among}
 

@@ -1,7 +1,6 @@
 -- What holds of every script and at every moment of it.
-use Rattle.std.specs.Prelude.{◌≡◌, ◌⊎◌, ◌↔◌, ℕ, ◌<◌, true, false, Bool, List, [], ◌∷◌, ◌++◌, length, filter, slice_get, Option, Some, None, codes}
+use Rattle.std.specs.Prelude.{◌≡◌, ◌⊎◌, ◌↔◌, ℕ, ◌<◌, true, false, Bool, List, [], ◌∷◌, ◌++◌, length, filter, slice_get, Some, codes}
 use Rattle.std.specs.List.{AllByRecursion}
-use Rattle.std.specs.Option.{option_and_then}
 use Rattle.ew_model.specs.declared.event.Event.{Event}
 use Rattle.ew_model.specs.Arrival.{Answer, arrive}
 use Rattle.ew_model.specs.ArrivalLaw.{is_full}
@@ -13,25 +12,15 @@ use Rattle.ew_model.specs.Texts.{text_of}
 use Rattle.ew_model.specs.Verdicts.{Ruling}
 use Rattle.ew_model.specs.Verdicts.Ruling.{Clash, GraphFull}
 use Rattle.history_words.specs.Tallies.{refused_by}
-use Rattle.event_words.specs.declared.net.step.NetStep.{NetStep}
-use Rattle.event_words.specs.declared.net.step.NetStep.TheVariants as step
-use Rattle.event_words.specs.NetScripts.{IsSoundStep}
-use Rattle.peer_exchange.specs.Answering.{answer_to}
-use Rattle.peer_frames.specs.declared.frame.Frame.{Frame}
-use Rattle.peer_frames.specs.declared.frame.Frame.TheVariants.{Events}
+use Rattle.peer_words.specs.declared.net_step.NetStep.{NetStep}
+use Rattle.peer_words.specs.declared.net_step.NetStep.TheVariants as step
+use Rattle.peer_words.specs.NetScripts.{IsSoundStep}
+use Rattle.peer_words.specs.Answering.{answer_to}
+use Rattle.peer_words.specs.declared.frame.Frame.{Frame}
+use Rattle.peer_words.specs.declared.frame.Frame.TheVariants.{Events}
 use Rattle.net_core.specs.Keeping.{IsReached}
-use Rattle.peer_words.specs.Machine.{Network, Packet, Peer, StepOutcome, agree_line, empty_network, net_step, peer_of, printed_line}
-use Rattle.peer_words.specs.Machine.StepOutcome.{Stepped, Refused}
-
--- the network that a step leaves, if it isn't refused
-abbrev pub network_left : StepOutcome → Option Network
-network_left (Stepped network printed) = Some network
-network_left (Refused why) = None
-
--- the network that steps leave of which none is refused
-abbrev pub after_steps : Network → List NetStep → Option Network
-after_steps network [] = Some network
-after_steps network (s ∷ steps) = option_and_then (λ next. after_steps next steps) (network_left (net_step network s))
+use Rattle.peer_words.specs.Machine.{Network, Packet, Peer, agree_line, empty_network, net_step, peer_of, printed_line}
+pub use Rattle.peer_words.specs.Runs.{after_steps, network_left}
 
 -- At every moment of every script each peer keeps what a replica keeps, so that no id stands twice, and every event of a peer, a
 -- pool or a packet stands in the history of the peer whose name is its agent.

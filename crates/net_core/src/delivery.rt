@@ -2,7 +2,7 @@
 
 ghost use Rattle.std.specs.Prelude.{◌≡◌, [], ◌∷◌, ◌++◌, IfOk, OnOk, OnErr};
 ghost use Rattle.std.specs.List.{AllByRecursion};
-ghost use Rattle.peer_exchange.specs.Answering.{answer_to};
+ghost use Rattle.peer_words.specs.Answering.{answer_to};
 ghost use Rattle.peer_frames.specs.Laws.{IsTaken};
 ghost use Rattle.net_core.specs.Answers.{IsLeftIn};
 ghost use Rattle.net_core.specs.Bytes.{reply_line, reply_lines};

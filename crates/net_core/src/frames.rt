@@ -4,7 +4,7 @@ ghost use Rattle.std.specs.Prelude.{◌≡◌, ◌≤◌, length, IfOk};
 ghost use Rattle.std.specs.List.{AllByRecursion};
 ghost use Rattle.ew_model.specs.declared.event.Event.{Event};
 ghost use Rattle.ew_model.specs.Sound.{AreSound};
-ghost use Rattle.peer_exchange.specs.Answering.{event_frames};
+ghost use Rattle.peer_words.specs.Answering.{event_frames};
 ghost use Rattle.peer_frames.specs.Laws.{IsTaken};
 ghost use Rattle.peer_words.specs.Machine.{piece_of};
 

@@ -2,7 +2,7 @@
 
 ghost use Rattle.std.specs.Prelude.{◌≡◌, ◌<◌, length, slice_get, Some, None, IfOk, IfErr, IsOkAnd, OnErr};
 ghost use Rattle.std.specs.List.{AllByRecursion};
-ghost use Rattle.event_words.specs.declared.net.step.NetStep.TheVariants as net_step;
+ghost use Rattle.peer_words.specs.declared.net_step.NetStep.TheVariants as net_step;
 ghost use Rattle.net_core.specs.Answers.{StepsTo, told_bytes};
 ghost use Rattle.net_core.specs.Keeping.{IsPacket};
 ghost use Rattle.peer_words.specs.Machine.{empty_network, peer_of, print_before, with_packet};

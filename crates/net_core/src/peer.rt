@@ -5,9 +5,10 @@ ghost use Rattle.std.specs.List.{All, AllByRecursion};
 ghost use Rattle.ew_model.specs.Edits as model;
 ghost use Rattle.ew_model.specs.Ids.{name_eq};
 ghost use Rattle.ew_model.specs.Kept.{IsKept, is_awaited};
-ghost use Rattle.peer_exchange.specs.Answering.{IsLeftBy, IsReply, answer_to, event_frames, question};
+ghost use Rattle.peer_exchange.specs.Replies.{IsLeftBy, IsReply};
+ghost use Rattle.peer_words.specs.Answering.{answer_to, event_frames, question};
 ghost use Rattle.peer_frames.specs.Laws.{IsTaken};
-ghost use Rattle.peer_frames.specs.Spelling.{HasSpelling};
+ghost use Rattle.peer_words.specs.Spelling.{HasSpelling};
 ghost use Rattle.replica.specs.Answers.{EditsBy};
 ghost use Rattle.peer_words.specs.Machine.{built_again, piece_of};
 

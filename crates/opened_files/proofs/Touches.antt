@@ -11,11 +11,6 @@ pub untouched : (most : Files → ℕ) (files : Option Files) (n : ℕ) → Touc
 untouched most (Some m) n = omega arith
 untouched most None n = tt
 
--- as many as a bound that no file is needed for
-pub touched_alike : (most : ℕ) (files : Option Files) (before now : ℕ) → now ≤ before + most → TouchesAtMost (λ m. most) files before now
-touched_alike most (Some m) before now h = h
-touched_alike most None before now h = tt
-
 -- a file was opened, and its events were gone over
 pub opened_touched : (name : Text) (limits : LimitNumbers) (count : Files → List Event → ℕ) (held : List Event) (files : Option Files) (before mid now : ℕ)
     → IfSome files (λ m. opened held ≡ open_file name limits m) → TouchesAtMost (file_touches name limits) files before mid → TouchesAtMost (λ m. count m held) files mid now

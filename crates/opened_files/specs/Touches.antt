@@ -50,11 +50,11 @@ TouchesAtMost most None before now = ⊤
 
 -- a run of a command takes no more: an edit walks nothing but the load, and of a net no number is claimed
 abbrev pub CommandTakes : Command → LimitNumbers → Option Files → ℕ → ℕ → Type 0
-CommandTakes (create name) limits files before now = TouchesAtMost (λ m. 0) files before now
+CommandTakes (create name) limits files before now = now ≤ before
 CommandTakes (edit name agent) limits files before now = TouchesAtMost (file_touches name limits) files before now
 CommandTakes (show listing name) limits files before now =
     TouchesAtMost (λ m. file_touches name limits m + touches_over (listing_touches listing) (open_file name limits m)) files before now
 CommandTakes (merge name other) limits files before now =
     TouchesAtMost (λ m. file_touches name limits m + touches_over (merge_touches other limits m) (open_file name limits m)) files before now
-CommandTakes (make seed count) limits files before now = TouchesAtMost (λ m. made_touches limits seed count) files before now
+CommandTakes (make seed count) limits files before now = now ≤ before + made_touches limits seed count
 CommandTakes net limits files before now = ⊤

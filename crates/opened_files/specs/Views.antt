@@ -1,11 +1,13 @@
 -- What the code's values stand for.
 use Rattle.std.specs.Prelude.{◌≡◌, ◌≤◌, ⊤, ℕ, List, [], Result, Ok, Err, ◌⊎◌, string_bytes}
 use Rattle.ew_outside.specs.Counts.{Rose}
+use Rattle.ew_outside.specs.Seen.{SourceSeen}
 use Rattle.ew_model.specs.declared.event.Event.{Event}
 use Rattle.ew_model.specs.Kept.{ReplicaState}
 use Rattle.ew_model.specs.Limits.{LimitNumbers}
+use Rattle.command_table.specs.Reads.{LeavesInput, loads_of_all}
 use Rattle.command_table.specs.Refusals.{refusal_status}
-use Rattle.command_table.specs.Table.{Reply, prints, stores, refuses, Opened, opened, refused}
+use Rattle.command_table.specs.Table.{Text, Reply, prints, stores, refuses, Opened, opened, refused}
 use Rattle.command_texts.specs.Reasons.{refusal_view}
 use Rattle.opened_files.specs.declared.reply.Reply as code
 use Rattle.opened_files.specs.declared.reply.Reply.TheVariants as reply_is
@@ -56,6 +58,25 @@ MissesBy before now (Err _) = before ≤ now
 abbrev pub LostBy : {T : Type 0} → ℕ → ℕ → Result T Fault → Type 0
 LostBy before now (Err fault_is.Shelf) = (before ≤ now) × Rose before now
 LostBy before now result = now ≡ before
+
+-- unless the line is refused, one load was made of each of these files
+abbrev pub LoadsDone : List Text → ℕ → ℕ → code.Reply → Type 0
+LoadsDone names before now (reply_is.Prints _) = now ≡ loads_of_all names before
+LoadsDone names before now (reply_is.Stores _ _ _) = now ≡ loads_of_all names before
+LoadsDone names before now (reply_is.Refuses _) = ⊤
+
+-- and unless a load failed, or memory ran out
+abbrev pub LoadsAll : List Text → ℕ → ℕ → Result code.Reply Fault → Type 0
+LoadsAll names before now (Ok p) = LoadsDone names before now p
+LoadsAll names before now (Err fault_is.Shelf) = ⊤
+LoadsAll names before now (Err fault_is.OutOfMemory) = ⊤
+LoadsAll names before now (Err fault_is.Source) = now ≡ loads_of_all names before
+LoadsAll names before now (Err fault_is.Sink) = now ≡ loads_of_all names before
+
+-- at status 3 or 4, where the file is missing or bad, the input is as before
+abbrev pub ReadsNone : SourceSeen → SourceSeen → Result code.Reply Fault → Type 0
+ReadsNone old new (Ok p) = (reply_status p ≡ 3) ⊎ (reply_status p ≡ 4) → LeavesInput old new
+ReadsNone old new (Err _) = ⊤
 
 -- the statuses of a line that is taken and refused
 abbrev pub IsRefusal : ℕ → Type 0

@@ -2,7 +2,7 @@
 ghost use Rattle.std.specs.Prelude.{◌≡◌, ◌<◌, ◌^◌, length, nat_lt, IfSome, IfOk};
 ghost use Rattle.std.specs.FinMap.{get};
 ghost use Rattle.ew_model.specs.FileLaws.{AreBytes};
-ghost use Rattle.ew_outside.specs.Counts.{CountsFaults, next};
+ghost use Rattle.ew_outside.specs.Counts.{Asks, CountsFaults, next};
 ghost use Rattle.opened_files.specs.Loading.{LoadMisses, loaded_view};
 ghost use Rattle.command_table.specs.Loads.{whole_of};
 ghost use Rattle.command_table.specs.Possible.{KeepsTo};
@@ -35,6 +35,8 @@ pub fn load_whole<H: Shelf>(shelf: &mut H, name: &str, most: u64) -> Result<Load
     ensures misses { LoadMisses (H.seen shelf.old).misses (H.seen shelf.new).misses result }
     ensures loads { (H.seen shelf.new).loads ≡ next (H.seen shelf.old).loads }
     ensures lost { CountsFaults (H.seen shelf.old).lost (H.seen shelf.new).lost result }
+    ensures asked { Asks most (H.seen shelf.old).asked (H.seen shelf.new).asked }
+    ensures stores { (H.seen shelf.new).stores ≡ (H.seen shelf.old).stores }
 {
     match shelf.load(name, most as usize)? {
         None => Ok(Loaded::Missing),

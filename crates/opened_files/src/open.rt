@@ -17,7 +17,7 @@ ghost use Rattle.command_table.specs.Table.{judged, open_file, read_as, refused}
 ghost use Rattle.opened_files.specs.Reads.{IsLoadedAs, IsReadAs};
 ghost use Rattle.opened_files.specs.Views.{IsFileStatus, IsFresh, IsJudged, IsOpenable, LostBy, OpenMisses, ShelfCauses, graph_view, opened_view};
 ghost use Rattle.opened_files.specs.Touches.{TouchesAtMost, file_touches};
-ghost use Rattle.ew_outside.specs.Counts.{next};
+ghost use Rattle.ew_outside.specs.Counts.{Asks, next};
 
 use crate::give::give_events;
 use crate::load::{Loaded, load_whole};
@@ -146,6 +146,8 @@ fn load_events<H: Shelf>(
     ensures misses { OpenMisses (H.seen shelf.old).misses (H.seen shelf.new).misses result }
     ensures loads { (H.seen shelf.new).loads ≡ next (H.seen shelf.old).loads }
     ensures lost { LostBy (H.seen shelf.old).lost (H.seen shelf.new).lost result }
+    ensures asked { Asks (most_file_bytes limits.now.events) (H.seen shelf.old).asked (H.seen shelf.new).asked }
+    ensures stores { (H.seen shelf.new).stores ≡ (H.seen shelf.old).stores }
 {
     let most = most_bytes(limits);
     match load_whole(shelf, name, most)? {
@@ -175,6 +177,8 @@ pub fn open<H: Shelf, L: Ledger>(
     ensures misses { OpenMisses (H.seen shelf.old).misses (H.seen shelf.new).misses result }
     ensures loads { (H.seen shelf.new).loads ≡ next (H.seen shelf.old).loads }
     ensures lost { LostBy (H.seen shelf.old).lost (H.seen shelf.new).lost result }
+    ensures asked { Asks (most_file_bytes limits.now.events) (H.seen shelf.old).asked (H.seen shelf.new).asked }
+    ensures stores { (H.seen shelf.new).stores ≡ (H.seen shelf.old).stores }
     ensures most { TouchesAtMost (file_touches name.now limits.now) (H.seen shelf.old).files steps.old steps.new }
 {
     match load_events(alloc, name, limits, shelf)? {
@@ -199,6 +203,8 @@ pub fn open_graph<H: Shelf, L: Ledger>(
     ensures misses { OpenMisses (H.seen shelf.old).misses (H.seen shelf.new).misses result }
     ensures loads { (H.seen shelf.new).loads ≡ next (H.seen shelf.old).loads }
     ensures lost { LostBy (H.seen shelf.old).lost (H.seen shelf.new).lost result }
+    ensures asked { Asks (most_file_bytes limits.now.events) (H.seen shelf.old).asked (H.seen shelf.new).asked }
+    ensures stores { (H.seen shelf.new).stores ≡ (H.seen shelf.old).stores }
     ensures most { TouchesAtMost (file_touches name.now limits.now) (H.seen shelf.old).files steps.old steps.new }
 {
     match load_events(alloc, name, limits, shelf)? {

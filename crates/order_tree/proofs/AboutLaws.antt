@@ -342,10 +342,10 @@ module _ {R : Type 0} (kids : List (Tree R)) (k count before visits : ℕ) (h : 
           length-append kid.pairs (all_pairs (λ (t : Tree R). t.pairs) (drop (k + 1) kids)),
         )
 
-    pub counting_more : (own after : ℕ) → own ≡ length kid.pairs → visits ≤ after → after + 1 ≤ visits + 2 * length kid.pairs → IsCounting (k + 1) kids (count + own) before after
+    pub counting_more : (own after : ℕ) → own ≡ length kid.pairs → length kid.pairs + 16 * visits ≤ 16 * after → after + 1 ≤ visits + 2 * length kid.pairs → IsCounting (k + 1) kids (count + own) before after
     counting_more own after same grows cost =
         let more = ap length (parts_more (λ (t : Tree R). t.pairs) kids k kid lt is) ∙ length-append (all_pairs (λ (t : Tree R). t.pairs) (take k kids)) kid.pairs in
-        record { count_is = omega (arith, h.count_is, same, more); some = omega (arith, h.some, grows); cost = omega (arith, h.cost, cost, same) }
+        record { count_is = omega (arith, h.count_is, same, more); some = omega (arith, h.some, grows, same); cost = omega (arith, h.cost, cost, same) }
 
   pub counting_all : length kids ≤ k → count ≡ length (all_pairs (λ t. t.pairs) kids)
   counting_all all = h.count_is ∙ ap (λ (ks : List (Tree R)). length (all_pairs (λ t. t.pairs) ks)) (take_all k kids all)

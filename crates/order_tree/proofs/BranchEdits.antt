@@ -4,15 +4,15 @@ use Rattle.std.specs.Prelude.{is_some, Result, Ok, Err, IfOk, OnErr, IsErr}
 use Rattle.std.proofs.lemmas.Bool.{false≢true}
 use Rattle.std.specs.declared.vec.Vec.{Vec}
 use Rattle.std.specs.declared.alloc.Global.{Global}
-use Rattle.order_tree.specs.Pairs.{Tree}
+use Rattle.order_tree.specs.Pairs.{Tree, IsDepthOf}
 use Rattle.order_tree.specs.Blocks.{IsHalved}
 use Rattle.order_tree.specs.Shape.{AllBelow}
 use Rattle.order_tree.specs.Rights.{IsLeft, above_kids}
 
 module _ {R : Type 0} where
-  pub halved_enough : (above spares : ℕ) (left : List (ℕ × R)) (tail : Option (Vec (ℕ × R) Global)) → IsHalved above left tail spares → 2 ^ 1 ≤ 2 * length left
-  halved_enough above spares left None h = omega (arith, h.0)
-  halved_enough above spares left (Some b) h = omega (arith, h.0)
+  pub halved_enough : (above spares : ℕ) (left : List (ℕ × R)) (tail : Option (Vec (ℕ × R) Global)) → IsHalved above left tail spares → IsDepthOf 1 (length left)
+  halved_enough above spares left None h = (omega (arith, h.0), omega (arith, h.1))
+  halved_enough above spares left (Some b) h = (omega (arith, h.0), omega (arith, h.1))
 
   pub halved_left : (above spares : ℕ) (left : List (ℕ × R)) (tail : Option (Vec (ℕ × R) Global)) (right : Option (Tree R)) → is_some right ≡ is_some tail → IsHalved above left tail spares → IsLeft above right spares
   halved_left above spares left None None e h = h.2

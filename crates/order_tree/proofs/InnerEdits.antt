@@ -5,7 +5,7 @@ use Rattle.ew_model.specs.declared.run.Run.{Ghosts}
 use Rattle.order_tree.specs.declared.summary.Sums.{Sums}
 use Rattle.order_tree.specs.declared.edit.Edit.{Edit}
 use Rattle.order_tree.specs.declared.edit.Edit.TheVariants.{Insert, Split}
-use Rattle.order_tree.specs.Pairs.{Tree, IsRising, total, first_label, next_label, SumsFit}
+use Rattle.order_tree.specs.Pairs.{Tree, IsRising, total, first_label, next_label, SumsFit, IsDepthOf}
 use Rattle.order_tree.specs.Parts.{all_pairs, sums_of, IsMoved}
 use Rattle.order_tree.specs.Shape.{AllBelow}
 use Rattle.order_tree.specs.Edits.{Replaces, IsPlaced, IsBetween, IsFree, IsEdited, StaysFit}
@@ -40,7 +40,7 @@ module _ {R : Type 0} where
   grown_some (x ∷ xs) zero w b lt = refl
   grown_some (x ∷ xs) (suc k) w b lt = let more : suc k + 1 ≡ suc (k + 1) = omega arith in rw more (ap (λ (ys : List (Tree R)). x ∷ ys) (grown_some xs k w b (omega arith)))
 
-  pub AllBelow-grown : (d : ℕ) (ks : List (Tree R)) (k : ℕ) (kid w : Tree R) (right : Option (Tree R)) → AllBelow d ks → k < length ks → kid ≡ slice_index_or ks k kid → w.depth ≡ kid.depth → 2 ^ w.depth ≤ 2 * length w.pairs → IsLike w.depth right
+  pub AllBelow-grown : (d : ℕ) (ks : List (Tree R)) (k : ℕ) (kid w : Tree R) (right : Option (Tree R)) → AllBelow d ks → k < length ks → kid ≡ slice_index_or ks k kid → w.depth ≡ kid.depth → IsDepthOf w.depth (length w.pairs) → IsLike w.depth right
       → AllBelow d (grown ks k w right)
   AllBelow-grown d [] k kid w right h lt is same enough like = absurd (omega (arith, lt))
   AllBelow-grown d (x ∷ xs) zero kid w None h lt is same enough like = (ap (λ (n : ℕ). n + 1) (same ∙ ap (λ (t : Tree R). t.depth) is) ∙ h.0, enough, h.2)
@@ -175,7 +175,7 @@ module _ {R : Type 0} (G : Ghosts R) (kids : List (Tree R)) (k label bound most 
         gained_is = h.gained_is;
       }
 
-  pub below_up : (d : ℕ) (w : Tree R) (right : Option (Tree R)) (after : List (Tree R)) → after ≡ with_right (slice_set kids k w) (k + 1) right → AllBelow d kids → w.depth ≡ kid.depth → 2 ^ w.depth ≤ 2 * length w.pairs → IsLike kid.depth right → AllBelow d after
+  pub below_up : (d : ℕ) (w : Tree R) (right : Option (Tree R)) (after : List (Tree R)) → after ≡ with_right (slice_set kids k w) (k + 1) right → AllBelow d kids → w.depth ≡ kid.depth → IsDepthOf w.depth (length w.pairs) → IsLike kid.depth right → AllBelow d after
   below_up d w right after e h same enough like =
       subst (λ (ks : List (Tree R)). AllBelow d ks) (sym (e ∙ with_right_grown kids k w right lt))
       (AllBelow-grown d kids k kid w right h lt is same enough (subst (λ (n : ℕ). IsLike n right) (sym same) like))

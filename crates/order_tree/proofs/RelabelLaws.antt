@@ -6,7 +6,7 @@ use Rattle.std.proofs.lemmas.Grind.{drop_more_same}
 use Rattle.ew_model.specs.declared.run.Run.{Ghosts}
 use Rattle.std.specs.declared.vec.Vec.{Vec}
 use Rattle.std.specs.declared.alloc.Global.{Global}
-use Rattle.order_tree.specs.Pairs.{Tree, total}
+use Rattle.order_tree.specs.Pairs.{Tree, total, IsDepthOf}
 use Rattle.order_tree.specs.Shape.{AllBelow}
 use Rattle.order_tree.specs.declared.summary.Sums.{Sums}
 use Rattle.order_tree.specs.declared.relabel.Reached.{Reached}
@@ -148,7 +148,7 @@ module _ {R : Type 0} where
   AllBelow-set d (x ∷ xs) zero kid w h lt is deep long =
       let same : w.depth ≡ x.depth = deep ∙ ap (λ (t : Tree R). t.depth) is in
       let many : length w.pairs ≡ length x.pairs = long ∙ ap (λ (t : Tree R). length t.pairs) is in
-      (ap (λ (n : ℕ). n + 1) same ∙ h.0, subst (λ (n : ℕ). 2 ^ w.depth ≤ 2 * n) (sym many) (subst (λ (n : ℕ). 2 ^ n ≤ 2 * length x.pairs) (sym same) h.1), h.2)
+      (ap (λ (n : ℕ). n + 1) same ∙ h.0, subst (λ (n : ℕ). IsDepthOf w.depth n) (sym many) (subst (λ (n : ℕ). IsDepthOf n (length x.pairs)) (sym same) h.1), h.2)
   AllBelow-set d (x ∷ xs) (suc k) kid w h lt is deep long = (h.0, h.1, AllBelow-set d xs k kid w h.2 (omega (arith, lt)) is deep long)
 
   pub relabelling_none : (known : R → ℕ) (step low : ℕ) (old now : List (Tree R)) (noted : Vec (ℕ × (ℕ × R)) Global) (at : Reached) (visits : ℕ) → now ≡ old → at.last ≡ low → at.last_known ≡ 0 → IsRelabelling known step low 0 old now noted noted at visits visits
@@ -165,7 +165,7 @@ module _ {R : Type 0} where
       (h : IsRelabelling known step low k old now noted given at before visits) where
     pub relabelling_more : (w : Tree R) (more : Vec (ℕ × (ℕ × R)) Global) (own next : Reached) (after : ℕ) → w.pairs ≡ relabelled step at.last kid.pairs → w.depth ≡ kid.depth → more.items ≡ given.items ++ renamed step at.last kid.pairs
         → vec_capacity given ≤ vec_capacity more → own.last ≡ reached step at.last kid.pairs → own.last_known ≡ last_known known w.pairs → next.last ≡ own.last → next.last_known ≡ (if nat_eq own.last_known 0 then at.last_known else own.last_known)
-        → visits ≤ after → after + 1 ≤ visits + 2 * length kid.pairs → IsRelabelling known step low (k + 1) old (slice_set now k w) noted more next before after
+        → length kid.pairs + 16 * visits ≤ 16 * after → after + 1 ≤ visits + 2 * length kid.pairs → IsRelabelling known step low (k + 1) old (slice_set now k w) noted more next before after
     relabelling_more w more own next after pairs deep notes room end found same later grows cost =
         let there : kid ≡ slice_index_or old k kid = same_there old now k kid lt h.onward.long h.onward.rest is in
         let longer = ap length (parts_more (λ (t : Tree R). t.pairs) old k kid lt there) ∙ length-append (all_pairs (λ (t : Tree R). t.pairs) (take k old)) kid.pairs in
@@ -173,7 +173,7 @@ module _ {R : Type 0} where
           onward = onward (λ (t : Tree R). t.pairs) known step low old now noted.items given.items at k kid lt is h.onward w more.items own next pairs notes end found same later;
           below = λ d all. AllBelow-set d now k kid w (h.below d all) (omega (arith, lt, h.onward.long)) is deep (ap length pairs ∙ length-relabelled step at.last kid.pairs);
           capacity = omega (arith, h.capacity, room);
-          some = omega (arith, h.some, grows);
+          some = omega (arith, h.some, grows, longer);
           cost = omega (arith, h.cost, cost, longer);
         }
 

@@ -34,10 +34,10 @@ module _ {R : Type 0} where
   IsWithin t before after (Crowded count) = after + 1 ≤ before + 2 * length t.pairs
   IsWithin t before after NoMemory = after ≤ before + (t.depth + 4 * length t.pairs)
 
-  -- the runs of the first k branches are counted, with at most two visits for each, one less for each branch
+  -- the runs of the first k branches are counted, with a visit for each sixteen of them, and at most two for each, one less for each branch
   pub record IsCounting (k : ℕ) (kids : List (Tree R)) (count before visits : ℕ) : Type 0 where
     pub count_is : count ≡ length (all_pairs (λ t. t.pairs) (take k kids))
-    pub some : before ≤ visits
+    pub some : count + 16 * before ≤ 16 * visits
     pub cost : visits + k ≤ before + 2 * count
 
   -- nothing more was visited where the answer counts the runs

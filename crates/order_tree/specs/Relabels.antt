@@ -32,10 +32,10 @@ module _ {R : Type 0} where
     pub last_is : at.last ≡ reached step low (all_pairs pairs (take k old))
     pub known_is : at.last_known ≡ last_known known (all_pairs pairs (take k now))
 
-  -- the same of branches: they stay as deep, the list of what is noted keeps its room, and the visits with one more for each of the k are at most two for each run with a new label
+  -- the same of branches: they stay as deep, the list of what is noted keeps its room, there is a visit for each sixteen runs with a new label, and the visits with one more for each of the k are at most two for each such run
   pub record IsRelabelling (known : R → ℕ) (step low k : ℕ) (old now : List (Tree R)) (noted given : Vec (ℕ × (ℕ × R)) Global) (at : Reached) (before visits : ℕ) : Type 0 where
     pub onward : IsOnward (λ t. t.pairs) known step low k old now noted.items given.items at
     pub below : (d : ℕ) → AllBelow d old → AllBelow d now
     pub capacity : vec_capacity noted ≤ vec_capacity given
-    pub some : before ≤ visits
+    pub some : length (all_pairs (λ t. t.pairs) (take k old)) + 16 * before ≤ 16 * visits
     pub cost : visits + k ≤ before + 2 * length (all_pairs (λ t. t.pairs) (take k old))

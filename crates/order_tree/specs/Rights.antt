@@ -1,11 +1,11 @@
 -- The second half of a branch that may have been cut in two. (No public contract cites this.)
-use Rattle.std.specs.Prelude.{◌≡◌, ℕ, ◌+◌, ◌*◌, ◌^◌, ◌<◌, ◌≤◌, Option, Some, None, List, [], ◌++◌, length, insert, vec_capacity, nat_lt, if◌then◌else◌}
+use Rattle.std.specs.Prelude.{◌≡◌, ℕ, ◌+◌, ◌<◌, ◌≤◌, Option, Some, None, List, [], ◌++◌, length, insert, vec_capacity, nat_lt, if◌then◌else◌}
 use Rattle.std.specs.declared.vec.Vec.{Vec}
 use Rattle.std.specs.declared.alloc.Global.{Global}
 use Rattle.ew_model.specs.declared.run.Run.{Ghosts}
 use Rattle.order_tree.specs.declared.summary.Sums.{Sums}
 use Rattle.order_tree.specs.declared.edit.Edit.{Edit}
-use Rattle.order_tree.specs.Pairs.{Tree}
+use Rattle.order_tree.specs.Pairs.{Tree, IsDepthOf}
 use Rattle.order_tree.specs.Edits.{IsEdited}
 
 -- a block has so many parts or more, up to sixteen, and room for sixteen
@@ -18,10 +18,10 @@ module _ {R : Type 0} where
   pairs_of_right None = []
   pairs_of_right (Some b) = b.pairs
 
-  -- it is so deep, and has runs enough
+  -- it is so deep, and has as many runs as that depth allows
   abbrev pub IsLike : ℕ → Option (Tree R) → Type 0
   IsLike d None = Unit {0}
-  IsLike d (Some b) = (b.depth ≡ d) × (2 ^ b.depth ≤ 2 * length b.pairs)
+  IsLike d (Some b) = (b.depth ≡ d) × IsDepthOf b.depth (length b.pairs)
 
   -- it finds a place among so many branches, or there is a spare block
   abbrev pub HasSpare : Option (Tree R) → ℕ → ℕ → Type 0
@@ -42,7 +42,7 @@ module _ {R : Type 0} where
   pub record IsBranchEdit (G : Ghosts R) (edit : Edit R) (bound label above : ℕ) (old new : Tree R) (right : Option (Tree R)) (own : ℕ) (lost gained : Sums) (spares : ℕ) : Type 0 where
     pub edited : IsEdited G edit bound label old.pairs (new.pairs ++ pairs_of_right right) own lost gained
     pub depth : new.depth ≡ old.depth
-    pub enough : 2 ^ new.depth ≤ 2 * length new.pairs
+    pub enough : IsDepthOf new.depth (length new.pairs)
     pub like : IsLike old.depth right
     pub left : IsLeft above right spares
 

@@ -1,10 +1,10 @@
 -- What a branch of the tree is seen as, and what holds of it. (No public contract cites this.)
-use Rattle.std.specs.Prelude.{◌≡◌, ℕ, ◌+◌, ◌*◌, ◌^◌, ◌≤◌, List, [], ◌∷◌, length, vec_capacity}
+use Rattle.std.specs.Prelude.{◌≡◌, ℕ, ◌+◌, ◌≤◌, List, [], ◌∷◌, length, vec_capacity}
 use Rattle.ew_model.specs.declared.run.Run.{Ghosts}
 use Rattle.order_tree.specs.declared.summary.Summary.{Summary}
 use Rattle.order_tree.specs.declared.branch.Node.{Node}
 use Rattle.order_tree.specs.declared.branch.Node.TheVariants.{Leaf, Inner}
-use Rattle.order_tree.specs.Pairs.{Tree}
+use Rattle.order_tree.specs.Pairs.{Tree, IsDepthOf}
 use Rattle.order_tree.specs.Parts.{all_pairs, summary_of}
 
 module _ {R : Type 0} where
@@ -13,10 +13,10 @@ module _ {R : Type 0} where
   pairs_in (Leaf ps) = ps.items
   pairs_in (Inner kids) = all_pairs (λ k. k.pairs) kids.items
 
-  -- each branch is one level below d, and has runs enough for its depth
+  -- each branch is one level below d, and has as many runs as its depth allows
   abbrev pub AllBelow : ℕ → List (Tree R) → Type 0
   AllBelow d [] = Unit {0}
-  AllBelow d (k ∷ ks) = (k.depth + 1 ≡ d) × (2 ^ k.depth ≤ 2 * length k.pairs) × AllBelow d ks
+  AllBelow d (k ∷ ks) = (k.depth + 1 ≡ d) × IsDepthOf k.depth (length k.pairs) × AllBelow d ks
 
   -- a leaf has one to sixteen runs, another node two to sixteen branches that are equally deep; there is room for sixteen
   abbrev pub IsNode : ℕ → Node R → Type 0

@@ -72,7 +72,7 @@ pub fn place_about<R: Run>(kids: &[Branch<R>], depth: u32, label: u64, most: u64
 fn count_in<R: Run, L: Ledger>(kids: &[Branch<R>], visits: &mut Steps<L>) -> usize
     requires { length (all_pairs (λ k. k.pairs) kids.now) < 2 ^ 32 }
     ensures count { result ≡ length (all_pairs (λ k. k.pairs) kids.now) }
-    ensures onward { visits.old ≤ visits.new }
+    ensures onward { length (all_pairs (λ k. k.pairs) kids.now) + 16 * visits.old ≤ 16 * visits.new }
     ensures cost { visits.new + length kids.now ≤ visits.old + 2 * length (all_pairs (λ k. k.pairs) kids.now) }
 {
     let mut count = 0;
@@ -87,7 +87,7 @@ fn count_others<R: Run, L: Ledger>(kids: &[Branch<R>], k: usize, visits: &mut St
     requires within { k < length kids.now }
     requires few { length (all_pairs (λ k. k.pairs) kids.now) < 2 ^ 32 }
     ensures count { (d : Tree R) → result + length (slice_index_or kids.now k d).pairs ≡ length (all_pairs (λ k. k.pairs) kids.now) }
-    ensures onward { visits.old ≤ visits.new }
+    ensures onward { result + 16 * visits.old ≤ 16 * visits.new }
     ensures cost { visits.new + length kids.now ≤ visits.old + 2 * result + 1 }
 {
     let before = count_in(&kids[..k], visits);
@@ -103,7 +103,7 @@ pub fn count_beside<R: Run, L: Ledger>(
     requires within { k < length kids.now.items }
     requires few { length (all_pairs (λ k. k.pairs) kids.now.items) < 2 ^ 32 }
     ensures count { (d : Tree R) → result + length (slice_index_or kids.now.items k d).pairs ≡ length (all_pairs (λ k. k.pairs) kids.now.items) }
-    ensures onward { visits.old ≤ visits.new }
+    ensures onward { result + 16 * visits.old ≤ 16 * visits.new }
     ensures cost { visits.new + length kids.now.items ≤ visits.old + 2 * result + 1 }
 {
     count_others(kids.as_slice(), k, visits)

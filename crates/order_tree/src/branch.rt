@@ -89,6 +89,7 @@ impl<R: Run> Branch<R> {
     pub fn depth(&self) -> u32
         ensures value { result ≡ self.now.depth }
         ensures bound { 2 ^ result ≤ 2 * length self.now.pairs }
+        ensures wide { length self.now.pairs ≤ 16 ^ result }
     {
         let _ = &self.node;
         self.depth
@@ -99,8 +100,7 @@ impl<R: Run> Branch<R> {
         requires rising { IsRising self.now.pairs }
         requires held { (r : R) × Contains self.now.pairs (label, r) }
         ensures run { Contains self.now.pairs (label, result.now) }
-        ensures onward { visits.old ≤ visits.new }
-        ensures cost { visits.new ≤ visits.old + self.now.depth }
+        ensures cost { visits.new ≡ visits.old + self.now.depth }
     {
         visits.tick();
         match &self.node {
@@ -114,8 +114,7 @@ impl<R: Run> Branch<R> {
         requires rising { IsRising self.now.pairs }
         requires first { first_or_zero self.now.pairs ≤ label }
         ensures last { EndsWith (up_to self.now.pairs label) result.0 result.1.now }
-        ensures onward { visits.old ≤ visits.new }
-        ensures cost { visits.new ≤ visits.old + self.now.depth }
+        ensures cost { visits.new ≡ visits.old + self.now.depth }
     {
         visits.tick();
         match &self.node {
@@ -131,8 +130,7 @@ impl<R: Run> Branch<R> {
         requires rising { IsRising self.now.pairs }
         requires within { i < total (count_of R.Run count) self.now.pairs }
         ensures place { IsPlace (count_of R.Run count) self.now.pairs i result.0 result.1 }
-        ensures onward { visits.old ≤ visits.new }
-        ensures cost { visits.new ≤ visits.old + self.now.depth }
+        ensures cost { visits.new ≡ visits.old + self.now.depth }
     {
         visits.tick();
         match &self.node {
@@ -152,8 +150,7 @@ impl<R: Run> Branch<R> {
         ensures place { IsPlace R.prepared self.now.pairs i result.label result.place }
         ensures run { Contains self.now.pairs (result.label, result.run.now) }
         ensures before { result.before ≡ total R.effect (lower self.now.pairs result.label) }
-        ensures onward { visits.old ≤ visits.new }
-        ensures cost { visits.new ≤ visits.old + self.now.depth }
+        ensures cost { visits.new ≡ visits.old + self.now.depth }
     {
         visits.tick();
         match &self.node {
@@ -174,8 +171,7 @@ impl<R: Run> Branch<R> {
         requires rising { IsRising self.now.pairs }
         requires small { total R.effect self.now.pairs < 2 ^ 32 }
         ensures effect { result ≡ total R.effect (up_to self.now.pairs label) }
-        ensures onward { visits.old ≤ visits.new }
-        ensures cost { visits.new ≤ visits.old + self.now.depth }
+        ensures cost { visits.new ≡ visits.old + self.now.depth }
     {
         visits.tick();
         match &self.node {
@@ -192,8 +188,7 @@ impl<R: Run> Branch<R> {
         requires rising { IsRising self.now.pairs }
         requires some { label < last_known R.known self.now.pairs }
         ensures next { first_label (counted_after R.known self.now.pairs label) ≡ Some result }
-        ensures onward { visits.old ≤ visits.new }
-        ensures cost { visits.new ≤ visits.old + self.now.depth }
+        ensures cost { visits.new ≡ visits.old + self.now.depth }
     {
         visits.tick();
         match &self.node {
@@ -208,8 +203,7 @@ impl<R: Run> Branch<R> {
     pub fn last_free<L: Ledger>(&self, label: u64, most: u64, visits: &mut Steps<L>) -> u64
         requires rising { IsRising self.now.pairs }
         ensures free { result + 1 ≡ next_label (most + 1) self.now.pairs label }
-        ensures onward { visits.old ≤ visits.new }
-        ensures cost { visits.new ≤ visits.old + self.now.depth }
+        ensures cost { visits.new ≡ visits.old + self.now.depth }
     {
         visits.tick();
         match &self.node {
@@ -285,8 +279,7 @@ impl<R: Run + Drop> Branch<R> {
         requires above { way.above + self.old.depth < 2 ^ 32 }
         ensures edited { IfOk result (λ d. IsBranchEdit R.Run edit (way.most + 1) way.label way.above self.old self.new d.right d.own d.lost d.gained spares.new) }
         ensures err { OnErr result (self.new ≡ self.old) }
-        ensures onward { visits.old ≤ visits.new }
-        ensures cost { visits.new ≤ visits.old + self.old.depth }
+        ensures cost { visits.new ≡ visits.old + self.old.depth }
     {
         visits.tick();
         match &mut self.node {
@@ -340,8 +333,7 @@ impl<R: Run + Drop> Branch<R> {
         ensures pairs { self.new.pairs ≡ changed self.old.pairs label run }
         ensures depth { self.new.depth ≡ self.old.depth }
         ensures moved { IsMoved (sums_of R.Run self.old.pairs) result.lost result.gained (sums_of R.Run self.new.pairs) }
-        ensures onward { visits.old ≤ visits.new }
-        ensures cost { visits.new ≤ visits.old + self.old.depth }
+        ensures cost { visits.new ≡ visits.old + self.old.depth }
     {
         visits.tick();
         match &mut self.node {
@@ -377,7 +369,7 @@ impl<R: Run + Copy> Branch<R> {
         ensures capacity { vec_capacity given.old ≤ vec_capacity given.new }
         ensures last { result.last ≡ reached step before self.old.pairs }
         ensures known { result.last_known ≡ last_known R.known self.new.pairs }
-        ensures onward { visits.old ≤ visits.new }
+        ensures onward { length self.old.pairs + 16 * visits.old ≤ 16 * visits.new }
         ensures cost { visits.new + 1 ≤ visits.old + 2 * length self.old.pairs }
     {
         visits.tick();
@@ -417,7 +409,7 @@ impl<R: Run> Branch<R> {
     pub fn count<L: Ledger>(&self, visits: &mut Steps<L>) -> usize
         requires { length self.now.pairs < 2 ^ 32 }
         ensures count { result ≡ length self.now.pairs }
-        ensures onward { visits.old ≤ visits.new }
+        ensures onward { length self.now.pairs + 16 * visits.old ≤ 16 * visits.new }
         ensures cost { visits.new + 1 ≤ visits.old + 2 * length self.now.pairs }
     {
         visits.tick();
@@ -450,7 +442,7 @@ impl<R: Run + Copy> Branch<R> {
         ensures tried { IsTried (most + 1) label self.old self.new result }
         ensures runs { runs self.new.pairs ≡ runs self.old.pairs }
         ensures depth { self.new.depth ≡ self.old.depth }
-        ensures onward { visits.old ≤ visits.new }
+        ensures onward { visits.old + self.old.depth ≤ visits.new }
         ensures cost { IsWithin self.old visits.old visits.new result }
     {
         visits.tick();

@@ -33,8 +33,7 @@ pub fn edit_root<R: Run + Drop, L: Ledger>(
     requires spares { spares.old ≡ 0 }
     ensures edited { IfOk result (λ own. IsTreeEdit R.Run edit label (tree_of root.old) (tree_of root.new) own) }
     ensures err { OnErr result (tree_of root.new ≡ tree_of root.old) }
-    ensures onward { visits.old ≤ visits.new }
-    ensures cost { visits.new ≤ visits.old + (tree_of root.old).depth }
+    ensures cost { visits.new ≡ visits.old + (tree_of root.old).depth }
 {
     let Some(branch) = root else { unreachable!() };
     let way = Way {
@@ -88,8 +87,7 @@ pub fn insert_run<R: Run + Drop, L: Ledger>(
     requires spares { spares.old ≡ 0 }
     ensures edited { IfOk result (λ own. IsTreeEdit R.Run (Edit.Insert run) label (tree_of root.old) (tree_of root.new) own) }
     ensures err { OnErr result (tree_of root.new ≡ tree_of root.old) }
-    ensures onward { visits.old ≤ visits.new }
-    ensures cost { visits.new ≤ visits.old + (tree_of root.old).depth }
+    ensures cost { visits.new ≡ visits.old + (tree_of root.old).depth }
 {
     if root.is_none() {
         return plant(root, label, run, spares);
@@ -131,7 +129,7 @@ pub fn relabel_root<R: Run + Copy, L: Ledger>(
     ensures pairs { (tree_of root.new).pairs ≡ relabelled step 0 (tree_of root.old).pairs }
     ensures depth { (tree_of root.new).depth ≡ (tree_of root.old).depth }
     ensures given { given.new.items ≡ given.old.items ++ renamed step 0 (tree_of root.old).pairs }
-    ensures onward { visits.old ≤ visits.new }
+    ensures onward { length (tree_of root.old).pairs + 16 * visits.old ≤ 16 * visits.new }
     ensures cost { visits.new ≤ visits.old + 2 * length (tree_of root.old).pairs }
 {
     let Some(branch) = root else { return };

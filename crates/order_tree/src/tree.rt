@@ -73,6 +73,7 @@ impl<R: Run> OrderTree<R> {
     pub fn depth(&self) -> u32
         ensures value { result ≡ self.now.depth }
         ensures bound { 0 < length self.now.pairs → 2 ^ result ≤ 2 * length self.now.pairs }
+        ensures wide { length self.now.pairs ≤ 16 ^ result }
         ensures none { self.now.pairs ≡ [] → result ≡ 0 }
     {
         match &self.root {
@@ -85,8 +86,7 @@ impl<R: Run> OrderTree<R> {
     pub fn locate<L: Ledger>(&self, label: u64, visits: &mut Steps<L>) -> &R
         requires { Contains (labels self.now.pairs) label }
         ensures run { Contains self.now.pairs (label, result.now) }
-        ensures onward { visits.old ≤ visits.new }
-        ensures cost { visits.new ≤ visits.old + self.now.depth }
+        ensures cost { visits.new ≡ visits.old + self.now.depth }
     {
         let Some(root) = &self.root else {
             unreachable!()
@@ -98,8 +98,8 @@ impl<R: Run> OrderTree<R> {
     pub fn ahead<L: Ledger>(&self, label: u64, visits: &mut Steps<L>) -> Option<(u64, &R)>
         ensures some { IfSome result (λ p. EndsWith (lower self.now.pairs label) p.0 p.1.now) }
         ensures none { IfNone result (lower self.now.pairs label ≡ []) }
-        ensures onward { visits.old ≤ visits.new }
-        ensures cost { visits.new ≤ visits.old + self.now.depth }
+        ensures cost { IfSome result (λ _. visits.new ≡ visits.old + self.now.depth) }
+        ensures idle { IfNone result (visits.new ≡ visits.old) }
     {
         match &self.root {
             Some(root) if root.first() < label => Some(root.last_up_to(label - 1, visits)),
@@ -111,8 +111,7 @@ impl<R: Run> OrderTree<R> {
     pub fn find_prepared<L: Ledger>(&self, i: u32, visits: &mut Steps<L>) -> (u64, u32)
         requires { i < total R.prepared self.now.pairs }
         ensures place { IsPlace R.prepared self.now.pairs i result.0 result.1 }
-        ensures onward { visits.old ≤ visits.new }
-        ensures cost { visits.new ≤ visits.old + self.now.depth }
+        ensures cost { visits.new ≡ visits.old + self.now.depth }
     {
         let Some(root) = &self.root else {
             unreachable!()
@@ -127,8 +126,7 @@ impl<R: Run> OrderTree<R> {
         ensures place { IsPlace R.prepared self.now.pairs i result.label result.place }
         ensures run { Contains self.now.pairs (result.label, result.run.now) }
         ensures before { result.before ≡ total R.effect (lower self.now.pairs result.label) }
-        ensures onward { visits.old ≤ visits.new }
-        ensures cost { visits.new ≤ visits.old + self.now.depth }
+        ensures cost { visits.new ≡ visits.old + self.now.depth }
     {
         let Some(root) = &self.root else {
             unreachable!()
@@ -140,8 +138,7 @@ impl<R: Run> OrderTree<R> {
     pub fn find_effect<L: Ledger>(&self, i: u32, visits: &mut Steps<L>) -> (u64, u32)
         requires { i < total R.effect self.now.pairs }
         ensures place { IsPlace R.effect self.now.pairs i result.0 result.1 }
-        ensures onward { visits.old ≤ visits.new }
-        ensures cost { visits.new ≤ visits.old + self.now.depth }
+        ensures cost { visits.new ≡ visits.old + self.now.depth }
     {
         let Some(root) = &self.root else {
             unreachable!()
@@ -152,8 +149,8 @@ impl<R: Run> OrderTree<R> {
     /// How many characters of the text are in runs with lower labels. The label need not be that of a run.
     pub fn effect_before<L: Ledger>(&self, label: u64, visits: &mut Steps<L>) -> u32
         ensures effect { result ≡ total R.effect (lower self.now.pairs label) }
-        ensures onward { visits.old ≤ visits.new }
-        ensures cost { visits.new ≤ visits.old + self.now.depth }
+        ensures cost { 0 < label → visits.new ≡ visits.old + self.now.depth }
+        ensures idle { label ≡ 0 → visits.new ≡ visits.old }
     {
         match &self.root {
             Some(root) if label > 0 => root.effect_up_to(label - 1, visits),
@@ -164,8 +161,8 @@ impl<R: Run> OrderTree<R> {
     /// The least greater label of a run with a character that is inserted in what is prepared; None where there is none.
     pub fn next_known<L: Ledger>(&self, label: u64, visits: &mut Steps<L>) -> Option<u64>
         ensures next { result ≡ first_label (counted_after R.known self.now.pairs label) }
-        ensures onward { visits.old ≤ visits.new }
-        ensures cost { visits.new ≤ visits.old + self.now.depth }
+        ensures cost { IfSome result (λ _. visits.new ≡ visits.old + self.now.depth) }
+        ensures idle { IfNone result (visits.new ≡ visits.old) }
     {
         match &self.root {
             Some(root) if label < root.last_known() => Some(root.next_known(label, visits)),
@@ -176,8 +173,7 @@ impl<R: Run> OrderTree<R> {
     /// Whether a label is free between this one and the next, or behind it where there is no next.
     pub fn has_room<L: Ledger>(&self, label: u64, visits: &mut Steps<L>) -> bool
         ensures room { IsTrue result ↔ HasRoom self.now.pairs label }
-        ensures onward { visits.old ≤ visits.new }
-        ensures cost { visits.new ≤ visits.old + self.now.depth }
+        ensures cost { visits.new ≡ visits.old + self.now.depth }
     {
         label < self.last_free(label, visits)
     }
@@ -195,8 +191,7 @@ impl<R: Run> OrderTree<R> {
         ensures above { IfSome result (λ own. label < own) }
         ensures within { IfSome result (λ own. own < next_label (2 ^ 64) self.now.pairs label) }
         ensures none { IfNone result (HasRoom self.now.pairs label → ⊥) }
-        ensures onward { visits.old ≤ visits.new }
-        ensures cost { visits.new ≤ visits.old + self.now.depth }
+        ensures cost { visits.new ≡ visits.old + self.now.depth }
     {
         let most = self.last_free(label, visits);
         if label < most {
@@ -209,8 +204,7 @@ impl<R: Run> OrderTree<R> {
     /// The greatest label that is free before the next run.
     fn last_free<L: Ledger>(&self, label: u64, visits: &mut Steps<L>) -> u64
         ensures free { result + 1 ≡ next_label (2 ^ 64) self.now.pairs label }
-        ensures onward { visits.old ≤ visits.new }
-        ensures cost { visits.new ≤ visits.old + self.now.depth }
+        ensures cost { visits.new ≡ visits.old + self.now.depth }
     {
         match &self.root {
             None => u64::MAX,
@@ -235,8 +229,7 @@ impl<R: Run + Drop> OrderTree<R> {
         ensures pairs { IfOk result (λ own. self.new.pairs ≡ inserted self.old.pairs label own run) }
         ensures between { IfOk result (λ own. (label < own) × (own < next_label (2 ^ 64) self.old.pairs label)) }
         ensures err { OnErr result (self.new ≡ self.old) }
-        ensures onward { visits.old ≤ visits.new }
-        ensures cost { visits.new ≤ visits.old + self.old.depth }
+        ensures cost { visits.new ≡ visits.old + self.old.depth }
     {
         let mut spares = Spares::new(self.alloc, self.recent);
         let own = insert_run(&mut self.root, label, run, &mut spares, visits)?;
@@ -258,8 +251,7 @@ impl<R: Run + Drop> OrderTree<R> {
         ensures pairs { IfOk result (λ own. IsCut R.Run self.old.pairs self.new.pairs label at own) }
         ensures between { IfOk result (λ own. (label < own) × (own < next_label (2 ^ 64) self.old.pairs label)) }
         ensures err { OnErr result (self.new ≡ self.old) }
-        ensures onward { visits.old ≤ visits.new }
-        ensures cost { visits.new ≤ visits.old + self.old.depth }
+        ensures cost { visits.new ≡ visits.old + self.old.depth }
     {
         self.cut(label, at, None, visits)
     }
@@ -278,8 +270,7 @@ impl<R: Run + Drop> OrderTree<R> {
         requires few { length self.old.pairs < 4294967295 }
         ensures pairs { OnOk result (IsCut R.Run self.old.pairs self.new.pairs label at own) }
         ensures err { OnErr result (self.new ≡ self.old) }
-        ensures onward { visits.old ≤ visits.new }
-        ensures cost { visits.new ≤ visits.old + self.old.depth }
+        ensures cost { visits.new ≡ visits.old + self.old.depth }
     {
         let _own = self.cut(label, at, Some(own), visits)?;
         Ok(())
@@ -301,8 +292,7 @@ impl<R: Run + Drop> OrderTree<R> {
         ensures between { IfOk result (λ own. IsBetween (2 ^ 64) label own self.old.pairs) }
         ensures given { IfOk result (λ own. IfSome given (λ n. own ≡ n)) }
         ensures err { OnErr result (self.new ≡ self.old) }
-        ensures onward { visits.old ≤ visits.new }
-        ensures cost { visits.new ≤ visits.old + self.old.depth }
+        ensures cost { visits.new ≡ visits.old + self.old.depth }
     {
         let mut spares = Spares::new(self.alloc, self.recent);
         let edit = Edit::Split { at, given };
@@ -317,8 +307,7 @@ impl<R: Run + Drop> OrderTree<R> {
         requires fit { SumsFit R.Run (changed self.old.pairs label run) }
         ensures pairs { self.new.pairs ≡ changed self.old.pairs label run }
         ensures depth { self.new.depth ≡ self.old.depth }
-        ensures onward { visits.old ≤ visits.new }
-        ensures cost { visits.new ≤ visits.old + self.old.depth }
+        ensures cost { visits.new ≡ visits.old + self.old.depth }
     {
         let Some(root) = &mut self.root else {
             unreachable!()
@@ -339,7 +328,8 @@ impl<R: Run + Copy> OrderTree<R> {
         ensures given { IfOk result (λ given. given.items ≡ zip (labels self.old.pairs) self.new.pairs) }
         ensures depth { self.new.depth ≡ self.old.depth }
         ensures err { OnErr result (self.new ≡ self.old) }
-        ensures onward { visits.old ≤ visits.new }
+        ensures onward { IfOk result (λ _. length self.old.pairs + 16 * visits.old ≤ 16 * visits.new) }
+        ensures idle { OnErr result (visits.new ≡ visits.old) }
         ensures cost { visits.new ≤ visits.old + 2 * length self.old.pairs }
     {
         let mut given = Vec::with_capacity(self.alloc, self.runs as usize)?;
@@ -366,7 +356,7 @@ impl<R: Run + Copy> OrderTree<R> {
         ensures none { IfOk result (λ o. IfNone o (self.new ≡ self.old)) }
         ensures err { OnErr result (self.new ≡ self.old) }
         ensures depth { self.new.depth ≡ self.old.depth }
-        ensures onward { visits.old ≤ visits.new }
+        ensures onward { visits.old + self.old.depth ≤ visits.new }
         ensures cost { visits.new ≤ visits.old + (self.old.depth + 4 * length self.old.pairs) }
     {
         let Some(root) = &mut self.root else {

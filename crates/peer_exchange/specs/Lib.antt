@@ -1,4 +1,3 @@
 pub mod AnswerTouches
-pub mod Answering
 pub mod Laws
-pub mod Pieces
+pub mod Replies

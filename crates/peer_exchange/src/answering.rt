@@ -2,17 +2,18 @@
 
 ghost use Rattle.std.specs.Prelude.{◌≡◌, ◌≤◌, ◌<◌, ◌+◌, ◌^◌, [], ◌∷◌, false, length, option_map, Some, IfOk, OnErr};
 ghost use Rattle.std.specs.List.{All, AllByRecursion};
-ghost use Rattle.event_graph.specs.Missing.{missing};
-ghost use Rattle.event_graph.specs.Summary.{summary_of};
+ghost use Rattle.history_words.specs.Missing.{missing};
+ghost use Rattle.history_words.specs.Summary.{summary_of};
 ghost use Rattle.peer_frames.specs.Laws.{IsTaken};
-ghost use Rattle.peer_frames.specs.Spelling.{HasSpelling, IsSoundCount, IsSoundFrame};
-ghost use Rattle.peer_frames.specs.declared.frame.Frame.TheVariants as frame;
-ghost use Rattle.peer_exchange.specs.declared.reply.End.TheVariants as end;
+ghost use Rattle.peer_words.specs.Spelling.{HasSpelling, IsSoundCount, IsSoundFrame};
+ghost use Rattle.peer_words.specs.declared.frame.Frame.TheVariants as frame;
+ghost use Rattle.peer_words.specs.declared.end.End.TheVariants as end;
 ghost use Rattle.peer_exchange.specs.AnswerTouches.{answer_touches};
-ghost use Rattle.peer_exchange.specs.Answering.{answer_to, brings_events, question, first_clash, frame_for, IsReply, IsLeftBy};
+ghost use Rattle.peer_words.specs.Answering.{answer_to, brings_events, question, first_clash, frame_for};
+ghost use Rattle.peer_exchange.specs.Replies.{IsReply, IsLeftBy};
 
 use crate::events::all_frames;
-use crate::reply::{End, Reply};
+use crate::reply::Reply;
 use crate::sound::{note_counts, note_id};
 use ew_model::NoMem;
 use ew_model::event::Event;
@@ -21,6 +22,7 @@ use ew_model::name::Name;
 use ew_model::steps::Steps;
 use ew_model::verdict::Refusal;
 use peer_frames::{Counts, Frame};
+use peer_words::end::End;
 use replica::{Replica, Took};
 use std::alloc::Global;
 use std::sync::ledger::Ledger;

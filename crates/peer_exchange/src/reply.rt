@@ -1,16 +1,7 @@
 //! What is answered to a frame.
 
-use ew_model::id::Id;
-use peer_frames::Frame;
-
-/// How a session ends.
-#[derive(Clone, Copy, Debug, PartialEq, Eq)]
-pub enum End {
-    /// A peer said so.
-    Bye,
-    /// The peers hold different events with this id.
-    Clash(Id),
-}
+use peer_words::end::End;
+use peer_words::frame::Frame;
 
 /// The frames that are sent back, in order, and how the session ends, if it does.
 #[derive(Drop)]

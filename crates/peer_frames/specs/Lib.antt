@@ -1,5 +1,3 @@
-pub mod Spelling
-pub mod Cutting
 pub mod Calls
 pub mod Answers
 pub mod Laws

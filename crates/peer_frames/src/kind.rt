@@ -1,11 +1,11 @@
 //! The kinds of frames.
 
 ghost use Rattle.std.specs.Prelude.{◌≡◌, ◌↔◌, true, IsSome, IfSome};
-ghost use Rattle.peer_frames.specs.Cutting.{is_kind};
+ghost use Rattle.peer_words.specs.Cutting.{is_kind};
 ghost use Rattle.peer_frames.specs.Reading.{kind_byte};
-ghost use Rattle.peer_frames.specs.Spelling.{kind_of};
+ghost use Rattle.peer_words.specs.Spelling.{kind_of};
 
-use crate::frame::Frame;
+use peer_words::frame::Frame;
 
 #[derive(Clone, Copy)]
 pub(crate) enum Kind {
@@ -47,13 +47,12 @@ impl Kind {
             Kind::Bye => 6,
         }
     }
-}
 
-impl Frame {
-    pub(crate) fn kind(&self) -> Kind
-        ensures { kind_byte result ≡ kind_of self.now }
+    /// The kind of a frame.
+    pub(crate) fn of_frame(frame: &Frame) -> Kind
+        ensures { kind_byte result ≡ kind_of frame.now }
     {
-        match self {
+        match frame {
             Frame::Have(_) => Kind::Have,
             Frame::Events(_) => Kind::Events,
             Frame::Done => Kind::Done,

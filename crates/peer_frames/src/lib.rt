@@ -1,10 +1,9 @@
 //! Frames between peers: `encode` writes a frame, and a `FrameReader` finds frames in bytes that come in pieces of any length.
-//! `specs/Spelling.antt` says how a frame is spelled, `specs/Cutting.antt` how bytes are cut into frames.
+//! `peer_words` says how a frame is spelled (`Spelling`), and how bytes are cut into frames (`Cutting`).
 #![tactic(auto)]
 
 mod fault;
 mod format;
-mod frame;
 mod head;
 mod input;
 mod kind;
@@ -14,6 +13,6 @@ mod reading;
 mod writing;
 
 pub use fault::FrameFault;
-pub use frame::{Counts, EventList, Frame};
+pub use peer_words::frame::{Counts, EventList, Frame};
 pub use reader::FrameReader;
 pub use writing::encode;

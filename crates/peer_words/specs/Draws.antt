@@ -3,11 +3,11 @@ use Rattle.std.specs.Prelude.{ℕ, ◌+◌, ◌*◌, ◌/◌, ◌%◌, ◌^◌, 
 use Rattle.ew_model.specs.Edits.{Edit}
 use Rattle.ew_model.specs.Edits.Edit.{Insert, Delete}
 
--- the generator's state, a number of 64 bits, behind one more draw
+-- the generator's state, a number of 64 bits, after one more draw
 unfoldable pub next_state : ℕ → ℕ
 next_state x = (x * 6364136223846793005 + 1442695040888963407) % 2 ^ 64
 
--- what is drawn where this is the state behind the draw
+-- what is drawn where this is the state after the draw
 abbrev pub draw_of : ℕ → ℕ
 draw_of x = x / 2 ^ 33
 
@@ -15,7 +15,7 @@ draw_of x = x / 2 ^ 33
 abbrev pub letter : ℕ → ℕ
 letter n = 97 + n % 26
 
--- a drawn edit, and the state behind its draws
+-- a drawn edit, and the state after its draws
 pub record Drawn : Type 0 where
   pub edit : Edit
   pub state : ℕ

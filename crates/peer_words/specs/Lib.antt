@@ -1,5 +1,10 @@
-pub mod Machine
-pub mod Runs
+pub mod Answering
+pub mod Cutting
 pub mod Draws
+pub mod Machine
 pub mod Making
+pub mod NetScripts
+pub mod Pieces
+pub mod Runs
+pub mod Spelling
 pub mod Touches

@@ -13,12 +13,12 @@ use Rattle.ew_model.specs.Kept.{ReplicaState}
 use Rattle.ew_model.specs.Limits.{LimitNumbers}
 use Rattle.ew_model.specs.Scripts.{escaped_text, spaced}
 use Rattle.ew_model.specs.Texts.{text_of}
-use Rattle.event_words.specs.declared.net.step.NetStep.{NetStep}
-use Rattle.event_words.specs.declared.net.step.NetStep.TheVariants as step
+use Rattle.peer_words.specs.declared.net_step.NetStep.{NetStep}
+use Rattle.peer_words.specs.declared.net_step.NetStep.TheVariants as step
 use Rattle.history_words.specs.Tallies.{accepted_in, repeats_in, refused_in}
-use Rattle.peer_exchange.specs.Answering.{answer_to, event_frames, question}
-use Rattle.peer_frames.specs.declared.frame.Frame.{Frame}
-use Rattle.peer_frames.specs.declared.frame.Frame.TheVariants.{Events}
+use Rattle.peer_words.specs.Answering.{answer_to, event_frames, question}
+use Rattle.peer_words.specs.declared.frame.Frame.{Frame}
+use Rattle.peer_words.specs.declared.frame.Frame.TheVariants.{Events}
 
 -- a peer: its name, which is its agent, and what its replica stands for
 pub record Peer : Type 0 where
@@ -78,7 +78,7 @@ put_replica network name replica =
       packets = network.packets;
     }
 
--- a new packet behind the others, and the line that tells it
+-- a new packet after the others, and the line that tells it
 abbrev pub with_packet : Network → List ℕ → List ℕ → List Frame → StepOutcome
 with_packet network sender receiver frames =
     Stepped
@@ -141,7 +141,7 @@ deliver_step network packet =
     (λ p. let d = delivery_of p.name p.replica packet.frames in
     print_before d.printed (with_replies (put_replica network packet.receiver d.replica) packet d.replies))
 
--- the events of an edit are held behind the others, unless it is refused
+-- the events of an edit are held after the others, unless it is refused
 abbrev pub edit_outcome : Network → Peer → Edit → Option EditRefusal → StepOutcome
 edit_outcome network p e (Some why) = Refused (NoEdit why)
 edit_outcome network p e None =

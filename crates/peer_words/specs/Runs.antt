@@ -1,8 +1,19 @@
--- What the steps of a net script print one after another, up to the first refusal.
-use Rattle.std.specs.Prelude.{ℕ, List, [], ◌∷◌, ◌++◌}
-use Rattle.event_words.specs.declared.net.step.NetStep.{NetStep}
+-- What the steps of a net script leave and print one after another, up to the first refusal.
+use Rattle.std.specs.Prelude.{ℕ, List, [], ◌∷◌, ◌++◌, Option, Some, None}
+use Rattle.std.specs.Option.{option_and_then}
+use Rattle.peer_words.specs.declared.net_step.NetStep.{NetStep}
 use Rattle.peer_words.specs.Machine.{Network, Refusal, StepOutcome, net_step}
 use Rattle.peer_words.specs.Machine.StepOutcome.{Stepped, Refused}
+
+-- the network that a step leaves, if it isn't refused
+abbrev pub network_left : StepOutcome → Option Network
+network_left (Stepped network printed) = Some network
+network_left (Refused why) = None
+
+-- the network that steps leave of which none is refused
+abbrev pub after_steps : Network → List NetStep → Option Network
+after_steps network [] = Some network
+after_steps network (s ∷ steps) = option_and_then (λ next. after_steps next steps) (network_left (net_step network s))
 
 -- what all numbered steps print, or the first refusal with the number of its line
 pub data RunOutcome : Type 0 where

@@ -12,7 +12,7 @@ gift_touches giver taker peers =
     let p = peer_at peers taker in
     most_touches p.limits p.held p.waiting (peer_at peers giver).held
 
--- behind the edit of a step, where it is a peer's turn to give
+-- after the edit of a step, where it is a peer's turn to give
 abbrev pub turn_touches : ℕ → Made → ℕ
 turn_touches t (Stopped why) = 0
 turn_touches t (Going m) = if t % 64 == 63 then gift_touches (t / 64 % 3) ((t / 64 % 3 + 1) % 3) m.peers else 0

@@ -4,11 +4,11 @@ use Rattle.ew_model.specs.declared.event.Event.{Event}
 use Rattle.ew_model.specs.Arrival.{Outcome, judgements, desk_of, arrive}
 use Rattle.ew_model.specs.Cuts.{latest_cut}
 use Rattle.ew_model.specs.Kept.{ReplicaState}
-use Rattle.ew_model.specs.Limits.{LimitNumbers}
 use Rattle.history_words.specs.Tallies.{accepted_in, repeats_in, refused_in}
 use Rattle.replica.specs.declared.took.Took.{Took}
 use Rattle.replica.specs.declared.took.Stopped.{Stopped}
 use Rattle.replica.specs.Fronts.{IsFront}
+use Rattle.history_words.specs.Outcomes.{state_at}
 
 -- The answers are counted, how many wait now, and the greatest critical cut that isn't above the number held before.
 pub record Tells (before : ℕ) (o : Outcome) (took : Took) : Type 0 where
@@ -17,10 +17,6 @@ pub record Tells (before : ℕ) (o : Outcome) (took : Took) : Type 0 where
   pub repeats : took.repeats ≡ repeats_in o.answers
   pub refused : took.refused.items ≡ refused_in o.answers
   pub cut : took.cut ≡ latest_cut o.desk.held before
-
--- what a replica of these limits stands for when it comes to an outcome
-abbrev pub state_at : LimitNumbers → Outcome → ReplicaState
-state_at limits o = record { limits = limits; held = o.desk.held; waiting = o.desk.waiting }
 
 -- the replica comes to just this outcome, which is told
 pub record ComesTo (old new : ReplicaState) (o : Outcome) (took : Took) : Type 0 where

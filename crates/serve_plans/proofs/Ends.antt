@@ -12,11 +12,11 @@ use Rattle.ew_model.specs.Kept.{ReplicaState}
 use Rattle.ew_model.specs.Limits.{LimitNumbers}
 use Rattle.ew_model.proofs.ListTests.{any_from, found_by}
 use Rattle.ew_model.proofs.SetLaws.{joined_left}
-use Rattle.peer_frames.specs.declared.frame.Frame.{Frame}
-use Rattle.peer_frames.specs.declared.frame.Frame.TheVariants as frame
-use Rattle.peer_exchange.specs.Answering.{Answered, answer_to}
-use Rattle.peer_exchange.specs.declared.reply.End.{End}
-use Rattle.peer_exchange.specs.declared.reply.End.TheVariants as end
+use Rattle.peer_words.specs.declared.frame.Frame.{Frame}
+use Rattle.peer_words.specs.declared.frame.Frame.TheVariants as frame
+use Rattle.peer_words.specs.Answering.{Answered, answer_to}
+use Rattle.peer_words.specs.declared.end.End.{End}
+use Rattle.peer_words.specs.declared.end.End.TheVariants as end
 use Rattle.command_table.specs.Framings.{BeginWith, Framing, IsFramingOf}
 use Rattle.command_table.specs.Reads.{TakesAtMost}
 use Rattle.command_table.specs.Sessions.{Exchange, exchanged, then_exchanged, is_bye}
@@ -25,11 +25,12 @@ use Rattle.command_table.specs.Table.{Text, prints, stores, refuses}
 use Rattle.opened_files.proofs.Reading.{takes_few, takes_none}
 use Rattle.opened_files.specs.declared.reply.Reply as code
 use Rattle.opened_files.specs.declared.reply.Reply.TheVariants as reply_is
-use Rattle.opened_files.specs.Views.{reply_view, reply_status}
+use Rattle.opened_files.specs.Views.{ReadsNone, reply_view, reply_status}
+use Rattle.ew_outside.specs.Seen.{SourceSeen}
 use Rattle.ew_outside.specs.declared.fault.Fault.{Fault}
 use Rattle.serve_plans.specs.declared.closing.Closing.{Closing}
 use Rattle.serve_plans.specs.declared.closing.Closing.TheVariants as closing
-use Rattle.serve_plans.specs.Plans.{ClosesAs, ReadsAll, ReadsNone, ReadsWithin}
+use Rattle.serve_plans.specs.Plans.{ClosesAs, ReadsAll, ReadsWithin}
 use Rattle.serve_plans.specs.Serving.{Closed, IsSpent, MayBeRead, ReadsTo, PlansTalk}
 use Rattle.serve_plans.proofs.Cutting.{begins_goes_on, begins_more}
 use Rattle.serve_plans.proofs.Closings.{bad_frame, cut_of}
@@ -158,12 +159,12 @@ reads_within name limits start left left' out out' flushed flushed' (Err halt) t
 
 -- a session whose file is open has none of the statuses of one that is missing or bad
 pub reads_none : (name : Text) (limits : LimitNumbers) (start : ReplicaState) (left left' out out' : Option (List ℕ)) (flushed flushed' : Option ℕ)
-    (before now : ℕ) (r : Result code.Reply Fault) → PlansTalk name limits start left left' out out' flushed flushed' r
-    → ReadsNone left left' before now r
-reads_none name limits start left left' out out' flushed flushed' before now (Ok p) t = λ bad.
+    (input input' : SourceSeen) (r : Result code.Reply Fault) → PlansTalk name limits start left left' out out' flushed flushed' r
+    → ReadsNone input input' r
+reads_none name limits start left left' out out' flushed flushed' input input' (Ok p) t = λ bad.
     let is = closing_status name limits (length start.held) t.0.held t.1 p t.3 in
     absurd (omega (arith, is, bad))
-reads_none name limits start left left' out out' flushed flushed' before now (Err halt) t = tt
+reads_none name limits start left left' out out' flushed flushed' input input' (Err halt) t = tt
 
 -- nothing was read
 pub none_within : (limits : LimitNumbers) (left : Option (List ℕ)) (r : Result code.Reply Fault) → ReadsWithin limits left left r

@@ -7,9 +7,9 @@ use Rattle.ew_model.specs.declared.event.Event.{Event}
 use Rattle.ew_model.specs.Kept.{ReplicaState}
 use Rattle.ew_model.specs.Limits.{LimitNumbers}
 use Rattle.ew_outside.specs.Files.{Files}
-use Rattle.peer_frames.specs.declared.frame.Frame.{Frame}
-use Rattle.peer_frames.specs.Cutting.{Front, AreFrames}
-use Rattle.peer_frames.specs.Cutting.Front.{Partial}
+use Rattle.peer_words.specs.declared.frame.Frame.{Frame}
+use Rattle.peer_words.specs.Cutting.{Front, AreFrames}
+use Rattle.peer_words.specs.Cutting.Front.{Partial}
 use Rattle.peer_frames.proofs.Cuts.{cuts_are_one, finds_nothing}
 use Rattle.command_table.specs.Sessions.{Exchange, exchanged, opened_state, IsReplied, IsPrompt}
 use Rattle.command_table.specs.Table.{Text, opened, open_file}
@@ -21,7 +21,7 @@ use Rattle.serve_plans.specs.Plans.{SendsReplies, ReadsOn}
 use Rattle.serve_plans.specs.Serving.{Spoken, IsPieceBehind, PlansTalk}
 use Rattle.serve_plans.proofs.Speaking.{any_flushed}
 use Rattle.ew_model.proofs.FileLists.{some_is}
-use Rattle.command_table.proofs.Pasts.{same_events}
+use Rattle.command_table.proofs.Openings.{same_events}
 
 -- ---- the front of an input
 

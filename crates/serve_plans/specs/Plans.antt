@@ -5,6 +5,7 @@ use Rattle.ew_model.specs.declared.event.Event.{Event}
 use Rattle.ew_model.specs.Limits.{LimitNumbers}
 use Rattle.ew_outside.specs.Counts.{Rises}
 use Rattle.ew_outside.specs.Files.{Files}
+use Rattle.ew_outside.specs.Seen.{SourceSeen}
 use Rattle.peer_frames.specs.declared.fault.FrameFault.{FrameFault}
 use Rattle.peer_frames.specs.declared.fault.FrameFault.TheVariants as fault
 use Rattle.ew_outside.specs.Outputs.{GrowsByFront, Sends}
@@ -46,11 +47,6 @@ abbrev pub ReadsWithin : LimitNumbers → Option (List ℕ) → Option (List ℕ
 ReadsWithin limits left left' (Ok p) = (reply_status p ≡ 0) ⊎ (reply_status p ≡ 5) → TakesAtMost limits.input left left'
 ReadsWithin limits left left' (Err halt) = ⊤
 
--- at status 3 or 4, where the file is missing or bad, the input is as before
-abbrev pub ReadsNone : Option (List ℕ) → Option (List ℕ) → ℕ → ℕ → Result code.Reply Fault → Type 0
-ReadsNone left left' before now (Ok p) = (reply_status p ≡ 3) ⊎ (reply_status p ≡ 4) → LeavesInput left left' before now
-ReadsNone left left' before now (Err halt) = ⊤
-
 -- where the source failed, exactly the frames that end within the bytes read were answered, and none of them ends the session
 abbrev pub SendsReplies : Text → LimitNumbers → Option Files → Option (List ℕ) → Option (List ℕ) → Option (List ℕ) → Option (List ℕ) → Option ℕ
     → Result code.Reply Fault → Type 0
@@ -66,9 +62,9 @@ ReadsOn name limits (Some files) (Some input) left out out' = (events : List Eve
 ReadsOn name limits files input left out out' = ⊤
 
 -- where a load failed, the input and the output are as before
-abbrev pub KeepsStreams : Option (List ℕ) → Option (List ℕ) → Option (List ℕ) → Option (List ℕ) → Result code.Reply Fault → Type 0
-KeepsStreams left left' out out' (Err fault_is.Shelf) = (left' ≡ left) × (out' ≡ out)
-KeepsStreams left left' out out' result = ⊤
+abbrev pub KeepsStreams : SourceSeen → SourceSeen → Option (List ℕ) → Option (List ℕ) → Result code.Reply Fault → Type 0
+KeepsStreams input input' out out' (Err fault_is.Shelf) = LeavesInput input input' × (out' ≡ out)
+KeepsStreams input input' out out' result = ⊤
 
 -- which count moved of a step that reaches the output alone
 abbrev pub SinkCauses : {T : Type 0} → ℕ → ℕ → Result T Fault → Type 0

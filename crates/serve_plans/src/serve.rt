@@ -2,9 +2,10 @@
 ghost use Rattle.std.specs.Prelude.{◌≡◌, ◌≢◌, ◌+◌, [], IfOk, IfSome};
 ghost use Rattle.command_table.specs.Reads.{IfRefused, LeavesInput, TakesAtMost};
 ghost use Rattle.command_table.specs.Table.{open_file};
-ghost use Rattle.ew_outside.specs.Counts.{next};
-ghost use Rattle.opened_files.specs.Views.{IsTakenReply, LostBy, MissesBy, reply_status};
-ghost use Rattle.serve_plans.specs.Plans.{Causes, KeepsStreams, MayPlan, ReadsAll, ReadsNone, ReadsOn, ReadsWithin, SendsReplies, Serves, StreamCauses};
+ghost use Rattle.ew_model.specs.Limits.{most_file_bytes};
+ghost use Rattle.ew_outside.specs.Counts.{Asks, RisesOnceAtMost, next};
+ghost use Rattle.opened_files.specs.Views.{IsTakenReply, LostBy, MissesBy, ReadsNone, reply_status};
+ghost use Rattle.serve_plans.specs.Plans.{Causes, KeepsStreams, MayPlan, ReadsAll, ReadsOn, ReadsWithin, SendsReplies, Serves, StreamCauses};
 ghost use Rattle.serve_plans.specs.Serving.{IsPieceBehind, PlansTalk};
 ghost use Rattle.serve_plans.specs.SessionTouches.{SessionTakes, TalkTakes};
 
@@ -32,6 +33,7 @@ fn serve_events<S: Source, K: Sink, L: Ledger>(
     ensures told { PlansTalk name.now limits.now replica.old (S.seen input.old).left (S.seen input.new).left (K.seen out.old).taken (K.seen out.new).taken (K.seen out.old).flushed (K.seen out.new).flushed result }
     ensures prompt { IsPieceBehind limits.now replica.old (S.seen input.old).left (S.seen input.new).left (K.seen out.old).taken (K.seen out.new).taken }
     ensures cause { StreamCauses (S.seen input.old).faults (S.seen input.new).faults (K.seen out.old).faults (K.seen out.new).faults result }
+    ensures ends { RisesOnceAtMost (S.seen input.old).ends (S.seen input.new).ends }
     ensures most { TalkTakes limits.now replica.old (S.seen input.old).left steps.old steps.new }
     ensures plan { IfOk result IsTakenReply }
     ensures found { IfOk result (λ p. reply_status p ≢ 3) }
@@ -64,12 +66,15 @@ pub fn serve<H: Shelf, S: Source, K: Sink, L: Ledger>(
     ensures misses { MissesBy (H.seen shelf.old).misses (H.seen shelf.new).misses result }
     ensures loads { (H.seen shelf.new).loads ≡ next (H.seen shelf.old).loads }
     ensures lost { LostBy (H.seen shelf.old).lost (H.seen shelf.new).lost result }
-    ensures kept { KeepsStreams (S.seen input.old).left (S.seen input.new).left (K.seen out.old).taken (K.seen out.new).taken result }
+    ensures asked { Asks (most_file_bytes limits.now.events) (H.seen shelf.old).asked (H.seen shelf.new).asked }
+    ensures stores { (H.seen shelf.new).stores ≡ (H.seen shelf.old).stores }
+    ensures ends { RisesOnceAtMost (S.seen input.old).ends (S.seen input.new).ends }
+    ensures kept { KeepsStreams (S.seen input.old) (S.seen input.new) (K.seen out.old).taken (K.seen out.new).taken result }
     ensures few { TakesAtMost (limits.now.input + 1) (S.seen input.old).left (S.seen input.new).left }
     ensures within { ReadsWithin limits.now (S.seen input.old).left (S.seen input.new).left result }
-    ensures refused { ReadsNone (S.seen input.old).left (S.seen input.new).left (S.seen input.old).faults (S.seen input.new).faults result }
+    ensures refused { ReadsNone (S.seen input.old) (S.seen input.new) result }
     ensures most { SessionTakes name.now limits.now (H.seen shelf.old).files (S.seen input.old).left steps.old steps.new }
-    ensures untouched { IfSome (H.seen shelf.old).files (λ m. IfRefused (open_file name.now limits.now m) (LeavesInput (S.seen input.old).left (S.seen input.new).left (S.seen input.old).faults (S.seen input.new).faults)) }
+    ensures untouched { IfSome (H.seen shelf.old).files (λ m. IfRefused (open_file name.now limits.now m) (LeavesInput (S.seen input.old) (S.seen input.new))) }
 {
     match open(alloc, name, limits, shelf, steps) {
         Err(fault) => Err(fault),

@@ -1,5 +1,6 @@
 //! Reading a peer's frames, and answering them.
 ghost use Rattle.std.specs.Prelude.{◌≡◌, ◌≤◌, length, ◌-◌, ◌<◌, ◌^◌};
+ghost use Rattle.ew_outside.specs.Counts.{CountsEnds, RisesOnceAtMost};
 ghost use Rattle.serve_plans.specs.Plans.{StreamCauses};
 ghost use Rattle.serve_plans.specs.Serving.{EndsWith, IsPieceBehind, Receives, Talks};
 ghost use Rattle.serve_plans.specs.SessionTouches.{TalkTakes};
@@ -33,6 +34,7 @@ fn closing_at_end(reader: &FrameReader, number: u32) -> Closing
 fn read_piece<S: Source>(input: &mut S, buffer: &mut [u8], most: usize) -> Result<usize, Fault>
     requires { most ≤ length buffer.old }
     ensures read { Receives (S.seen input.old).left (S.seen input.new).left (S.seen input.old).faults (S.seen input.new).faults most buffer.new result }
+    ensures ends { CountsEnds most (S.seen input.old).ends (S.seen input.new).ends result }
     ensures length { length buffer.new ≡ length buffer.old }
 {
     match input.read(&mut buffer[..most]) {
@@ -53,6 +55,7 @@ pub fn talk<S: Source, K: Sink, L: Ledger>(
     ensures told { Talks limits.now replica.old replica.new (S.seen input.old).left (S.seen input.new).left (K.seen out.old).taken (K.seen out.new).taken (K.seen out.old).flushed (K.seen out.new).flushed result }
     ensures prompt { IsPieceBehind limits.now replica.old (S.seen input.old).left (S.seen input.new).left (K.seen out.old).taken (K.seen out.new).taken }
     ensures cause { StreamCauses (S.seen input.old).faults (S.seen input.new).faults (K.seen out.old).faults (K.seen out.new).faults result }
+    ensures ends { RisesOnceAtMost (S.seen input.old).ends (S.seen input.new).ends }
     ensures most { TalkTakes limits.now replica.old (S.seen input.old).left steps.old steps.new }
 {
     let mut reader = FrameReader::new(alloc, *limits)?;

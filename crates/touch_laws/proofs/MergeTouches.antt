@@ -12,9 +12,9 @@ use Rattle.ew_model.specs.Verdicts.Ruling.{Repeat, Clash, SelfParent, TooManyPar
 use Rattle.ew_model.proofs.CutLaws.{latest_critical}
 use Rattle.ew_model.proofs.RoundLaws.{one_round}
 use Rattle.replica.proofs.Sparing.{cuts_spare}
-use Rattle.command_table.specs.MergeLaws.{command_answer}
+use Rattle.table_laws.specs.MergeLaws.{command_answer}
 use Rattle.command_table.specs.Table.{merge}
-use Rattle.command_table.proofs.MergedFiles.{opened_is, is_done, storable, merged_storable, opens_new}
+use Rattle.table_laws.proofs.MergedFiles.{opened_is, is_done, storable, merged_storable, opens_new}
 use Rattle.touch_laws.specs.MergeTouches.{MergesSpare}
 
 -- what takes its event isn't out of range

@@ -6,7 +6,7 @@ use Rattle.ew_model.specs.Limits.{LimitNumbers, AreLimits}
 use Rattle.ew_model.specs.Rounds.{most_touches}
 use Rattle.ew_model.specs.Touches.{touches}
 use Rattle.ew_outside.specs.Files.{Files}
-use Rattle.command_table.specs.MergeLaws.{HoldsBytes, command_answer}
+use Rattle.table_laws.specs.MergeLaws.{HoldsBytes, command_answer}
 use Rattle.command_table.specs.Scripts.{Reading}
 use Rattle.command_table.specs.Table.{Text, merge, open_file, opened}
 

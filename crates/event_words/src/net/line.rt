@@ -1,15 +1,15 @@
 //! A line of a net script.
 
 ghost use Rattle.std.specs.Prelude.{◌≢◌, ℕ, ◌++◌, ◌∷◌, List, codes, IfOk};
-ghost use Rattle.event_words.specs.NetScripts.{IsStepReading};
+ghost use Rattle.peer_words.specs.NetScripts.{IsStepReading};
 ghost use Rattle.event_words.specs.Verbs.{verb_word};
 ghost use Rattle.event_words.specs.declared.net.verb.Verb as declared;
 
 use crate::net::parts::{read_name, read_names, read_numbers};
-use crate::net::step::NetStep;
 use crate::net::verb::{Verb, strip_verb};
 use crate::words::{read_number, read_text, split_once};
 use ew_model::NoMem;
+use peer_words::net_step::NetStep;
 use std::alloc::Global;
 
 /// The step that the line means, if it means one.

@@ -2,12 +2,12 @@
 
 ghost use Rattle.std.specs.Prelude.{◌≡◌, ℕ, ◌<◌, ◌^◌, List, length, IfOk, IsErr, IsOkUnless, OnOk};
 ghost use Rattle.ew_model.specs.Scripts.{IsReadable, Numbered};
-ghost use Rattle.event_words.specs.NetScripts.{AddsNetLine, IsFirstBadNetLine, IsNetScript, MeansStep, numbered_steps};
-ghost use Rattle.event_words.specs.declared.net.step.NetStep as declared;
+ghost use Rattle.peer_words.specs.NetScripts.{AddsNetLine, IsFirstBadNetLine, IsNetScript, MeansStep, numbered_steps};
+ghost use Rattle.peer_words.specs.declared.net_step.NetStep as declared;
 
 use crate::net::line::read_step;
-use crate::net::step::NetStep;
 use crate::script::{ScriptFault, split_line};
+use peer_words::net_step::NetStep;
 use std::alloc::Global;
 
 /// The steps of a net script, each with the number of its line. `BadLine` has the number of the first line that is neither

@@ -7,7 +7,7 @@ use Rattle.command_table.specs.Table.{does, refuses, serves}
 use Rattle.command_table.specs.Reads.{LeavesInput, shape_of}
 use Rattle.opened_files.proofs.Reading.{takes_none}
 use Rattle.command_words.specs.Words.{command_view, line_view}
-use Rattle.command_runs.proofs.Lines.{command_causes, command_keeps, command_known, command_reads, command_some, command_unread, file_refused, loads_one, no_front, not_of_sink, one_front, one_refused, session_known, session_reads, taken_line}
+use Rattle.command_runs.proofs.Lines.{asks_most, asks_none, command_causes, command_keeps, command_known, command_reads, command_some, file_refused, loads_one, no_front, none_made, not_of_sink, one_all, one_front, one_refused, reads_same, session_known, session_reads, taken_line}
 use Rattle.command_runs.proofs.plan.plan.Goals as goal
 
 pub returns-in-Some-Does-clause-told : goal.returns-in-Some-Does-clause-told
@@ -32,7 +32,7 @@ pub returns-in-Some-Does-clause-read : goal.returns-in-Some-Does-clause-read
 returns-in-Some-Does-clause-read g c = rw c.in-Some-Does.is (rw c.in-Some-Does.field-0-is (command_reads _ c.args.limits.now (g.S.Source.seen c.args.input.now) (g.S.Source.seen c.plan_command.new.input) c.plan_command.result c.plan_command.ensures.read))
 
 pub returns-in-Some-Does-clause-unread : goal.returns-in-Some-Does-clause-unread
-returns-in-Some-Does-clause-unread g c = rw c.in-Some-Does.is (rw c.in-Some-Does.field-0-is (command_unread _ (g.S.Source.seen c.args.input.now) (g.S.Source.seen c.plan_command.new.input) c.plan_command.result c.plan_command.ensures.read c.plan_command.ensures.quiet))
+returns-in-Some-Does-clause-unread g c = rw c.in-Some-Does.is (rw c.in-Some-Does.field-0-is c.plan_command.ensures.quiet)
 
 pub returns-in-Some-Does-clause-cause : goal.returns-in-Some-Does-clause-cause
 returns-in-Some-Does-clause-cause g c = command_causes _ _ _ _ _ c.plan_command.result c.plan_command.ensures.cause
@@ -68,7 +68,7 @@ pub returns-in-Some-Serves-clause-some : goal.returns-in-Some-Serves-clause-some
 returns-in-Some-Serves-clause-some g c = rw c.in-Some-Serves.is (rw c.in-Some-Serves.field-0-is (c.serve.ensures.some))
 
 pub returns-in-Some-Serves-clause-heard : goal.returns-in-Some-Serves-clause-heard
-returns-in-Some-Serves-clause-heard g c = rw c.in-Some-Serves.is (rw c.in-Some-Serves.field-0-is ((c.serve.ensures.replies, c.serve.ensures.prompt, c.serve.ensures.within, c.serve.ensures.refused)))
+returns-in-Some-Serves-clause-heard g c = rw c.in-Some-Serves.is (rw c.in-Some-Serves.field-0-is ((c.serve.ensures.replies, c.serve.ensures.prompt, c.serve.ensures.within)))
 
 pub returns-in-Some-Serves-clause-sends : goal.returns-in-Some-Serves-clause-sends
 returns-in-Some-Serves-clause-sends g c = rw c.in-Some-Serves.is (rw c.in-Some-Serves.field-0-is (tt))
@@ -131,7 +131,7 @@ pub returns-in-None-clause-read : goal.returns-in-None-clause-read
 returns-in-None-clause-read g c = rw c.in-None.is ((λ zero. absurd cc))
 
 pub returns-in-None-clause-unread : goal.returns-in-None-clause-unread
-returns-in-None-clause-unread g c = rw c.in-None.is ((λ none. (refl, refl)))
+returns-in-None-clause-unread g c = rw c.in-None.is (λ none. refl)
 
 pub returns-in-None-clause-cause : goal.returns-in-None-clause-cause
 returns-in-None-clause-cause g c = (refl, refl, refl)
@@ -143,10 +143,49 @@ pub returns-in-None-clause-kept : goal.returns-in-None-clause-kept
 returns-in-None-clause-kept g c = tt
 
 pub returns-in-None-clause-untouched : goal.returns-in-None-clause-untouched
-returns-in-None-clause-untouched g c = rw c.in-None.is (file_refused (shape_of None) c.args.limits.now (g.H.Shelf.seen c.args.shelf.now).files (LeavesInput (g.S.Source.seen c.args.input.now).left (g.S.Source.seen c.args.input.now).left (g.S.Source.seen c.args.input.now).faults (g.S.Source.seen c.args.input.now).faults) (refl, refl))
+returns-in-None-clause-untouched g c = rw c.in-None.is (file_refused (shape_of None) c.args.limits.now (g.H.Shelf.seen c.args.shelf.now).files (LeavesInput (g.S.Source.seen c.args.input.now) (g.S.Source.seen c.args.input.now)) refl)
 
 pub returns-in-None-clause-front : goal.returns-in-None-clause-front
 returns-in-None-clause-front g c = rw c.in-None.is (no_front _)
 
 pub returns-in-None-clause-loads : goal.returns-in-None-clause-loads
 returns-in-None-clause-loads g c = rw c.in-None.is (refl)
+
+pub returns-in-Some-Does-clause-all : goal.returns-in-Some-Does-clause-all
+returns-in-Some-Does-clause-all g c = rw c.in-Some-Does.is (rw c.in-Some-Does.field-0-is c.plan_command.ensures.all)
+
+pub returns-in-Some-Does-clause-makes : goal.returns-in-Some-Does-clause-makes
+returns-in-Some-Does-clause-makes g c = rw c.in-Some-Does.is (rw c.in-Some-Does.field-0-is c.plan_command.ensures.makes)
+
+pub returns-in-Some-Does-clause-asked : goal.returns-in-Some-Does-clause-asked
+returns-in-Some-Does-clause-asked g c = rw c.in-Some-Does.is (rw c.in-Some-Does.field-0-is c.plan_command.ensures.asked)
+
+pub returns-in-Some-Does-clause-refused : goal.returns-in-Some-Does-clause-refused
+returns-in-Some-Does-clause-refused g c = rw c.in-Some-Does.is (rw c.in-Some-Does.field-0-is c.plan_command.ensures.refused)
+
+pub returns-in-Some-Serves-clause-all : goal.returns-in-Some-Serves-clause-all
+returns-in-Some-Serves-clause-all g c = rw c.in-Some-Serves.is (rw c.in-Some-Serves.field-0-is (one_all _ _ _ c.serve.result c.serve.ensures.loads))
+
+pub returns-in-Some-Serves-clause-makes : goal.returns-in-Some-Serves-clause-makes
+returns-in-Some-Serves-clause-makes g c = rw c.in-Some-Serves.is (rw c.in-Some-Serves.field-0-is (none_made _ _ c.serve.result))
+
+pub returns-in-Some-Serves-clause-asked : goal.returns-in-Some-Serves-clause-asked
+returns-in-Some-Serves-clause-asked g c = rw c.in-Some-Serves.is (rw c.in-Some-Serves.field-0-is (asks_most _ _ _ c.serve.ensures.asked))
+
+pub returns-in-Some-Serves-clause-refused : goal.returns-in-Some-Serves-clause-refused
+returns-in-Some-Serves-clause-refused g c = λ needs. c.serve.ensures.refused
+
+pub returns-in-None-clause-all : goal.returns-in-None-clause-all
+returns-in-None-clause-all g c = rw c.in-None.is tt
+
+pub returns-in-None-clause-makes : goal.returns-in-None-clause-makes
+returns-in-None-clause-makes g c = rw c.in-None.is (λ makes. absurd (false≢true makes))
+
+pub returns-in-None-clause-asked : goal.returns-in-None-clause-asked
+returns-in-None-clause-asked g c = rw c.in-None.is (asks_none _ _)
+
+pub returns-in-None-clause-refused : goal.returns-in-None-clause-refused
+returns-in-None-clause-refused g c = λ needs bad. refl
+
+pub returns-in-None-clause-ends : goal.returns-in-None-clause-ends
+returns-in-None-clause-ends g c = inl refl

@@ -2,8 +2,9 @@ use Rattle.command_table.specs.Scripts.{MeansNet}
 use Rattle.command_table.specs.Reads.{LeavesInput, shape_of}
 use Rattle.command_table.specs.Table.{does, edit, net, MeansTo, net_reply, reply_to}
 use Rattle.command_words.specs.Words.{command_view}
-use Rattle.command_runs.proofs.Lines.{causes_of_shelf, file_refused, loads_none, loads_one, may_plan, no_front, none_refused, one_front, one_refused, plans_by, plans_read}
-use Rattle.std.proofs.Common.{refl, Some}
+use Rattle.command_runs.proofs.Lines.{asks_most, asks_none, causes_of_shelf, file_refused, loads_none, loads_one, may_plan, no_front, none_all, none_made, none_refused, one_all, one_front, one_refused, plans_by, plans_read, reads_same}
+use Rattle.std.proofs.Common.{refl, inl, Some}
+use Rattle.std.proofs.lemmas.Bool.{false≢true}
 use Rattle.opened_files.proofs.Reading.{takes_none}
 use Rattle.line_plans.proofs.Replies.{causes_of_source, keeps_same, lost_of_source, source_keeps}
 use Rattle.command_runs.proofs.plan.plan_command.Goals as goal
@@ -24,7 +25,7 @@ pub returns-in_default-clause-few : goal.returns-in_default-clause-few
 returns-in_default-clause-few g c = takes_none _ (g.S.Source.seen c.args.input.now).left _ refl
 
 pub returns-in_default-clause-untouched : goal.returns-in_default-clause-untouched
-returns-in_default-clause-untouched g c = file_refused (shape_of (Some (does (command_view c.args.command)))) c.args.limits.now (g.H.Shelf.seen c.args.shelf.now).files _ (refl, refl)
+returns-in_default-clause-untouched g c = file_refused (shape_of (Some (does (command_view c.args.command)))) c.args.limits.now (g.H.Shelf.seen c.args.shelf.now).files _ refl
 
 pub returns-in-Edit-clause-untouched : goal.returns-in-Edit-clause-untouched
 returns-in-Edit-clause-untouched g c = rw c.in-Edit.is (one_refused c.in-Edit.file.now c.args.limits.now (g.H.Shelf.seen c.args.shelf.now).files _ c.edit.ensures.untouched)
@@ -36,7 +37,7 @@ pub returns-in-Edit-clause-loads : goal.returns-in-Edit-clause-loads
 returns-in-Edit-clause-loads g c = rw c.in-Edit.is (loads_one c.in-Edit.file.now c.args.limits.now (g.H.Shelf.seen c.args.shelf.now).files _ _ c.edit.result c.edit.ensures.loads)
 
 pub returns-in_default-clause-kept : goal.returns-in_default-clause-kept
-returns-in_default-clause-kept g c = keeps_same (g.S.Source.seen c.args.input.now).left c.plan_unread.result
+returns-in_default-clause-kept g c = keeps_same (g.S.Source.seen c.args.input.now) c.plan_unread.result
 
 pub returns-in-Edit-clause-some : goal.returns-in-Edit-clause-some
 returns-in-Edit-clause-some g c = rw c.in-Edit.is (may_plan (edit c.in-Edit.file.now c.in-Edit.agent) c.args.limits.now c.edit.result c.edit.ensures.some)
@@ -58,7 +59,7 @@ pub returns-in-Net-clause-kept : goal.returns-in-Net-clause-kept
 returns-in-Net-clause-kept g c = source_keeps _ _ _ _ c.net.result c.net.ensures.cause
 
 pub returns-in-Net-clause-untouched : goal.returns-in-Net-clause-untouched
-returns-in-Net-clause-untouched g c = rw c.in-Net.is (none_refused c.args.limits.now (g.H.Shelf.seen c.args.shelf.now).files (LeavesInput (g.S.Source.seen c.args.input.now).left (g.S.Source.seen c.net.new.input).left (g.S.Source.seen c.args.input.now).faults (g.S.Source.seen c.net.new.input).faults))
+returns-in-Net-clause-untouched g c = rw c.in-Net.is (none_refused c.args.limits.now (g.H.Shelf.seen c.args.shelf.now).files (LeavesInput (g.S.Source.seen c.args.input.now) (g.S.Source.seen c.net.new.input)))
 
 pub returns-in-Net-clause-front : goal.returns-in-Net-clause-front
 returns-in-Net-clause-front g c = rw c.in-Net.is (no_front _)
@@ -68,3 +69,42 @@ returns-in-Net-clause-loads g c = rw c.in-Net.is (loads_none c.args.limits.now (
 
 pub returns-in-Net-clause-lost : goal.returns-in-Net-clause-lost
 returns-in-Net-clause-lost g c = lost_of_source _ _ _ _ c.net.result refl c.net.ensures.cause
+
+pub returns-in-Edit-clause-all : goal.returns-in-Edit-clause-all
+returns-in-Edit-clause-all g c = rw c.in-Edit.is (one_all c.in-Edit.file.now _ _ c.edit.result c.edit.ensures.loads)
+
+pub returns-in-Net-clause-all : goal.returns-in-Net-clause-all
+returns-in-Net-clause-all g c = rw c.in-Net.is (none_all _ c.net.result)
+
+pub returns-in_default-clause-all : goal.returns-in_default-clause-all
+returns-in_default-clause-all g c = c.plan_unread.ensures.all
+
+pub returns-in-Edit-clause-makes : goal.returns-in-Edit-clause-makes
+returns-in-Edit-clause-makes g c = rw c.in-Edit.is (none_made _ _ c.edit.result)
+
+pub returns-in-Net-clause-makes : goal.returns-in-Net-clause-makes
+returns-in-Net-clause-makes g c = rw c.in-Net.is (none_made _ _ c.net.result)
+
+pub returns-in_default-clause-makes : goal.returns-in_default-clause-makes
+returns-in_default-clause-makes g c = c.plan_unread.ensures.makes
+
+pub returns-in-Edit-clause-asked : goal.returns-in-Edit-clause-asked
+returns-in-Edit-clause-asked g c = rw c.in-Edit.is (asks_most _ _ _ c.edit.ensures.asked)
+
+pub returns-in-Net-clause-asked : goal.returns-in-Net-clause-asked
+returns-in-Net-clause-asked g c = rw c.in-Net.is (asks_none _ _)
+
+pub returns-in_default-clause-asked : goal.returns-in_default-clause-asked
+returns-in_default-clause-asked g c = c.plan_unread.ensures.asked
+
+pub returns-in_default-clause-ends : goal.returns-in_default-clause-ends
+returns-in_default-clause-ends g c = inl refl
+
+pub returns-in-Edit-clause-refused : goal.returns-in-Edit-clause-refused
+returns-in-Edit-clause-refused g c = λ needs. c.edit.ensures.refused
+
+pub returns-in-Net-clause-refused : goal.returns-in-Net-clause-refused
+returns-in-Net-clause-refused g c = rw c.in-Net.is (λ needs. absurd (false≢true needs))
+
+pub returns-in_default-clause-refused : goal.returns-in_default-clause-refused
+returns-in_default-clause-refused g c = λ needs. reads_same (g.S.Source.seen c.args.input.now) c.plan_unread.result

@@ -1,11 +1,10 @@
+use Rattle.std.proofs.Common.{arith}
 use Rattle.std.specs.FinMap.{get}
 use Rattle.command_table.specs.Loads.{whole_of}
 use Rattle.command_table.specs.Table.{create, make, merge, show, create_reply, make_reply, merge_reply, open_file, over_both, over_events, show_reply}
 use Rattle.peer_words.specs.Making.{made}
-use Rattle.peer_words.specs.Touches.{made_touches}
 use Rattle.command_words.specs.Words.{listing_view}
-use Rattle.command_runs.proofs.Lines.{loads_none, loads_one, may_plan, no_causes, no_front, none_lost, one_front, plans_alone, plans_any}
-use Rattle.opened_files.proofs.Touches.{touched_alike, untouched}
+use Rattle.command_runs.proofs.Lines.{all_of_shelf, asks_most, asks_none, loads_none, loads_one, made_file, may_plan, no_causes, no_front, none_all, none_lost, none_made, one_all, one_front, plans_alone, plans_any}
 use Rattle.command_runs.proofs.plan.plan_unread.Goals as goal
 
 pub returns-in-New-clause-told : goal.returns-in-New-clause-told
@@ -52,7 +51,7 @@ pub returns-in-Merge-clause-some : goal.returns-in-Merge-clause-some
 returns-in-Merge-clause-some g c = rw c.in-Merge.is (may_plan (merge c.in-Merge.file.now c.in-Merge.other.now) c.args.limits.now c.merge.result c.merge.ensures.some)
 
 pub returns-in-New-clause-most : goal.returns-in-New-clause-most
-returns-in-New-clause-most g c = rw c.in-New.is (untouched (λ m. 0) (g.H.Shelf.seen c.args.shelf.now).files c.args.steps.now)
+returns-in-New-clause-most g c = rw c.in-New.is (omega arith)
 
 pub returns-in-Show-clause-most : goal.returns-in-Show-clause-most
 returns-in-Show-clause-most g c = rw c.in-Show.is c.show.ensures.most
@@ -81,4 +80,40 @@ pub returns-in-Make-clause-loads : goal.returns-in-Make-clause-loads
 returns-in-Make-clause-loads g c = rw c.in-Make.is (loads_none c.args.limits.now (g.H.Shelf.seen c.args.shelf.now).files _ c.make_history.result)
 
 pub returns-in-Make-clause-most : goal.returns-in-Make-clause-most
-returns-in-Make-clause-most g c = rw c.in-Make.is (touched_alike (made_touches c.args.limits.now c.in-Make.seed c.in-Make.count) (g.H.Shelf.seen c.args.shelf.now).files c.args.steps.now c.make_history.new.steps c.make_history.ensures.most)
+returns-in-Make-clause-most g c = rw c.in-Make.is c.make_history.ensures.most
+
+pub returns-in-New-clause-all : goal.returns-in-New-clause-all
+returns-in-New-clause-all g c = rw c.in-New.is (one_all c.in-New.name.now _ _ c.create.result c.create.ensures.loads)
+
+pub returns-in-Show-clause-all : goal.returns-in-Show-clause-all
+returns-in-Show-clause-all g c = rw c.in-Show.is (one_all c.in-Show.file.now _ _ c.show.result c.show.ensures.loads)
+
+pub returns-in-Merge-clause-all : goal.returns-in-Merge-clause-all
+returns-in-Merge-clause-all g c = rw c.in-Merge.is (all_of_shelf _ _ _ _ _ c.merge.result c.merge.ensures.cause c.merge.ensures.all)
+
+pub returns-in-Make-clause-all : goal.returns-in-Make-clause-all
+returns-in-Make-clause-all g c = rw c.in-Make.is (none_all _ c.make_history.result)
+
+pub returns-in-New-clause-makes : goal.returns-in-New-clause-makes
+returns-in-New-clause-makes g c = rw c.in-New.is (made_file _ _ c.create.result c.create.ensures.there c.create.ensures.absent)
+
+pub returns-in-Show-clause-makes : goal.returns-in-Show-clause-makes
+returns-in-Show-clause-makes g c = rw c.in-Show.is (none_made _ _ c.show.result)
+
+pub returns-in-Merge-clause-makes : goal.returns-in-Merge-clause-makes
+returns-in-Merge-clause-makes g c = rw c.in-Merge.is (none_made _ _ c.merge.result)
+
+pub returns-in-Make-clause-makes : goal.returns-in-Make-clause-makes
+returns-in-Make-clause-makes g c = rw c.in-Make.is (none_made _ _ c.make_history.result)
+
+pub returns-in-New-clause-asked : goal.returns-in-New-clause-asked
+returns-in-New-clause-asked g c = rw c.in-New.is (asks_most _ _ _ c.create.ensures.asked)
+
+pub returns-in-Show-clause-asked : goal.returns-in-Show-clause-asked
+returns-in-Show-clause-asked g c = rw c.in-Show.is (asks_most _ _ _ c.show.ensures.asked)
+
+pub returns-in-Merge-clause-asked : goal.returns-in-Merge-clause-asked
+returns-in-Merge-clause-asked g c = rw c.in-Merge.is c.merge.ensures.asked
+
+pub returns-in-Make-clause-asked : goal.returns-in-Make-clause-asked
+returns-in-Make-clause-asked g c = rw c.in-Make.is (asks_none _ _)

@@ -5,7 +5,7 @@ use Rattle.command_runs.proofs.top.run.Goals as goal
 
 pub returns-in-Err-clause-run : goal.returns-in-Err-clause-run
 returns-in-Err-clause-run g c =
-    starved_run _ _ _ _ _ c.tell.ensures.status (record { shelf_same = refl; source_same = refl; sink_same = refl }) refl refl refl c.tell.ensures.text
+    starved_run _ _ _ _ _ c.tell.ensures.status (record { shelf_same = refl; source_same = refl; sink_same = refl }) refl refl refl c.tell.ensures.text c.tell.ensures.flushed
 
 pub returns-in-Err-clause-most : goal.returns-in-Err-clause-most
 returns-in-Err-clause-most g c = takes_nothing _ _ _ _ _

@@ -8,5 +8,5 @@ pub returns-clause-app : goal.returns-clause-app
 unfolding make_app
 returns-clause-app c =
     IfOk-weaker c.arg-2.result _ _
-    (λ m h. h.shape c.number_arg-count.ensures.local ∙ ap₂ with_rule (c.in_ok-arg.ensures.shape c.number_arg-seed.ensures.local ∙ ap₂ with_rule c.new.ensures.app c.number_arg-seed.ensures.rule) c.number_arg-count.ensures.rule)
+    (λ m h. h.shape c.number_arg-count.ensures.local ∙ ap₂ with_rule (c.in_ok-arg.ensures.shape c.seed_arg-seed.ensures.local ∙ ap₂ with_rule c.new.ensures.app c.seed_arg-seed.ensures.rule) c.number_arg-count.ensures.rule)
     c.arg-2.ensures

@@ -1,7 +1,7 @@
 use Rattle.std.proofs.Common.{refl}
 use Rattle.opened_files.proofs.Reading.{holds_refused, open_not_refused, takes_none}
 use Rattle.line_plans.proofs.Readings.{plans_opened}
-use Rattle.line_plans.proofs.Replies.{causes_of_source, keeps_same, lost_of_source, opened_edits, refused_edits, source_keeps}
+use Rattle.line_plans.proofs.Replies.{causes_of_source, keeps_same, lost_of_source, opened_edits, reads_open, refused_edits, source_keeps}
 use Rattle.command_texts.specs.Reasons.{refusal_view}
 use Rattle.line_plans.proofs.edit.edit.Goals as goal
 
@@ -12,13 +12,13 @@ pub returns-in_err-why-clause-few : goal.returns-in_err-why-clause-few
 returns-in_err-why-clause-few g c = takes_none _ (g.S.Source.seen c.args.input.now).left _ refl
 
 pub returns-in_err-why-clause-untouched : goal.returns-in_err-why-clause-untouched
-returns-in_err-why-clause-untouched g c = holds_refused c.args.name.now c.args.limits.now (g.H.Shelf.seen c.args.shelf.now).files _ (refl, refl)
+returns-in_err-why-clause-untouched g c = holds_refused c.args.name.now c.args.limits.now (g.H.Shelf.seen c.args.shelf.now).files _ refl
 
 pub returns-in-Refused-clause-few : goal.returns-in-Refused-clause-few
 returns-in-Refused-clause-few g c = takes_none _ (g.S.Source.seen c.args.input.now).left _ refl
 
 pub returns-in-Refused-clause-untouched : goal.returns-in-Refused-clause-untouched
-returns-in-Refused-clause-untouched g c = holds_refused c.args.name.now c.args.limits.now (g.H.Shelf.seen c.args.shelf.now).files _ (refl, refl)
+returns-in-Refused-clause-untouched g c = holds_refused c.args.name.now c.args.limits.now (g.H.Shelf.seen c.args.shelf.now).files _ refl
 
 pub returns-in-Open-clause-told : goal.returns-in-Open-clause-told
 returns-in-Open-clause-told g c =
@@ -29,7 +29,7 @@ returns-in-Open-clause-untouched g c =
     open_not_refused c.args.name.now c.args.limits.now c.in-Open.replica.held (g.H.Shelf.seen c.args.shelf.now).files _ (rw c.in-Open.is at c.in_ok-why.ensures.told)
 
 pub returns-in_err-why-clause-kept : goal.returns-in_err-why-clause-kept
-returns-in_err-why-clause-kept g c = keeps_same (g.S.Source.seen c.args.input.now).left _
+returns-in_err-why-clause-kept g c = keeps_same (g.S.Source.seen c.args.input.now) _
 
 pub returns-in-Open-clause-kept : goal.returns-in-Open-clause-kept
 returns-in-Open-clause-kept g c = source_keeps _ _ _ _ c.take_input.result c.take_input.ensures.cause
@@ -47,3 +47,6 @@ returns-in-Open-clause-cause g c = causes_of_source _ _ _ _ c.take_input.result 
 
 pub returns-in-Open-clause-lost : goal.returns-in-Open-clause-lost
 returns-in-Open-clause-lost g c = lost_of_source _ _ _ _ c.take_input.result c.in_ok-why.ensures.lost c.take_input.ensures.cause
+
+pub returns-in-Open-clause-refused : goal.returns-in-Open-clause-refused
+returns-in-Open-clause-refused g c = reads_open _ _ c.take_input.result c.take_input.ensures.found c.take_input.ensures.good

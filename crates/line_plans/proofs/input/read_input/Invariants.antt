@@ -6,6 +6,7 @@ abbrev pub invariant-pieces : goal.invariant-pieces
 invariant-pieces g l = record {
   taken : Consumes (g.S.Source.seen l.fn.source).left (g.S.Source.seen l.source).left l.bytes.items;
   count : (g.S.Source.seen l.source).faults ≡ (g.S.Source.seen l.fn.source).faults;
+  ends : (g.S.Source.seen l.source).ends ≡ (g.S.Source.seen l.fn.source).ends;
   within : vec_len l.bytes ≤ l.bound + 1;
 }
 

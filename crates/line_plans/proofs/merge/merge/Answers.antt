@@ -2,7 +2,7 @@ use Rattle.std.proofs.Common.{subst}
 use Rattle.opened_files.specs.Touches.{TouchesAtMost, merge_touches}
 use Rattle.command_table.specs.Table.{merge_reply}
 use Rattle.opened_files.proofs.Touches.{opened_touched}
-use Rattle.line_plans.proofs.Loads.{both_front, first_front, loads_opened, loads_refused}
+use Rattle.line_plans.proofs.Loads.{all_both, asked_both, both_front, first_front, loads_opened, loads_refused}
 use Rattle.line_plans.proofs.Merges.{both_opened, later_causes, later_lost, later_misses, opened_merges, refused_merges}
 use Rattle.command_texts.specs.Reasons.{refusal_view}
 use Rattle.line_plans.proofs.merge.merge.Goals as goal
@@ -51,3 +51,9 @@ returns-in-Open-clause-most g c =
     let held = c.in-Open.replica.held in
     let later = subst (λ files. TouchesAtMost (λ m. others m held) files c.open.new.steps c.take_other.new.steps) c.in_ok-why.ensures.same c.take_other.ensures.most in
     opened_touched c.args.name.now c.args.limits.now others held (g.H.Shelf.seen c.args.shelf.now).files c.args.steps.now c.open.new.steps c.take_other.new.steps (rw c.in-Open.is at c.in_ok-why.ensures.told) c.in_ok-why.ensures.most later
+
+pub returns-in-Open-clause-all : goal.returns-in-Open-clause-all
+returns-in-Open-clause-all g c = all_both c.args.name.now c.args.other.now _ _ _ c.take_other.result c.in_ok-why.ensures.loads c.take_other.ensures.loads
+
+pub returns-in-Open-clause-asked : goal.returns-in-Open-clause-asked
+returns-in-Open-clause-asked g c = asked_both _ _ _ _ c.in_ok-why.ensures.asked c.take_other.ensures.asked

@@ -1,7 +1,7 @@
 use Rattle.std.proofs.Common.{sym, ap, ◌∙◌, subst}
 use Rattle.std.specs.Prelude.{OnErr}
-use Rattle.peer_frames.specs.declared.frame.Frame.TheVariants.{Events}
-use Rattle.peer_exchange.specs.Answering.{IsLeftBy}
+use Rattle.peer_words.specs.declared.frame.Frame.TheVariants.{Events}
+use Rattle.peer_exchange.specs.Replies.{IsLeftBy}
 use Rattle.peer_exchange.proofs.answering.answer.Goals as goal
 
 pub returns-in-Events-clause-left : goal.returns-in-Events-clause-left

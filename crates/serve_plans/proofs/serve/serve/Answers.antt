@@ -91,5 +91,5 @@ returns-in-Ok-Open-clause-within g c = reads_within c.args.name.now c.args.limit
 pub returns-in-Ok-Open-clause-refused : goal.returns-in-Ok-Open-clause-refused
 returns-in-Ok-Open-clause-refused g c = reads_none c.args.name.now c.args.limits.now c.in-Ok-Open.replica (g.S.Source.seen c.args.input.now).left
     (g.S.Source.seen c.serve_events.new.input).left (g.K.Sink.seen c.args.out.now).taken (g.K.Sink.seen c.serve_events.new.out).taken (g.K.Sink.seen c.args.out.now).flushed
-    (g.K.Sink.seen c.serve_events.new.out).flushed (g.S.Source.seen c.args.input.now).faults (g.S.Source.seen c.serve_events.new.input).faults c.serve_events.result
+    (g.K.Sink.seen c.serve_events.new.out).flushed (g.S.Source.seen c.args.input.now) (g.S.Source.seen c.serve_events.new.input) c.serve_events.result
     c.serve_events.ensures.told

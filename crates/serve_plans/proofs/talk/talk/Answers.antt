@@ -1,5 +1,6 @@
-use Rattle.std.proofs.Common.{rules, ◌≡◌, ◌-◌, ◌<◌, ◌≤◌, ◌++◌, [], length, take, Ok, Err, refl, ap, ◌∙◌, arith}
+use Rattle.std.proofs.Common.{rules, ◌≡◌, ◌-◌, ◌<◌, ◌≤◌, ◌++◌, [], length, take, Ok, Err, refl, inl, inr, ap, ◌∙◌, arith}
 use Rattle.std.proofs.KnownBytes.{Appends-nil}
+use Rattle.ew_outside.specs.Counts.{next}
 use Rattle.peer_frames.specs.Calls.{Kept}
 use Rattle.serve_plans.proofs.Answers.{answers_grow}
 use Rattle.serve_plans.proofs.Pieces.{reads_none, count_fits, number_fits, nothing_read, kept_none, one_read, piece_fits, piece_leaves, piece_behind, piece_reads, piece_closes, piece_broken, talks_end, talks_long}
@@ -15,6 +16,7 @@ pieces-init g c = record {
       c.args.steps.now (ap (λ (k : Kept). k.bytes) c.in_ok-reader.ensures) c.input-room.ensures.value;
   limits = ap (λ (k : Kept). k.limits) c.in_ok-reader.ensures;
   source = refl;
+  ends = refl;
   sink = refl;
 }
 
@@ -134,6 +136,7 @@ pieces-preserved g c =
           c.in_ok-count.ensures.read.1 c.in_default.is c.in_ok-closing.ensures.most c.pieces.invariant.touches;
       limits = c.in_ok-closing.ensures.limits ∙ c.pieces.invariant.limits;
       source = c.in_ok-count.ensures.read.3 ∙ c.pieces.invariant.source;
+      ends = c.in_ok-count.ensures.ends.1 (omega (arith, c.if-count-eq0.false)) ∙ c.pieces.invariant.ends;
       sink = c.in_ok-closing.ensures.cause ∙ c.pieces.invariant.sink;
     }
 
@@ -229,3 +232,26 @@ returns-in-Some-clause-most g c =
     c.pieces.steps c.take_piece.new.steps c.pieces.invariant.limits size (g.S.Source.seen c.args.input.now).left (g.S.Source.seen c.pieces.input).left
     (g.S.Source.seen c.read_piece.new.input).left (Ok c.in_ok-closing.field-0) c.in_ok-count.ensures.read.1
     c.in_ok-closing.ensures.most c.pieces.invariant.touches
+
+pub returns-in_err-count-clause-ends : goal.returns-in_err-count-clause-ends
+returns-in_err-count-clause-ends g c = inl (c.in_err-count.ensures.ends ∙ c.pieces.invariant.ends)
+
+pub returns-then-count-eq0-clause-ends : goal.returns-then-count-eq0-clause-ends
+returns-then-count-eq0-clause-ends g c =
+    let some : 0 < c.min-most.result = search (rules) in
+    inr (c.in_ok-count.ensures.ends.0 c.if-count-eq0.true some ∙ ap next c.pieces.invariant.ends)
+
+pub returns-in_err-closing-clause-ends : goal.returns-in_err-closing-clause-ends
+returns-in_err-closing-clause-ends g c = inl (c.in_ok-count.ensures.ends.1 (omega (arith, c.if-count-eq0.false)) ∙ c.pieces.invariant.ends)
+
+pub returns-in-Some-clause-ends : goal.returns-in-Some-clause-ends
+returns-in-Some-clause-ends g c = inl (c.in_ok-count.ensures.ends.1 (omega (arith, c.if-count-eq0.false)) ∙ c.pieces.invariant.ends)
+
+pub returns-in_err-read_piece-clause-ends : goal.returns-in_err-read_piece-clause-ends
+returns-in_err-read_piece-clause-ends g c = inl (c.in_err-read_piece.ensures.ends ∙ c.pieces.invariant.ends)
+
+pub returns-then-branch-eq0-clause-ends : goal.returns-then-branch-eq0-clause-ends
+returns-then-branch-eq0-clause-ends g c = inr (c.in_ok-read_piece.ensures.ends.0 c.if-branch-eq0.true (omega arith) ∙ ap next c.pieces.invariant.ends)
+
+pub returns-clause-ends : goal.returns-clause-ends
+returns-clause-ends g c = inl (c.in_ok-read_piece.ensures.ends.1 (omega (arith, c.if-branch-eq0.false)) ∙ c.pieces.invariant.ends)

@@ -10,6 +10,7 @@ invariant-pieces g l = record {
   touches : TouchesAhead l.limits l.fn.replica l.replica (g.S.Source.seen l.fn.input).left (g.S.Source.seen l.input).left l.reader.bytes l.room l.fn.steps l.steps;
   limits : l.reader.limits ≡ l.limits;
   source : (g.S.Source.seen l.input).faults ≡ (g.S.Source.seen l.fn.input).faults;
+  ends : (g.S.Source.seen l.input).ends ≡ (g.S.Source.seen l.fn.input).ends;
   sink : (g.K.Sink.seen l.out).faults ≡ (g.K.Sink.seen l.fn.out).faults;
 }
 

@@ -3,7 +3,7 @@ use Rattle.ew_model.specs.declared.id.Id.{Id}
 use Rattle.ew_model.specs.declared.event.Event.{Event}
 use Rattle.ew_model.specs.Positions.{AreParents, frontier_of, is_reduced_at, positions_in, parent_positions}
 use Rattle.ew_model.proofs.PositionFrontier.{frontier_below}
-use Rattle.agent_ids.specs.Agents.{count_of}
+use Rattle.history_words.specs.Agents.{count_of}
 use Rattle.critical.specs.KeptCuts.{KeptCuts, kept_for}
 use Rattle.event_runs.specs.BareEvents.{bare}
 use Rattle.event_graph.specs.Joining.{IsGoodBehind, event_on}

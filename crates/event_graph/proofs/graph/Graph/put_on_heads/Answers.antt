@@ -2,7 +2,7 @@ use Rattle.std.proofs.Common.{◌≡◌, ◌∙◌, ◌∷◌, ◌++◌, [], Lis
 use Rattle.ew_model.specs.declared.id.Id.{Id}
 use Rattle.ew_model.specs.declared.event.Event.{Event}
 use Rattle.ew_model.specs.Positions.{AreParents, positions_in}
-use Rattle.agent_ids.specs.Agents.{count_of}
+use Rattle.history_words.specs.Agents.{count_of}
 use Rattle.event_graph.specs.Joining.{IsGoodBehind, event_on}
 use Rattle.event_graph.specs.Keeping.{IsKeptOf}
 use Rattle.event_graph.proofs.Admitted.{let_in}

@@ -1,6 +1,6 @@
 use Rattle.std.proofs.Common.{[], ◌∷◌, length, ap, subst, false-eqb}
 use Rattle.ew_model.proofs.LineLaws.{lines_mean-cons}
-use Rattle.event_words.specs.NetScripts.{IsStepReading, MeansStep}
+use Rattle.peer_words.specs.NetScripts.{IsStepReading, MeansStep}
 use Rattle.event_words.proofs.net.script.push_line.Goals as goal
 
 pub returns-clause-line : goal.returns-clause-line

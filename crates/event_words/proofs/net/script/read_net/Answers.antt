@@ -4,7 +4,7 @@ use Rattle.ew_model.proofs.LineLaws.{all_readable}
 use Rattle.std.proofs.lemmas.Result.{err_from_is_err_and}
 use Rattle.event_words.proofs.Faults.{memory_alone}
 use Rattle.event_words.proofs.Lines.{finished}
-use Rattle.event_words.specs.NetScripts.{MeansStep}
+use Rattle.peer_words.specs.NetScripts.{MeansStep}
 use Rattle.event_words.proofs.net.script.read_net.Goals as goal
 
 pub returns-clause-script : goal.returns-clause-script

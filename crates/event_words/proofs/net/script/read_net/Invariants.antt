@@ -1,7 +1,7 @@
 use Rattle.std.proofs.Common.{ℕ, ◌+◌, ◌≤◌, List, ◌++◌, length}
 use Rattle.ew_model.specs.Scripts.{Numbered, LinesMean, IsFirstUnreadable, lines_of}
-use Rattle.event_words.specs.declared.net.step.NetStep.{NetStep}
-use Rattle.event_words.specs.NetScripts.{MeansStep, IsFirstBadNetLine, IsNetScript, numbered_steps}
+use Rattle.peer_words.specs.declared.net_step.NetStep.{NetStep}
+use Rattle.peer_words.specs.NetScripts.{MeansStep, IsFirstBadNetLine, IsNetScript, numbered_steps}
 use Rattle.event_words.proofs.net.script.read_net.Given as goal
 
 -- what the lines that are left mean completes the script; the first bad one of them is the first of all

@@ -1,5 +1,5 @@
 use Rattle.std.proofs.Common.{List, refl, sym, ap, ◌∙◌}
-use Rattle.event_words.specs.declared.net.step.NetStep.TheVariants as step
+use Rattle.peer_words.specs.declared.net_step.NetStep.TheVariants as step
 use Rattle.net_core.specs.declared.fault.NetFault.TheVariants as fault
 use Rattle.peer_words.specs.Machine.{Network, Peer, peer_among}
 use Rattle.peer_words.specs.Machine.Refusal.{PeerTwice}

@@ -3,7 +3,7 @@ use Rattle.std.proofs.lemmas.Result.{err_from_is_err_and}
 use Rattle.ew_model.specs.Edits as edits
 use Rattle.ew_model.specs.Edits.{edit_refusal}
 use Rattle.ew_model.specs.Kept.{is_awaited}
-use Rattle.event_words.specs.declared.net.step.NetStep.TheVariants as step
+use Rattle.peer_words.specs.declared.net_step.NetStep.TheVariants as step
 use Rattle.peer_words.specs.Machine.{Network, Peer, edit_outcome}
 use Rattle.peer_words.specs.Machine.StepOutcome.{Stepped}
 use Rattle.net_core.proofs.EditResults.{failed_reached, failed_told, made_reached, made_told}

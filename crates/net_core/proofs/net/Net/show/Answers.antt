@@ -4,7 +4,7 @@ use Rattle.std.proofs.lemmas.Result.{err_from_is_err_and}
 use Rattle.ew_model.specs.Kept.{ReplicaState}
 use Rattle.ew_model.specs.Scripts.{escaped_text}
 use Rattle.ew_model.specs.Texts.{text_of}
-use Rattle.event_words.specs.declared.net.step.NetStep.TheVariants as step
+use Rattle.peer_words.specs.declared.net_step.NetStep.TheVariants as step
 use Rattle.peer_words.specs.Machine.{Network, Peer, printed_line}
 use Rattle.peer_words.specs.Machine.StepOutcome.{Stepped}
 use Rattle.net_core.proofs.Steps.{at_peer, no_peer, show_is}

@@ -6,7 +6,7 @@ use Rattle.order_tree.specs.Parts.{summary_of, all_pairs}
 use Rattle.order_tree.specs.Shape.{pairs_in, AllBelow}
 use Rattle.order_tree.specs.Edits.{IsPlaced, IsFree, StaysFit}
 use Rattle.order_tree.specs.Rights.{IsLeft}
-use Rattle.order_tree.proofs.KidLaws.{kid_lower, bound_inner}
+use Rattle.order_tree.proofs.KidLaws.{kid_lower, deep_inner}
 use Rattle.order_tree.proofs.KidPlaces.{part_rises}
 use Rattle.order_tree.proofs.InnerEdits.{placed_down, label_down, fits_down, edited_up, below_up, edited_fits, edited_moved}
 use Rattle.order_tree.proofs.BranchEdits.{below_above, if_ok, on_err, same_tree, set_same, is_deep}
@@ -511,7 +511,7 @@ returns-in_ok-done-in-Inner-clause-edited g t c =
     record {
       edited = rw (here, f.pairs, f.own, f.lost, f.gained) up;
       depth = sym deep;
-      enough = bound_inner c.self.inside.depth c.finish-done.new.kids.items f.below f.some;
+      enough = deep_inner c.self.inside.depth c.finish-done.new.kids.items f.below f.some f.few;
       like = rw deep f.like;
       left = f.spares;
     }

@@ -50,7 +50,8 @@ loop-kid-preserved g t c =
     c.relabel-next.new.self c.relabel-next.new.given c.relabel-next.result c.then-reached.result c.relabel-next.new.visits
     (c.relabel-next.ensures.pairs ∙ ap (λ (s : Tree _). relabelled step last s.pairs) is) (c.relabel-next.ensures.depth ∙ ap (λ (s : Tree _). s.depth) is)
     (c.relabel-next.ensures.given ∙ ap (λ (s : Tree _). c.loop-kid.given.items ++ renamed step last s.pairs) is) c.relabel-next.ensures.capacity
-    (c.relabel-next.ensures.last ∙ ap (λ (s : Tree _). reached step last s.pairs) is) c.relabel-next.ensures.known c.then-reached.ensures.last c.then-reached.ensures.known c.relabel-next.ensures.onward
+    (c.relabel-next.ensures.last ∙ ap (λ (s : Tree _). reached step last s.pairs) is) c.relabel-next.ensures.known c.then-reached.ensures.last c.then-reached.ensures.known
+    (omega (arith, c.relabel-next.ensures.onward, ap (λ (s : Tree _). length s.pairs) is))
     (omega (arith, c.relabel-next.ensures.cost, ap (λ (s : Tree _). length s.pairs) is))
 
 pub relabel-next-requires : goal.relabel-next-requires
@@ -174,3 +175,14 @@ returns-after-loop-kid-clause-cost g t c =
     let there : c.args.self.now.pairs ≡ all_pairs (λ k. k.pairs) old = here ∙ sym (ap (λ (ks : List (Tree _)). all_pairs (λ k. k.pairs) ks) same) in
     let all = ap (λ (ks : List (Tree _)). length (all_pairs (λ k. k.pairs) ks)) (take_all c.loop-kid.kid-index old c.loop-kid-test.false) in
     omega (arith, c.loop-kid.invariant.cost, all, ap length there, c.tick.ensures, c.loop-kid-test.false, shape.1, ap length same)
+
+pub returns-after-loop-kid-clause-onward : goal.returns-after-loop-kid-clause-onward
+returns-after-loop-kid-clause-onward g t c =
+    let kids = c.in-Inner.kids.items in
+    let old = c.deref_mut-kid-items.result.now in
+    let same : old ≡ kids = c.deref_mut-kid-items.ensures.value in
+    let shape = rw c.in-Inner.is at c.self.invariant.shape in
+    let here : c.args.self.now.pairs ≡ all_pairs (λ k. k.pairs) kids = sym (ap (λ (s : Tree _). s.pairs) c.self.view_is) ∙ ap pairs_in c.in-Inner.is in
+    let there : c.args.self.now.pairs ≡ all_pairs (λ k. k.pairs) old = here ∙ sym (ap (λ (ks : List (Tree _)). all_pairs (λ k. k.pairs) ks) same) in
+    let all = ap (λ (ks : List (Tree _)). length (all_pairs (λ k. k.pairs) ks)) (take_all c.loop-kid.kid-index old c.loop-kid-test.false) in
+    omega (arith, c.loop-kid.invariant.some, all, ap length there, c.tick.ensures, c.loop-kid-test.false)

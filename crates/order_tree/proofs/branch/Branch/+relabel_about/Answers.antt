@@ -256,3 +256,40 @@ returns-in-NoMemory-clause-cost g t c =
     let w = c.relabel_about-tried.new.self in
     let lower = kid_lower c.self.inside.depth kids k kid shape.0 lt is in
     omega (arith, c.tick.ensures, c.in-NoMemory.ensures.cost, lower, deep, ap length here, others_count kids k lt kid, ap (λ (t : Tree _). length t.pairs) is)
+
+-- AT LEAST ONE WAY DOWN
+pub returns-in-Crowded-clause-onward : goal.returns-in-Crowded-clause-onward
+returns-in-Crowded-clause-onward g t c =
+    let shape = rw c.in-Inner.is at c.self.invariant.shape in
+    let deep : c.args.self.now.depth ≡ c.self.inside.depth = sym (ap (λ (s : Tree _). s.depth) c.self.view_is) in
+    let kids = c.in-Inner.kids.items in
+    let k = c.place_about-k.result.0 in
+    let lt : k < length kids = rw c.as_slice.ensures.value at c.place_about-k.ensures.within in
+    let kid = c.index_mut.result.now in
+    let is : kid ≡ slice_index_or kids k kid = c.index_mut.ensures.value in
+    let lower = kid_lower c.self.inside.depth kids k kid shape.0 lt is in
+    omega (arith, c.tick.ensures, c.relabel_about-tried.ensures.onward, c.count_beside.ensures.onward, c.spread-in-Crowded.ensures.onward, lower, deep)
+
+pub returns-in-Given-clause-onward : goal.returns-in-Given-clause-onward
+returns-in-Given-clause-onward g t c =
+    let shape = rw c.in-Inner.is at c.self.invariant.shape in
+    let deep : c.args.self.now.depth ≡ c.self.inside.depth = sym (ap (λ (s : Tree _). s.depth) c.self.view_is) in
+    let kids = c.in-Inner.kids.items in
+    let k = c.place_about-k.result.0 in
+    let lt : k < length kids = rw c.as_slice.ensures.value at c.place_about-k.ensures.within in
+    let kid = c.index_mut.result.now in
+    let is : kid ≡ slice_index_or kids k kid = c.index_mut.ensures.value in
+    let lower = kid_lower c.self.inside.depth kids k kid shape.0 lt is in
+    omega (arith, c.tick.ensures, c.relabel_about-tried.ensures.onward, lower, deep)
+
+pub returns-in-NoMemory-clause-onward : goal.returns-in-NoMemory-clause-onward
+returns-in-NoMemory-clause-onward g t c =
+    let shape = rw c.in-Inner.is at c.self.invariant.shape in
+    let deep : c.args.self.now.depth ≡ c.self.inside.depth = sym (ap (λ (s : Tree _). s.depth) c.self.view_is) in
+    let kids = c.in-Inner.kids.items in
+    let k = c.place_about-k.result.0 in
+    let lt : k < length kids = rw c.as_slice.ensures.value at c.place_about-k.ensures.within in
+    let kid = c.index_mut.result.now in
+    let is : kid ≡ slice_index_or kids k kid = c.index_mut.ensures.value in
+    let lower = kid_lower c.self.inside.depth kids k kid shape.0 lt is in
+    omega (arith, c.tick.ensures, c.relabel_about-tried.ensures.onward, lower, deep)

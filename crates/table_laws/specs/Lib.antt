@@ -1,0 +1,4 @@
+pub mod FramingLaws
+pub mod MergeLaws
+pub mod PastLaws
+pub mod Sequences

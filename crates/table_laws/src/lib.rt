@@ -1,0 +1,69 @@
+//! What holds of the command table: of every list of runs, of merges, of past versions and replays, and of the frames of an input.
+#![tactic(auto)]
+
+ghost use Rattle.table_laws.specs.FramingLaws.{FramingsAreCuts, FramingsAreFound, FramingsAreOne};
+ghost use Rattle.table_laws.specs.MergeLaws.{MergesAgree, MergesHoldSame, MergesStore, MergesTakeAll};
+ghost use Rattle.table_laws.specs.PastLaws.{HeadsAreAVersion, HeadsShowAll, ReplaysMakeContent, VersionsAreTaken};
+ghost use Rattle.table_laws.specs.Sequences.{RunsFold};
+
+/// After a list of runs of which none met a fault or want of memory, the files are the fold of the
+/// command table, and each run printed and answered what the table says.
+pub fn law_runs()
+    ensures { RunsFold }
+{}
+
+/// Where a merge is done, each event of the other file was appended or was there before; none waits, and none is refused.
+pub fn law_merge_whole()
+    ensures { MergesTakeAll }
+{}
+
+/// Where two files are merged both ways, both show the same text.
+pub fn law_merge_both_ways()
+    ensures { MergesAgree }
+{}
+
+/// Where a merge is done, its file opens as its own events and behind them those of the other file that it didn't hold, in their order.
+pub fn law_merge_files()
+    ensures { MergesStore }
+{}
+
+/// Where two files are merged both ways, both hold the same events.
+pub fn law_merge_same_events()
+    ensures { MergesHoldSame }
+{}
+
+/// A word is taken for a version exactly where it is in the grammar of versions.
+pub fn law_version_words()
+    ensures { VersionsAreTaken }
+{}
+
+/// Where a version names all heads of a file, and no id that the file doesn't hold, `cat --at` answers what `cat` answers.
+pub fn law_past_whole()
+    ensures { HeadsShowAll }
+{}
+
+/// The heads of a file, as `heads` prints them but with a comma between two (`root` where there is none), are a version that names
+/// them all.
+pub fn law_heads_version()
+    ensures { HeadsAreAVersion }
+{}
+
+/// What `replay` prints is read in one way, as operations, and doing these in order, from the empty text on, makes what `cat` prints.
+pub fn law_replays()
+    ensures { ReplaysMakeContent }
+{}
+
+/// Each input of a session has a framing.
+pub fn law_framings_found()
+    ensures { FramingsAreFound }
+{}
+
+/// No input of a session has two framings.
+pub fn law_framings_one()
+    ensures { FramingsAreOne }
+{}
+
+/// The frames of a framing are those that the input, up to the limit, is cut into.
+pub fn law_framings_cuts()
+    ensures { FramingsAreCuts }
+{}
