@@ -14,8 +14,8 @@ use Rattle.peer_words.specs.declared.net_step.NetStep.TheVariants as step
 use Rattle.peer_words.specs.Answering.{answer_to, event_frames}
 use Rattle.peer_words.specs.Pieces.{frame_room, pieces}
 use Rattle.peer_exchange.proofs.PieceLaws.{frames_are_full}
-use Rattle.peer_frames.specs.declared.frame.Frame.{Frame}
-use Rattle.peer_frames.specs.declared.frame.Frame.TheVariants.{Events}
+use Rattle.peer_words.specs.declared.frame.Frame.{Frame}
+use Rattle.peer_words.specs.declared.frame.Frame.TheVariants.{Events}
 use Rattle.peer_words.specs.Draws.{Drawn, draw_of, drawn_edit, next_state}
 use Rattle.peer_words.specs.Machine.{Network, Packet, deliver_step, delivery_of, edit_outcome, edit_step, net_step, print_before, put_replica, with_packet, with_peer, with_replies}
 use Rattle.peer_words.specs.Machine.Refusal.{NoPacket}
