@@ -10,7 +10,7 @@ pub record AreItsParts (whole first second : Outcome) : Type 0 where
   pub waits : whole.desk.waiting ≡ second.desk.waiting
   pub answers : whole.answers ≡ first.answers ++ second.answers
 
--- Events that are received in two parts, one after the other, leave and are answered what all of them are at once.
+-- Receiving events in two parts, one after the other, leaves and answers what receiving all at once does.
 abbrev pub PartsAreTheWhole : Type 0
 PartsAreTheWhole = (limits : LimitNumbers) (history waiting xs ys : List Event) → let first = arrive limits history waiting xs in
     AreItsParts (arrive limits history waiting (xs ++ ys)) first (arrive limits first.desk.held first.desk.waiting ys)

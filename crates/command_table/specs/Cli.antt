@@ -48,7 +48,7 @@ most_made = 1000000
 abbrev pub seed_rule : Rule
 seed_rule = record (new_rule (codes "seed")) { long = Some (codes "seed"); parser = Some (Unsigned 0 most_seed); required = true }
 
--- a number of 32 bits up to another, which has to be given; it is read with its sign
+-- a number from 0 to another, which has to be given; it is read with a sign, so that `-0` is 0
 abbrev pub number_rule : List ℕ → ℕ → Rule
 number_rule name most = record (new_rule name) { long = Some name; parser = Some (Signed (pos 0) (pos most)); required = true }
 
@@ -72,7 +72,7 @@ then_app app more = with_subcommand app more.top
 abbrev pub file_commands : List (List ℕ)
 file_commands = codes "new" ∷ codes "heads" ∷ codes "log" ∷ codes "replay" ∷ codes "check" ∷ codes "ask" ∷ codes "serve" ∷ []
 
--- with a command of one file more for each name
+-- the program with a command of one file for each name
 abbrev pub with_file_apps : App → List (List ℕ) → App
 with_file_apps app [] = app
 with_file_apps app (name ∷ names) = with_file_apps (then_app app (file_app name)) names

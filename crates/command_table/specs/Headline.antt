@@ -52,7 +52,7 @@ pub record Answers (line : Option Line) (limits : LimitNumbers) (old new : Seen)
 abbrev pub StoresNothing : Option Line → Seen → Seen → Type 0
 StoresNothing line old new = (new.shelf.files ≡ old.shelf.files) × (new.shelf.stores ≡ old.shelf.stores) × UnlessServes line (new.out.taken ≡ old.out.taken)
 
--- How far a run came that met a fault of an object. A failed load leaves files, output and input as they were. A failed read stores
+-- How far a run came that met a fault of an object. A failed load leaves files, output and input as they were, and no store is made. A failed read stores
 -- nothing, and prints nothing unless in a session. A failed store is the only one, and prints nothing; of a session `FailsToStore` says it.
 abbrev pub FaultLeaves : Option Line → Object → Seen → Seen → Type 0
 FaultLeaves line shelf old new =
@@ -109,8 +109,9 @@ IfServes line limits old new status = ⊤
 pub record Reads (line : Option Line) (limits : LimitNumbers) (old new : Seen) (status : ℕ) : Type 0 where
   -- status 3 comes of a load that found nothing, where the line needs its files
   pub missing : needs_file line ≡ true → status ≡ 3 → Rose old.shelf.misses new.shelf.misses
+  -- and at the others, but 6 and 8, no load found nothing
   pub found : needs_file line ≡ true → (status ≡ 3 → ⊥) → (status ≡ 6 → ⊥) → (status ≡ 8 → ⊥) → new.shelf.misses ≡ old.shelf.misses
-  -- where a line is to make its file, status 3 says that the load found one, and status 0 that it found none
+  -- where a line is to make its file, status 3 comes only where no load found nothing, and status 0 only where one did
   pub there : makes_file line ≡ true → status ≡ 3 → new.shelf.misses ≡ old.shelf.misses
   pub absent : makes_file line ≡ true → status ≡ 0 → Rose old.shelf.misses new.shelf.misses
   -- never more loads than the line has files, and as many as it has up to the first that is refused
@@ -123,7 +124,7 @@ pub record Reads (line : Option Line) (limits : LimitNumbers) (old new : Seen) (
   -- at status 0 the input is read to its end, if nothing else ends the reading; a line that doesn't read it leaves it
   pub read : status ≡ 0 → (input : List ℕ) → old.input.left ≡ Some input → ReadsToEnd line limits input → new.input.left ≡ Some []
   pub unread : reads_input line ≡ false → LeavesInput old.input new.input
-  -- and an end is believed: the input isn't read again after it
+  -- and an end is believed: no more than one read meets it
   pub ends : RisesOnceAtMost old.input.ends new.input.ends
   -- no more than one byte after the limit is taken
   pub few : TakesAtMost (limits.input + 1) old.input.left new.input.left

@@ -44,8 +44,9 @@ pub record IsSession (s : Session) (old new : Seen) (status : ℕ) : Type 0 wher
   pub failed : status ≡ 6 → GrowsByFront old.out.taken new.out.taken (s.sent ++ printed_by s.closing)
   pub store_failed : old.shelf.faults < new.shelf.faults → IsQuiet old.shelf.lost new.shelf.lost → FailsToStore s old new
   pub memory : status ≡ 8 → GrowsByFront old.out.taken new.out.taken s.sent
-  -- one store is made where the reply stores, and else none; where something failed, it may be that none was
+  -- one store is made where the reply stores, and else none
   pub stores : status ≡ 0 → new.shelf.stores ≡ stored_by s.closing old.shelf.stores
+  -- where something failed, so many were made, or none
   pub stores_failed : status ≡ 6 → (new.shelf.stores ≡ old.shelf.stores) ⊎ (new.shelf.stores ≡ stored_by s.closing old.shelf.stores)
 
 -- a session over files that are known

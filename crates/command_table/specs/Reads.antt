@@ -14,7 +14,7 @@ pub record Shape : Type 0 where
   pub needs : Bool
   -- the input is read
   pub input : Bool
-  -- the first of these files may be stored
+  -- something may be stored, and it is the first of these files
   pub stores : Bool
 
 -- the shape of a line, which may not be taken
@@ -36,6 +36,7 @@ reads_input l = (shape_of l).input
 abbrev pub needs_file : Option Line → Bool
 needs_file l = (shape_of l).needs
 
+-- a run of the line may store something
 abbrev pub may_store : Option Line → Bool
 may_store l = (shape_of l).stores
 

@@ -33,14 +33,15 @@ is_child parent side a = node_eq a.parent parent && side_eq a.side side
 abbrev pub has_child : List Attached → Node → Side → Bool
 has_child attached parent side = list_any (is_child parent side) attached
 
--- so it is of a right child of the node that is attached, and of each
+-- some attached right child of the node is so
 abbrev pub SomeRightChild : (Node → Type 0) → List Attached → Node → Type 0
 SomeRightChild P attached v = (a : Attached) × Among a attached × (is_child v Right a ≡ true) × P a.node
 
+-- each attached right child of the node is so
 abbrev pub EveryRightChild : (Node → Type 0) → List Attached → Node → Type 0
 EveryRightChild P attached v = (a : Attached) → Among a attached → is_child v Right a ≡ true → P a.node
 
--- one with a lower id
+-- a child with a lower id is attached there
 abbrev pub has_lower : List Attached → Node → Side → Id → Bool
 has_lower attached parent side x = list_any (λ (a : Attached). is_child parent side a && id_lt a.id x) attached
 

@@ -55,7 +55,7 @@ is_edit_or_gift s = false
 abbrev pub peers_come : List NetStep
 peers_come = step.Peer (agent_of 0) ∷ step.Peer (agent_of 1) ∷ step.Peer (agent_of 2) ∷ []
 
--- steps of a net that make three peers, and then edits and gifts, leave these peers; there are at most so many of the latter
+-- steps that make three peers, and after that at most so many edits, pushes and deliveries, leave these peers
 pub record AreMadeInNet (limits : LimitNumbers) (most : ℕ) (peers : List ReplicaState) : Type 0 where
   pub steps : List NetStep
   pub packets : List Packet

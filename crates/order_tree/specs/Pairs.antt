@@ -7,7 +7,7 @@ pub record Tree (R : Type 0) : Type 0 where
   pub pairs : List (ℕ × R)
   pub depth : ℕ
 
--- a tree with so many runs may have so many levels: a leaf has one to sixteen runs, another node two to sixteen branches
+-- a tree with so many runs, one or more, may have so many levels: a leaf has one to sixteen runs, another node two to sixteen branches
 abbrev pub IsDepthOf : ℕ → ℕ → Type 0
 IsDepthOf depth runs = (2 ^ depth ≤ 2 * runs) × (runs ≤ 16 ^ depth)
 

@@ -56,6 +56,7 @@ Tells head front = ⊥
 abbrev pub Finds : LimitNumbers → List ℕ → Front → Type 0
 Finds limits bytes front = Tells (head_of limits bytes) front
 
+-- a whole frame stands in front
 abbrev pub is_whole : Front → Bool
 is_whole (Whole f rest) = true
 is_whole front = false

@@ -122,23 +122,13 @@ fn come_all(alloc: Global, graph: &mut Graph, rest: &str) -> Result<String, Faul
     Ok(show::number(alloc, graph.count())?)
 }
 
-/// Puts an event, unless one with its id waits.
+/// Puts an event, unless one with its id waits. Answers the id of one that found the pool full.
 #[tactic(auto, using(waiting_pool::proofs::Behind::behind_put))]
-fn offer(pool: &mut Pool, e: Event) -> Result<(), PutFault>
-    ensures { (held : List Event) → IsBehind held pool.old → IsBehind held pool.new }
-{
-    if pool.find(&e.id).is_some() {
-        return Ok(());
-    }
-    pool.put(e)
-}
-
-/// Puts an event. Answers the id of one that found the pool full.
 fn put(pool: &mut Pool, e: Event) -> Result<Option<Id>, Fault>
     ensures { (held : List Event) → IsBehind held pool.old → IsBehind held pool.new }
 {
-    match offer(pool, e) {
-        Ok(()) => Ok(None),
+    match pool.put(e) {
+        Ok(()) | Err(PutFault::Waits(_)) => Ok(None),
         Err(PutFault::Full(e)) => Ok(Some(e.id)),
         Err(PutFault::OutOfMemory(_)) => Err(Fault::OutOfMemory),
     }

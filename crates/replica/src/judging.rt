@@ -36,6 +36,7 @@ fn wait(pool: &mut Pool, e: &Event) -> Result<Answer, NoMem>
     let copy = e.copy()?;
     match pool.put(copy) {
         Ok(()) => Ok(Answer::Waits),
+        Err(PutFault::Waits(_)) => unreachable!(),
         Err(PutFault::Full(_)) => Ok(Answer::Refused(Refusal::PoolFull)),
         Err(PutFault::OutOfMemory(_)) => Err(AllocError),
     }

@@ -17,7 +17,7 @@ use std::alloc::Global;
 pub fn written(alloc: Global, ops: &[TextOp]) -> Result<(Rope, Vec<u32>), NoMem>
     requires fit { AllFit [] ops.now }
     requires short { AllStayShort [] ops.now }
-    ensures text { IfOk result (λ made. made.0 ≡ changed_by_all ops.now []) }
+    ensures text { IfOk result (λ made. made.0.chars ≡ changed_by_all ops.now []) }
     ensures lengths { IfOk result (λ made. made.1.items ≡ lengths_through [] ops.now) }
 {
     let mut text = Rope::new(alloc)?;
@@ -29,10 +29,10 @@ pub fn written(alloc: Global, ops: &[TextOp]) -> Result<(Rope, Vec<u32>), NoMem>
 /// Does the operations to the text, and puts how long it is after each behind the other lengths. Where memory is wanting,
 /// the text is as before, and some of the lengths may be there.
 pub fn write(text: &mut Rope, lengths: &mut Vec<u32>, ops: &[TextOp]) -> Result<(), NoMem>
-    requires fit { AllFit text.old ops.now }
-    requires short { AllStayShort text.old ops.now }
-    ensures text { OnOk result (text.new ≡ changed_by_all ops.now text.old) }
-    ensures lengths { OnOk result (lengths.new.items ≡ lengths.old.items ++ lengths_through text.old ops.now) }
+    requires fit { AllFit text.old.chars ops.now }
+    requires short { AllStayShort text.old.chars ops.now }
+    ensures text { OnOk result (text.new.chars ≡ changed_by_all ops.now text.old.chars) }
+    ensures lengths { OnOk result (lengths.new.items ≡ lengths.old.items ++ lengths_through text.old.chars ops.now) }
     ensures same_text { OnErr result (text.new ≡ text.old) }
     ensures front { OnErr result (take (length lengths.old.items) lengths.new.items ≡ lengths.old.items) }
 {
@@ -43,9 +43,9 @@ pub fn write(text: &mut Rope, lengths: &mut Vec<u32>, ops: &[TextOp]) -> Result<
 /// Puts how long the text would be after each of the operations behind the other lengths. Where memory is wanting, some of
 /// them may be there.
 fn push_lengths(lengths: &mut Vec<u32>, text: &Rope, ops: &[TextOp]) -> Result<(), NoMem>
-    requires fit { AllFit text.now ops.now }
-    requires short { AllStayShort text.now ops.now }
-    ensures ok { OnOk result (lengths.new.items ≡ lengths.old.items ++ lengths_through text.now ops.now) }
+    requires fit { AllFit text.now.chars ops.now }
+    requires short { AllStayShort text.now.chars ops.now }
+    ensures ok { OnOk result (lengths.new.items ≡ lengths.old.items ++ lengths_through text.now.chars ops.now) }
     ensures front { OnErr result (take (length lengths.old.items) lengths.new.items ≡ lengths.old.items) }
 {
     let mut len = text.len();

@@ -35,7 +35,7 @@ pub fn load<L: Ledger>(
     requires few { length graph.now ≤ 16777216 }
     ensures all { OnOk result (refused ≡ None) }
     ensures good { OnOk result (first_bad graph.now ≡ None) }
-    ensures text { IfOk result (λ made. made.0 ≡ text_of graph.now) }
+    ensures text { IfOk result (λ made. made.0.chars ≡ text_of graph.now) }
     ensures lengths { IfOk result (λ made. made.1.items ≡ prefix_lengths graph.now) }
     ensures bad { IfErr result (λ fault. (events : List Event) → IsAdmittedFront graph.now (option_map ruling_of refused) events → TellsBad events fault) }
     ensures touches { steps.new ≤ steps.old + touches graph.now 0 }

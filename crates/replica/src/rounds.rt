@@ -41,11 +41,11 @@ pub fn round<L: Ledger>(
     steps: &mut Steps<L>,
 ) -> Result<(Desk, bool), NoMem>
     requires desk { IsDesk limits.now graph.old events.now pool.now progress.now }
-    requires kept { IsUpToDate limits.now graph.old pool.now text.old lengths.old.items }
+    requires kept { IsUpToDate limits.now graph.old pool.now text.old.chars lengths.old.items }
     requires few { length events.now < 2 ^ 32 }
     ensures round { IfOk result (λ r. IsRound limits.now (desk_at graph.old (events_of pool.now) events.now progress.now) (desk_as graph.new events.now r.0) progress.now r.0.progress (drop (length graph.old) (operations graph.new)) r.1) }
     ensures desk { IfOk result (λ r. IsDesk limits.now graph.new events.now r.0.pool r.0.progress) }
-    ensures kept { IfOk result (λ r. IsUpToDate limits.now graph.new r.0.pool text.new lengths.new.items) }
+    ensures kept { IfOk result (λ r. IsUpToDate limits.now graph.new r.0.pool text.new.chars lengths.new.items) }
     ensures touches { IfOk result (λ r. r.1 ≡ false → steps.new ≡ steps.old + round_touches limits.now (desk_at graph.old (events_of pool.now) events.now progress.now)) }
     ensures most { steps.new ≤ steps.old + round_touches limits.now (desk_at graph.old (events_of pool.now) events.now progress.now) }
     ensures same_graph { OnErr result (graph.new ≡ graph.old) }
@@ -79,11 +79,11 @@ fn try_round<L: Ledger>(
     steps: &mut Steps<L>,
 ) -> Result<(Desk, bool), NoMem>
     requires desk { IsDesk limits.now graph.old events.now pool.now progress.now }
-    requires kept { IsUpToDate limits.now graph.old pool.now text.old lengths.old.items }
+    requires kept { IsUpToDate limits.now graph.old pool.now text.old.chars lengths.old.items }
     requires few { length events.now < 2 ^ 32 }
     ensures round { IfOk result (λ r. IsRound limits.now (desk_at graph.old (events_of pool.now) events.now progress.now) (desk_as graph.new events.now r.0) progress.now r.0.progress (drop (length graph.old) (operations graph.new)) r.1) }
     ensures desk { IfOk result (λ r. IsDesk limits.now graph.new events.now r.0.pool r.0.progress) }
-    ensures kept { IfOk result (λ r. IsUpToDate limits.now graph.new r.0.pool text.new lengths.new.items) }
+    ensures kept { IfOk result (λ r. IsUpToDate limits.now graph.new r.0.pool text.new.chars lengths.new.items) }
     ensures touches { IfOk result (λ r. r.1 ≡ false → steps.new ≡ steps.old + round_touches limits.now (desk_at graph.old (events_of pool.now) events.now progress.now)) }
     ensures most { steps.new ≤ steps.old + round_touches limits.now (desk_at graph.old (events_of pool.now) events.now progress.now) }
     ensures front { OnErr result (IsFront graph.old graph.new) }

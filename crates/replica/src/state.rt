@@ -98,7 +98,7 @@ impl Model for Replica {
 
     ghost view = { λ r. record { limits = r.limits; held = r.graph; waiting = events_of r.pool } };
 
-    ghost invariant = { λ r. IsUpToDate r.limits r.graph r.pool r.text r.lengths.items };
+    ghost invariant = { λ r. IsUpToDate r.limits r.graph r.pool r.text.chars r.lengths.items };
 }
 
 impl Replica {
@@ -138,7 +138,7 @@ impl Replica {
     ) -> Result<Replica, NoMem>
         requires good { first_bad graph ≡ None }
         requires few { length graph ≤ limits.events }
-        requires text { text ≡ text_of graph }
+        requires text { text.chars ≡ text_of graph }
         requires lengths { lengths.items ≡ prefix_lengths graph }
         ensures { IfOk result (λ r. r ≡ record { limits = limits; held = graph; waiting = [] }) }
     {

@@ -1,14 +1,26 @@
--- What a whole tree is seen as. (No public contract cites this.)
+-- What a whole tree is seen as.
 use Rattle.std.specs.Prelude.{ℕ, Option, Some, None, List, []}
 use Rattle.rope.specs.Nodes.{Seen}
 use Rattle.rope.specs.Shape.{IsSound}
 
--- its characters, none without a root
+-- a text: its characters, in order, the number of the leaves that they stand in, and that of the levels of nodes, leaves included; without
+-- characters there is no node
+pub record Tree : Type 0 where
+  pub chars : List ℕ
+  pub leaves : ℕ
+  pub depth : ℕ
+
+-- the characters below a root, none without one
 abbrev pub chars_of_root : Option Seen → List ℕ
 chars_of_root None = []
 chars_of_root (Some b) = b.chars
 
--- the number of its levels
+-- the number of the leaves
+abbrev pub leaves_of : Option Seen → ℕ
+leaves_of None = 0
+leaves_of (Some b) = b.leaves
+
+-- the number of the levels
 abbrev pub depth_of : Option Seen → ℕ
 depth_of None = 0
 depth_of (Some b) = b.depth

@@ -1,6 +1,6 @@
 //! A text that is changed at an index.
 
-ghost use Rattle.std.specs.Prelude.{◌≡◌, ℕ, ◌+◌, ◌*◌, ◌^◌, ◌<◌, ◌≤◌, [], ◌++◌, length, insert, remove, slice_get, Some, encode_utf8_all, IfOk, OnOk, OnErr};
+ghost use Rattle.std.specs.Prelude.{◌≡◌, ◌+◌, ◌*◌, ◌^◌, ◌<◌, ◌≤◌, [], ◌++◌, length, insert, remove, slice_get, Some, encode_utf8_all, IfOk, OnOk, OnErr};
 ghost use Rattle.ew_model.specs.Operations.{changed_by_all};
 ghost use Rattle.ew_model.specs.TextLaws.{AllFit};
 ghost use Rattle.rope.specs.Lengths.{most_chars, AllStayShort};
@@ -28,7 +28,8 @@ pub struct Shape {
     pub depth: u32,
 }
 
-/// A text of at most 16,777,216 characters. Contracts see the list of its characters.
+/// A text of at most 16,777,216 characters. Contracts see the list of its characters, and the numbers of leaves and of levels that
+/// its tree has.
 #[derive(Drop)]
 pub struct Rope {
     alloc: Global,
@@ -36,13 +37,13 @@ pub struct Rope {
 }
 
 impl Model for Rope {
-    ghost use Rattle.std.specs.Prelude.{ℕ, List, length, ◌≤◌};
+    ghost use Rattle.std.specs.Prelude.{length, ◌≤◌};
     ghost use Rattle.rope.specs.Lengths.{most_chars};
-    ghost use Rattle.rope.specs.Whole.{chars_of_root, IsRoot};
+    ghost use Rattle.rope.specs.Whole.{Tree, chars_of_root, leaves_of, depth_of, IsRoot};
 
-    ghost Value = { List ℕ };
+    ghost Value = { Tree };
 
-    ghost view = { λ r. chars_of_root r.root };
+    ghost view = { λ r. record { chars = chars_of_root r.root; leaves = leaves_of r.root; depth = depth_of r.root } };
 
     ghost invariant = { λ r. IsRoot r.root × (length (chars_of_root r.root) ≤ most_chars) };
 }
@@ -50,15 +51,15 @@ impl Model for Rope {
 impl Rope {
     /// The empty text.
     pub fn new(alloc: Global) -> Result<Rope, NoMem>
-        ensures { IfOk result (λ r. r ≡ []) }
+        ensures { IfOk result (λ r. r ≡ record { chars = []; leaves = 0; depth = 0 }) }
     {
         Ok(Rope { alloc, root: None })
     }
 
     /// How many characters the text has.
     pub fn len(&self) -> u32
-        ensures count { result ≡ length self.now }
-        ensures short { length self.now ≤ most_chars }
+        ensures count { result ≡ length self.now.chars }
+        ensures short { length self.now.chars ≤ most_chars }
     {
         match &self.root {
             None => 0,
@@ -68,11 +69,13 @@ impl Rope {
 
     /// The number of leaves and of levels of the tree's nodes.
     pub fn shape(&self) -> Shape
-        ensures enough { length self.now ≤ 64 * result.leaves }
-        ensures bound { 0 < length self.now → 2 ^ result.depth ≤ 2 * result.leaves }
-        ensures some { result.leaves ≤ length self.now }
+        ensures leaves { result.leaves ≡ self.now.leaves }
+        ensures depth { result.depth ≡ self.now.depth }
+        ensures enough { length self.now.chars ≤ 64 * result.leaves }
+        ensures bound { 0 < length self.now.chars → 2 ^ result.depth ≤ 2 * result.leaves }
+        ensures some { result.leaves ≤ length self.now.chars }
         ensures most { result.leaves ≤ most_chars }
-        ensures none { self.now ≡ [] → result.depth ≡ 0 }
+        ensures none { self.now.chars ≡ [] → result.depth ≡ 0 }
     {
         match &self.root {
             None => Shape {
@@ -88,8 +91,9 @@ impl Rope {
 
     /// The number of leaves of the tree: 0 without characters.
     pub fn leaves(&self) -> u32
-        ensures enough { length self.now ≤ 64 * result }
-        ensures some { result ≤ length self.now }
+        ensures value { result ≡ self.now.leaves }
+        ensures enough { length self.now.chars ≤ 64 * result }
+        ensures some { result ≤ length self.now.chars }
         ensures most { result ≤ most_chars }
     {
         self.shape().leaves
@@ -97,16 +101,17 @@ impl Rope {
 
     /// The number of levels of nodes, leaves included: 0 without characters.
     pub fn depth(&self) -> u32
-        ensures bound { 0 < length self.now → (leaves : ℕ) × (leaves ≤ length self.now) × (length self.now ≤ 64 * leaves) × (2 ^ result ≤ 2 * leaves) }
-        ensures none { self.now ≡ [] → result ≡ 0 }
+        ensures value { result ≡ self.now.depth }
+        ensures bound { 0 < length self.now.chars → 2 ^ result ≤ 2 * self.now.leaves }
+        ensures none { self.now.chars ≡ [] → result ≡ 0 }
     {
         self.shape().depth
     }
 
     /// The character at the index.
     pub fn char_at(&self, i: u32) -> char
-        requires { i < length self.now }
-        ensures { slice_get self.now i ≡ Some result }
+        requires { i < length self.now.chars }
+        ensures { slice_get self.now.chars i ≡ Some result }
     {
         let Some(branch) = &self.root else {
             unreachable!()
@@ -116,9 +121,9 @@ impl Rope {
 
     /// Puts the character at the index, before what stands there.
     pub fn insert(&mut self, at: u32, ch: char) -> Result<(), NoMem>
-        requires within { at ≤ length self.old }
-        requires short { length self.old < most_chars }
-        ensures ok { OnOk result (self.new ≡ insert self.old at ch) }
+        requires within { at ≤ length self.old.chars }
+        requires short { length self.old.chars < most_chars }
+        ensures ok { OnOk result (self.new.chars ≡ insert self.old.chars at ch) }
         ensures err { OnErr result (self.new ≡ self.old) }
     {
         let mut spares = Spares::new(self.alloc);
@@ -127,8 +132,8 @@ impl Rope {
 
     /// Takes the character at the index out.
     pub fn remove(&mut self, at: u32) -> Result<(), NoMem>
-        requires within { at < length self.old }
-        ensures ok { OnOk result (self.new ≡ remove self.old at) }
+        requires within { at < length self.old.chars }
+        ensures ok { OnOk result (self.new.chars ≡ remove self.old.chars at) }
         ensures err { OnErr result (self.new ≡ self.old) }
     {
         remove_char(&mut self.root, at);
@@ -137,9 +142,9 @@ impl Rope {
 
     /// Does the operations one after another. All room is made first, so a refusal comes before any of them is done.
     pub fn apply(&mut self, ops: &[TextOp]) -> Result<(), NoMem>
-        requires fit { AllFit self.old ops.now }
-        requires short { AllStayShort self.old ops.now }
-        ensures ok { OnOk result (self.new ≡ changed_by_all ops.now self.old) }
+        requires fit { AllFit self.old.chars ops.now }
+        requires short { AllStayShort self.old.chars ops.now }
+        ensures ok { OnOk result (self.new.chars ≡ changed_by_all ops.now self.old.chars) }
         ensures err { OnErr result (self.new ≡ self.old) }
     {
         if let Some(at) = typed_at(ops) {
@@ -155,7 +160,7 @@ impl Rope {
 
     /// Puts the UTF-8 of all characters behind the bytes of the vector. A refusal leaves the vector as it was.
     pub fn write_to(&self, to: &mut Vec<u8>) -> Result<(), NoMem>
-        ensures ok { OnOk result (to.new.items ≡ to.old.items ++ encode_utf8_all self.now) }
+        ensures ok { OnOk result (to.new.items ≡ to.old.items ++ encode_utf8_all self.now.chars) }
         ensures err { OnErr result (to.new.items ≡ to.old.items) }
     {
         match &self.root {
@@ -171,9 +176,9 @@ impl Rope {
         requires some { 0 < length ops.now }
         requires few { length ops.now ≤ 32 }
         requires typed { IsTyped at ops.now }
-        requires fit { AllFit self.old ops.now }
-        requires short { AllStayShort self.old ops.now }
-        ensures ok { OnOk result (self.new ≡ changed_by_all ops.now self.old) }
+        requires fit { AllFit self.old.chars ops.now }
+        requires short { AllStayShort self.old.chars ops.now }
+        ensures ok { OnOk result (self.new.chars ≡ changed_by_all ops.now self.old.chars) }
         ensures err { OnErr result (self.new ≡ self.old) }
     {
         let mut spares = Spares::new(self.alloc);
@@ -183,11 +188,11 @@ impl Rope {
 
     /// Does operations with few insertions, for all of which leaves and blocks are held first.
     fn change_here(&mut self, insertions: u32, ops: &[TextOp]) -> Result<(), NoMem>
-        requires fit { AllFit self.old ops.now }
-        requires short { AllStayShort self.old ops.now }
+        requires fit { AllFit self.old.chars ops.now }
+        requires short { AllStayShort self.old.chars ops.now }
         requires few { insertions ≤ most_chars }
         requires counted { insertions ≡ room_for_all ops.now }
-        ensures ok { OnOk result (self.new ≡ changed_by_all ops.now self.old) }
+        ensures ok { OnOk result (self.new.chars ≡ changed_by_all ops.now self.old.chars) }
         ensures err { OnErr result (self.new ≡ self.old) }
     {
         let mut spares = Spares::new(self.alloc);
@@ -201,9 +206,9 @@ impl Rope {
     /// Does operations with so many insertions that a copy of the nodes costs no more: it takes what it needs on the way, and stands in
     /// the place of the old nodes once all is done.
     fn change_copy(&mut self, ops: &[TextOp]) -> Result<(), NoMem>
-        requires fit { AllFit self.old ops.now }
-        requires short { AllStayShort self.old ops.now }
-        ensures ok { OnOk result (self.new ≡ changed_by_all ops.now self.old) }
+        requires fit { AllFit self.old.chars ops.now }
+        requires short { AllStayShort self.old.chars ops.now }
+        ensures ok { OnOk result (self.new.chars ≡ changed_by_all ops.now self.old.chars) }
         ensures err { OnErr result (self.new ≡ self.old) }
     {
         let mut spares = Spares::new(self.alloc);

@@ -140,15 +140,19 @@ impl Pool {
         self.waiters.get(&number)
     }
 
-    /// Puts an event behind the others, unless as many wait as may. The event is handed back where it may not wait.
+    /// Puts an event behind the others, unless one with its id waits or as many wait as may. The event is handed back where it may
+    /// not wait.
     pub fn put(&mut self, event: Event) -> Result<(), PutFault>
-        requires { is_held (events_of self.old) event.id ≡ false }
         ensures events { OnOk result (events_of self.new ≡ events_of self.old ++ event ∷ []) }
         ensures ok { OnOk result (self.new ≡ put_behind self.old event) }
-        ensures full { (result ≡ Err (PutFault.Full event)) ↔ (length (events_of self.old) ≡ self.old.limit) }
+        ensures waits { (result ≡ Err (PutFault.Waits event)) ↔ (is_held (events_of self.old) event.id ≡ true) }
+        ensures full { (result ≡ Err (PutFault.Full event)) ↔ ((is_held (events_of self.old) event.id ≡ false) × (length (events_of self.old) ≡ self.old.limit)) }
         ensures back { IfErr result (λ fault. event_in fault ≡ event) }
         ensures err { OnErr result (self.new ≡ self.old) }
     {
+        if self.find(&event.id).is_some() {
+            return Err(PutFault::Waits(event));
+        }
         if self.len() == self.limit {
             return Err(PutFault::Full(event));
         }

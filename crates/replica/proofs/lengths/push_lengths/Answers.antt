@@ -7,26 +7,26 @@ use Rattle.replica.proofs.lengths.push_lengths.Goals as goal
 use Rattle.replica.proofs.lengths.push_lengths.Goals.{In-loop-op}
 
 -- where the next operation comes
-next : (c : In-loop-op) → IsOnTheWay c.loop-op.len c.loop-op.lengths.items (get_or c.args.ops.now c.loop-op.op-index (Ins 0 0) ∷ drop (c.loop-op.op-index + 1) c.args.ops.now) (c.args.lengths.now.items ++ lengths_through c.args.text.now c.args.ops.now)
-next c = at_next c.loop-op.len c.loop-op.lengths.items (c.args.lengths.now.items ++ lengths_through c.args.text.now c.args.ops.now) c.args.ops.now c.loop-op.op-index (Ins 0 0) c.loop-op-test.true c.loop-op.invariant.left
+next : (c : In-loop-op) → IsOnTheWay c.loop-op.len c.loop-op.lengths.items (get_or c.args.ops.now c.loop-op.op-index (Ins 0 0) ∷ drop (c.loop-op.op-index + 1) c.args.ops.now) (c.args.lengths.now.items ++ lengths_through c.args.text.now.chars c.args.ops.now)
+next c = at_next c.loop-op.len c.loop-op.lengths.items (c.args.lengths.now.items ++ lengths_through c.args.text.now.chars c.args.ops.now) c.args.ops.now c.loop-op.op-index (Ins 0 0) c.loop-op-test.true c.loop-op.invariant.left
 
 pub length_after-len-requires-clause-fits : goal.length_after-len-requires-clause-fits
 length_after-len-requires-clause-fits c =
-    (next_fits c.loop-op.len c.loop-op.lengths.items (c.args.lengths.now.items ++ lengths_through c.args.text.now c.args.ops.now) (get_or c.args.ops.now c.loop-op.op-index (Ins 0 0)) (drop (c.loop-op.op-index + 1) c.args.ops.now) (next c)).0
+    (next_fits c.loop-op.len c.loop-op.lengths.items (c.args.lengths.now.items ++ lengths_through c.args.text.now.chars c.args.ops.now) (get_or c.args.ops.now c.loop-op.op-index (Ins 0 0)) (drop (c.loop-op.op-index + 1) c.args.ops.now) (next c)).0
 
 pub length_after-len-requires-clause-room : goal.length_after-len-requires-clause-room
 length_after-len-requires-clause-room c =
-    (next_fits c.loop-op.len c.loop-op.lengths.items (c.args.lengths.now.items ++ lengths_through c.args.text.now c.args.ops.now) (get_or c.args.ops.now c.loop-op.op-index (Ins 0 0)) (drop (c.loop-op.op-index + 1) c.args.ops.now) (next c)).1
+    (next_fits c.loop-op.len c.loop-op.lengths.items (c.args.lengths.now.items ++ lengths_through c.args.text.now.chars c.args.ops.now) (get_or c.args.ops.now c.loop-op.op-index (Ins 0 0)) (drop (c.loop-op.op-index + 1) c.args.ops.now) (next c)).1
 
 pub loop-op-init : goal.loop-op-init
 loop-op-init c = record {
   begun = ([], sym (append-nil c.args.lengths.now.items));
-  left = record { now = c.args.text.now; long = sym c.len-len.ensures.count; fit = c.requires.fit; short = c.requires.short; rest = refl };
+  left = record { now = c.args.text.now.chars; long = sym c.len-len.ensures.count; fit = c.requires.fit; short = c.requires.short; rest = refl };
 }
 
 pub loop-op-preserved : goal.loop-op-preserved
 loop-op-preserved c =
-    let all = c.args.lengths.now.items ++ lengths_through c.args.text.now c.args.ops.now in
+    let all = c.args.lengths.now.items ++ lengths_through c.args.text.now.chars c.args.ops.now in
     let left = drop (c.loop-op.op-index + 1) c.args.ops.now in
     let begun = c.loop-op.invariant.begun in
     record {
@@ -38,7 +38,7 @@ loop-op-preserved c =
 
 pub returns-clause-ok : goal.returns-clause-ok
 returns-clause-ok c =
-    at_end c.loop-op.len c.loop-op.lengths.items (c.args.lengths.now.items ++ lengths_through c.args.text.now c.args.ops.now) c.args.ops.now c.loop-op.op-index c.loop-op-test.false c.loop-op.invariant.left
+    at_end c.loop-op.len c.loop-op.lengths.items (c.args.lengths.now.items ++ lengths_through c.args.text.now.chars c.args.ops.now) c.args.ops.now c.loop-op.op-index c.loop-op-test.false c.loop-op.invariant.left
 
 pub returns-in_err-push-clause-front : goal.returns-in_err-push-clause-front
 returns-in_err-push-clause-front c =
