@@ -106,10 +106,7 @@ fn with_file_command<'a>(
 const FILE_COMMANDS: [&str; 7] = ["new", "heads", "log", "replay", "check", "ask", "serve"];
 
 /// Adds the commands of one file that have no options.
-fn with_file_commands<'a>(
-    alloc: Global,
-    command: Command<'a>,
-) -> Result<Command<'a>, AllocError>
+fn with_file_commands<'a>(alloc: Global, command: Command<'a>) -> Result<Command<'a>, AllocError>
     ensures { IfOk result (λ c. app_of c ≡ with_file_apps (app_of command.entry) file_commands) }
 {
     let mut command = command;
