@@ -103,6 +103,8 @@ impl Rope {
     pub fn depth(&self) -> u32
         ensures value { result ≡ self.now.depth }
         ensures bound { 0 < length self.now.chars → 2 ^ result ≤ 2 * self.now.leaves }
+        ensures enough { length self.now.chars ≤ 64 * self.now.leaves }
+        ensures some { self.now.leaves ≤ length self.now.chars }
         ensures none { self.now.chars ≡ [] → result ≡ 0 }
     {
         self.shape().depth

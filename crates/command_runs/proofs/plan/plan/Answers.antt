@@ -164,7 +164,7 @@ pub returns-in-Some-Does-clause-refused : goal.returns-in-Some-Does-clause-refus
 returns-in-Some-Does-clause-refused g c = rw c.in-Some-Does.is (rw c.in-Some-Does.field-0-is c.plan_command.ensures.refused)
 
 pub returns-in-Some-Serves-clause-all : goal.returns-in-Some-Serves-clause-all
-returns-in-Some-Serves-clause-all g c = rw c.in-Some-Serves.is (rw c.in-Some-Serves.field-0-is (one_all _ _ _ c.serve.result c.serve.ensures.loads))
+returns-in-Some-Serves-clause-all g c = rw c.in-Some-Serves.is (rw c.in-Some-Serves.field-0-is (one_all c.in-Some-Serves.file.now _ _ c.serve.result c.serve.ensures.loads))
 
 pub returns-in-Some-Serves-clause-makes : goal.returns-in-Some-Serves-clause-makes
 returns-in-Some-Serves-clause-makes g c = rw c.in-Some-Serves.is (rw c.in-Some-Serves.field-0-is (none_made _ _ c.serve.result))
@@ -176,7 +176,7 @@ pub returns-in-Some-Serves-clause-refused : goal.returns-in-Some-Serves-clause-r
 returns-in-Some-Serves-clause-refused g c = λ needs. c.serve.ensures.refused
 
 pub returns-in-None-clause-all : goal.returns-in-None-clause-all
-returns-in-None-clause-all g c = rw c.in-None.is tt
+returns-in-None-clause-all g c = tt
 
 pub returns-in-None-clause-makes : goal.returns-in-None-clause-makes
 returns-in-None-clause-makes g c = rw c.in-None.is (λ makes. absurd (false≢true makes))

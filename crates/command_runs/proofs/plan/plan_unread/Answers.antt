@@ -1,4 +1,4 @@
-use Rattle.std.proofs.Common.{arith}
+use Rattle.std.proofs.Common.{[], ◌∷◌, arith}
 use Rattle.std.specs.FinMap.{get}
 use Rattle.command_table.specs.Loads.{whole_of}
 use Rattle.command_table.specs.Table.{create, make, merge, show, create_reply, make_reply, merge_reply, open_file, over_both, over_events, show_reply}
@@ -89,7 +89,7 @@ pub returns-in-Show-clause-all : goal.returns-in-Show-clause-all
 returns-in-Show-clause-all g c = rw c.in-Show.is (one_all c.in-Show.file.now _ _ c.show.result c.show.ensures.loads)
 
 pub returns-in-Merge-clause-all : goal.returns-in-Merge-clause-all
-returns-in-Merge-clause-all g c = rw c.in-Merge.is (all_of_shelf _ _ _ _ _ c.merge.result c.merge.ensures.cause c.merge.ensures.all)
+returns-in-Merge-clause-all g c = rw c.in-Merge.is (all_of_shelf (c.in-Merge.file.now ∷ c.in-Merge.other.now ∷ []) (g.H.Shelf.seen c.args.shelf.now).loads (g.H.Shelf.seen c.merge.new.shelf).loads _ _ c.merge.result c.merge.ensures.cause c.merge.ensures.all)
 
 pub returns-in-Make-clause-all : goal.returns-in-Make-clause-all
 returns-in-Make-clause-all g c = rw c.in-Make.is (none_all _ c.make_history.result)
