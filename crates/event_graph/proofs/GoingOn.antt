@@ -47,6 +47,20 @@ last_pushed (f ∷ history) e =
     let place : length (f ∷ (history ++ e ∷ [])) - 1 ≡ suc (length (history ++ e ∷ []) - 1) = omega (arith, long) in
     ap (slice_get (ids_of (f ∷ (history ++ e ∷ [])))) place ∙ last_pushed history e
 
+-- where there are events, there is a last one
+pub last_there : (history : List Event) → 0 < length history → (x : Id) × (last_id history ≡ Some x)
+last_there history some = at history (length history - 1) (omega (arith, some))
+  where
+    at : (events : List Event) (k : ℕ) → k < length events → (x : Id) × (slice_get (ids_of events) k ≡ Some x)
+    at [] k h = absurd (omega arith)
+    at (e ∷ events) zero h = (e.id, refl)
+    at (e ∷ events) (suc k) h = at events k (omega (arith, h))
+
+-- an event that goes on after the last one has one before it
+pub some_before : (history : List Event) (x : Id) → option_map next_id (last_in (ids_of history)) ≡ Some x → 0 < length history
+some_before [] x h = let no : ⊥ = cc in absurd no
+some_before (e ∷ history) x h = omega arith
+
 -- the last of numbered ids is its agent's last
 next_free : (ids : List Id) (x : Id) → AreNumbered ids → last_in ids ≡ Some x → is_among ids (next_id x) ≡ false
 next_free ids x numbered last =
@@ -54,7 +68,7 @@ next_free ids x numbered last =
     false_from_ne_true (is_among ids (next_id x)) (λ q. let less : suc x.seq < count_of ids x.agent = below_count ids (next_id x) numbered q in omega (arith, own, less))
 
 module _ (history : List Event) (admitted : IsAdmitted history) (x : Id) (last : last_id history ≡ Some x) where
-  last_of_ids : last_in (ids_of history) ≡ Some x
+  pub last_of_ids : last_in (ids_of history) ≡ Some x
   last_of_ids = ap (λ n. slice_get (ids_of history) (n - 1)) (length-map history (λ (e : Event). e.id)) ∙ last
 
   split : (front : List Id) × (ids_of history ≡ front ++ x ∷ [])

@@ -8,7 +8,8 @@ pub mod Rebuilt
 pub mod Grown
 pub mod Numbers
 pub mod OneHead
-pub mod OnHeads
+pub mod Appended
+pub mod NextAfter
 pub mod IdRows
 pub mod Lists
 pub mod Counted

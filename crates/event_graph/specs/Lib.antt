@@ -1,3 +1,4 @@
+pub mod Afters
 pub mod Finding
 pub mod GoingOn
 pub mod Joining

@@ -1,6 +1,6 @@
 //! The graph.
 
-ghost use Rattle.std.specs.Prelude.{◌≡◌, ◌≢◌, ℕ, ◌+◌, ◌-◌, ◌<◌, ◌≤◌, ◌^◌, List, [], ◌∷◌, ◌++◌, map, length, true, Some, slice_get, position, find, not, option_map, IfOk, IfSome, IsOkAnd, OnOk, OnErr};
+ghost use Rattle.std.specs.Prelude.{◌≡◌, ◌+◌, ◌-◌, ◌<◌, ◌≤◌, ◌^◌, List, [], ◌∷◌, ◌++◌, map, length, true, Some, slice_get, position, find, not, option_map, IfOk, IfSome, IsOkAnd, OnOk, OnErr};
 ghost use Rattle.std.specs.List.{All};
 ghost use Rattle.std.specs.Option.{option_copied};
 ghost use Rattle.ew_model.specs.declared.id.Id.{Id};
@@ -9,8 +9,8 @@ ghost use Rattle.ew_model.specs.Ancestors as model;
 ghost use Rattle.ew_model.specs.Answers.{ruling_of};
 ghost use Rattle.ew_model.specs.Cuts.{is_critical, latest_cut};
 ghost use Rattle.ew_model.specs.Ids.{id_eq, is_among, ids_ascend};
-ghost use Rattle.ew_model.specs.Positions.{AreParents, IsHistoryOfParents, parents_at, known_alone, positions_in, parent_positions};
-ghost use Rattle.ew_model.specs.Sound.{IsSoundId, IsSoundOp, IsSound, AreSound};
+ghost use Rattle.ew_model.specs.Positions.{parents_at, known_alone, positions_in, parent_positions};
+ghost use Rattle.ew_model.specs.Sound.{AreSound};
 ghost use Rattle.ew_model.specs.Verdicts.{id_rows, parent_rows, first_unknown, follows_its_agent, graph_verdict};
 ghost use Rattle.ew_model.specs.Verdicts.Ruling.{Good};
 ghost use Rattle.frontier.specs.Chains.{IsChain};
@@ -18,15 +18,17 @@ ghost use Rattle.ancestors.specs.Floors.{HasAllBelow};
 ghost use Rattle.ancestors.specs.Spans as spans;
 ghost use Rattle.event_runs.specs.Runs.{IsRunStart};
 ghost use Rattle.history_words.specs.Chains.{event_behind, last_id};
+ghost use Rattle.event_graph.specs.Afters.{IsNextAfter};
 ghost use Rattle.event_graph.specs.Keeping.{IsAdmitted, bare_events};
 ghost use Rattle.event_graph.specs.Finding.{found_in};
 ghost use Rattle.event_graph.specs.Joining.{IsGoodBehind, event_on};
 ghost use Rattle.event_graph.specs.Rows.{row_in};
 ghost use Rattle.history_words.specs.Summary.{summary_of};
 
+use crate::facts::Facts;
 use crate::ids::{agents, ascend, counts, ids_at, is_among};
 use crate::near::Near;
-use crate::parts::{append, append_apart, append_on_last, only_head};
+use crate::parts::{After, append};
 use agent_ids::AgentTable;
 use ancestors::{Spans, contains, diff, is_reduced};
 use critical::Cuts;
@@ -42,10 +44,11 @@ use smallvec::SmallVec;
 use std::alloc::Global;
 use std::marker::Model;
 
+/// The most parents of an event.
 const MOST_PARENTS: usize = 16;
 
 /// A history of events, each of which was judged good when it came. Contracts see the list of its events, the oldest
-/// first. A position is a place in that list, from 0.
+/// first. A position is a place in that list, from 0; a parameter that is called `lv`, for local version, is one too.
 pub struct Graph {
     alloc: Global,
     ids: AgentTable,
@@ -117,7 +120,7 @@ impl Graph {
     /// The position of the event with this id, if it is held.
     pub fn find(&self, id: &Id) -> Option<u32>
         ensures value { result ≡ position (id_eq id.now) (model.ids_of self.now) }
-        ensures within { IfSome result (λ lv. lv < length self.now) }
+        ensures within { IfSome result (λ p. p < length self.now) }
     {
         self.ids.position(id)
     }
@@ -152,20 +155,20 @@ impl Graph {
     }
 
     /// The id of the event at a position, which is sought first where the last one was found.
-    pub fn id_near(&self, lv: u32, near: &mut Near) -> Id
-        requires { lv < length self.now }
-        ensures { slice_get (model.ids_of self.now) lv ≡ Some result }
+    pub fn id_near(&self, position: u32, near: &mut Near) -> Id
+        requires { position < length self.now }
+        ensures { slice_get (model.ids_of self.now) position ≡ Some result }
     {
-        self.ids.id_near(lv, &mut near.id)
+        self.ids.id_near(position, &mut near.id)
     }
 
     /// The id of the event at a position, which is sought first among the last ids.
-    pub(crate) fn id_from_end(&self, lv: u32) -> Id
-        requires { lv < length self.now }
-        ensures { slice_get (model.ids_of self.now) lv ≡ Some result }
+    pub(crate) fn id_from_end(&self, position: u32) -> Id
+        requires { position < length self.now }
+        ensures { slice_get (model.ids_of self.now) position ≡ Some result }
     {
         let mut near = self.ids.runs().saturating_sub(1) as usize;
-        self.ids.id_near(lv, &mut near)
+        self.ids.id_near(position, &mut near)
     }
 
     /// The operation of the event at a position.
@@ -178,21 +181,21 @@ impl Graph {
     }
 
     /// The operation of the event at a position, which is sought first where the last one was found.
-    pub fn op_near(&self, lv: u32, near: &mut Near) -> Op
-        requires { lv < length self.now }
-        ensures { slice_get (map (λ (e : Event). e.op) self.now) lv ≡ Some result }
+    pub fn op_near(&self, position: u32, near: &mut Near) -> Op
+        requires { position < length self.now }
+        ensures { slice_get (map (λ (e : Event). e.op) self.now) position ≡ Some result }
     {
-        self.events.op_near(lv, &mut near.event)
+        self.events.op_near(position, &mut near.event)
     }
 
     /// Where the run of the event at a position begins: each event of it but the first has the one before it as its only parent. It
     /// is sought first where the last event was found.
-    pub fn chain_start_near(&self, lv: u32, near: &mut Near) -> u32
-        requires { lv < length self.now }
-        ensures chain { IsChain (parent_positions self.now) result lv }
-        ensures start { IsRunStart (bare_events self.now) lv result }
+    pub fn chain_start_near(&self, position: u32, near: &mut Near) -> u32
+        requires { position < length self.now }
+        ensures chain { IsChain (parent_positions self.now) result position }
+        ensures start { IsRunStart (bare_events self.now) position result }
     {
-        self.events.chain_start_near(lv, &mut near.event)
+        self.events.chain_start_near(position, &mut near.event)
     }
 
     /// The event at a position.
@@ -205,15 +208,15 @@ impl Graph {
     }
 
     /// The event at a position, which is sought first where the last one was found.
-    pub fn event_near(&self, lv: u32, near: &mut Near) -> Result<Event, NoMem>
-        requires { lv < length self.now }
-        ensures { IfOk result (λ e. slice_get self.now lv ≡ Some e) }
+    pub fn event_near(&self, position: u32, near: &mut Near) -> Result<Event, NoMem>
+        requires { position < length self.now }
+        ensures { IfOk result (λ e. slice_get self.now position ≡ Some e) }
     {
-        let (op, positions) = self.events.event_near(lv, &mut near.event);
+        let (op, positions) = self.events.event_near(position, &mut near.event);
         let mut parents = ids_at(self.alloc, &self.ids, positions.as_slice())?;
         parents.sort_unstable();
         Ok(Event {
-            id: self.ids.id_near(lv, &mut near.id),
+            id: self.ids.id_near(position, &mut near.id),
             parents: Parents::from_vec(parents),
             op,
         })
@@ -236,8 +239,8 @@ impl Graph {
     {
         let mut positions = Vec::new(self.alloc);
         for id in ids {
-            if let Some(lv) = self.find(id) {
-                positions.push(lv)?;
+            if let Some(position) = self.find(id) {
+                positions.push(position)?;
             }
         }
         Ok(positions)
@@ -308,10 +311,10 @@ impl Graph {
         ensures { IfOk result (λ v. option_map ruling_of v ≡ row_in (id_rows self.now [] e.now)) }
     {
         let _count = self.count();
-        let Some(lv) = self.find(&e.id) else {
+        let Some(position) = self.find(&e.id) else {
             return Ok(None);
         };
-        let held = self.event_at(lv)?;
+        let held = self.event_at(position)?;
         if e.same(&held) {
             Ok(Some(Verdict::Repeat))
         } else {
@@ -379,7 +382,7 @@ impl Graph {
     {
         let _count = self.count();
         match self.find(id) {
-            Some(lv) => contains(self.alloc, self, positions, lv),
+            Some(position) => contains(self.alloc, self, positions, position),
             None => Ok(false),
         }
     }
@@ -408,56 +411,13 @@ impl Graph {
         ensures ok { OnOk result ((parents : List Id) → IsGoodBehind self.old positions.now (event_on id op parents) → self.new ≡ self.old ++ event_on id op parents ∷ []) }
         ensures err { OnErr result (self.new ≡ self.old) }
     {
-        fits(&id, &op);
+        id.facts();
+        op.facts();
         if self.heads.equals(positions) {
-            self.put_on_heads(id, op, positions)
+            self.append(&After::Heads(id), op, positions)
         } else {
-            self.put_apart(id, op, positions)
+            self.append(&After::Other(id), op, positions)
         }
-    }
-
-    /// The same where the parents are all the heads. Then it is the only head.
-    fn put_on_heads(&mut self, id: Id, op: Op, positions: &[u32]) -> Result<(), NoMem>
-        requires next { (parents : List Id) × IsGoodBehind self.old positions.now (event_on id op parents) }
-        requires room { length self.old + 1 < 2 ^ 32 }
-        requires sound { (parents : List Id) → IsGoodBehind self.old positions.now (event_on id op parents) → IsSound (event_on id op parents) }
-        requires heads { positions.now ≡ positions_in self.old (model.heads self.old) }
-        ensures ok { OnOk result ((parents : List Id) → IsGoodBehind self.old positions.now (event_on id op parents) → self.new ≡ self.old ++ event_on id op parents ∷ []) }
-        ensures err { OnErr result (self.new ≡ self.old) }
-    {
-        let heads = only_head(self.alloc, self.events.count())?;
-        append(
-            &mut self.ids,
-            &mut self.events,
-            &mut self.cuts,
-            &self.heads,
-            id,
-            op,
-            positions,
-        )?;
-        self.heads = heads;
-        Ok(())
-    }
-
-    /// The same where the parents aren't the heads. The heads, which may be many, aren't copied.
-    fn put_apart(&mut self, id: Id, op: Op, positions: &[u32]) -> Result<(), NoMem>
-        requires next { (parents : List Id) × IsGoodBehind self.old positions.now (event_on id op parents) }
-        requires room { length self.old + 1 < 2 ^ 32 }
-        requires sound { (parents : List Id) → IsGoodBehind self.old positions.now (event_on id op parents) → IsSound (event_on id op parents) }
-        requires apart { positions.now ≢ positions_in self.old (model.heads self.old) }
-        ensures ok { OnOk result ((parents : List Id) → IsGoodBehind self.old positions.now (event_on id op parents) → self.new ≡ self.old ++ event_on id op parents ∷ []) }
-        ensures err { OnErr result (self.new ≡ self.old) }
-    {
-        append_apart(
-            &mut self.ids,
-            &mut self.events,
-            &mut self.heads,
-            id,
-            op,
-            positions,
-        )?;
-        self.cuts.push_apart(positions);
-        Ok(())
     }
 
     /// Puts an event behind the others that goes on from the last one, where that is the only head. No id is made.
@@ -468,10 +428,28 @@ impl Graph {
         ensures ok { OnOk result ((x : Id) × (last_id self.old ≡ Some x) × (self.new ≡ self.old ++ event_behind x op ∷ [])) }
         ensures err { OnErr result (self.new ≡ self.old) }
     {
-        op_fits(&op);
-        let heads = only_head(self.alloc, self.events.count())?;
-        append_on_last(&mut self.ids, &mut self.events, &mut self.cuts, op)?;
-        self.heads = heads;
+        op.facts();
+        let last = self.events.count() - 1;
+        self.append(&After::Last, op, &[last])
+    }
+
+    /// Puts an event after the others that was judged good, and whose parents stand at these positions.
+    fn append(&mut self, after: &After, op: Op, positions: &[u32]) -> Result<(), NoMem>
+        requires next { (e : Event) × IsNextAfter self.old after.now positions.now op e }
+        requires room { length self.old + 1 < 2 ^ 32 }
+        ensures ok { OnOk result ((e : Event) → IsNextAfter self.old after.now positions.now op e → self.new ≡ self.old ++ e ∷ []) }
+        ensures err { OnErr result (self.new ≡ self.old) }
+    {
+        append(
+            self.alloc,
+            &mut self.ids,
+            &mut self.events,
+            &mut self.heads,
+            &mut self.cuts,
+            after,
+            op,
+            positions,
+        )?;
         Ok(())
     }
 
@@ -483,31 +461,6 @@ impl Graph {
         let mut names = agents(self.alloc, &self.ids)?;
         names.sort_unstable();
         counts(self.alloc, &self.ids, &names)
-    }
-}
-
-/// An id and an operation are in the ranges of their types.
-fn fits(id: &Id, op: &Op)
-    ensures id { IsSoundId id.now }
-    ensures op { IsSoundOp op.now }
-{
-    let _agent = id.agent.as_slice();
-    let _number = id.seq;
-    op_fits(op);
-}
-
-/// An operation is in the range of its type.
-fn op_fits(op: &Op)
-    ensures { IsSoundOp op.now }
-{
-    match *op {
-        Op::Ins { at, ch } => {
-            let _index = at;
-            let _character = ch;
-        }
-        Op::Del { at } => {
-            let _index = at;
-        }
     }
 }
 

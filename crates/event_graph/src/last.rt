@@ -36,7 +36,7 @@ impl Graph {
 
     /// The position of the last event, where its id is the only one of these.
     pub(crate) fn find_last(&self, ids: &[Id]) -> Option<u32>
-        ensures { IfSome result (λ lv. lv ∷ [] ≡ positions_in self.now ids.now) }
+        ensures { IfSome result (λ p. p ∷ [] ≡ positions_in self.now ids.now) }
     {
         let last = self.last_id()?;
         if is_only(ids, &last) {
@@ -54,16 +54,16 @@ impl Graph {
         ensures ok { OnOk result ((x : Id) × (last_id self.old ≡ Some x) × (self.new ≡ self.old ++ event_behind x op ∷ [])) }
         ensures err { OnErr result (self.new ≡ self.old) }
     {
-        let lv = self.count() - 1;
-        if is_only_place(self.frontier().as_slice(), lv) {
+        let position = self.count() - 1;
+        if is_only_place(self.frontier().as_slice(), position) {
             return self.put_on_last(op);
         }
-        let last = self.id_from_end(lv);
+        let last = self.id_from_end(position);
         let next = Id {
             agent: last.agent,
             seq: last.seq + 1,
         };
-        self.put(next, op, &[lv])?;
+        self.put(next, op, &[position])?;
         Ok(())
     }
 }
@@ -83,8 +83,8 @@ fn is_only(ids: &[Id], x: &Id) -> bool
 }
 
 /// Whether the position is the only one of these.
-fn is_only_place(positions: &[u32], lv: u32) -> bool
-    ensures { IsTrue result ↔ (positions.now ≡ lv ∷ []) }
+fn is_only_place(positions: &[u32], place: u32) -> bool
+    ensures { IsTrue result ↔ (positions.now ≡ place ∷ []) }
 {
-    positions.len() == 1 && positions[0] == lv
+    positions.len() == 1 && positions[0] == place
 }

@@ -1,6 +1,7 @@
 //! The history of a replica as a graph of events: found by id and by position, judged, made longer, and cut to a version.
 #![tactic(auto)]
 
+mod facts;
 pub mod graph;
 mod ids;
 mod last;

@@ -38,9 +38,9 @@ impl Graph {
         let mut counted = Counted::new(by_agent(self.alloc(), counts)?);
         let mut missing = Vec::new(self.alloc());
         let mut near = Near::start();
-        for lv in 0..self.count() {
-            if !counted.holds(&self.id_near(lv, &mut near)) {
-                missing.push(lv)?;
+        for position in 0..self.count() {
+            if !counted.holds(&self.id_near(position, &mut near)) {
+                missing.push(position)?;
             }
         }
         Ok(missing)
@@ -53,8 +53,8 @@ impl Graph {
     {
         let mut events = Vec::with_capacity(self.alloc(), positions.len())?;
         let mut near = Near::start();
-        for lv in positions {
-            events.push(self.event_near(*lv, &mut near)?)?;
+        for position in positions {
+            events.push(self.event_near(*position, &mut near)?)?;
         }
         Ok(events)
     }

@@ -1,14 +1,14 @@
 //! The parts of a graph, changed together.
 
-ghost use Rattle.std.specs.Prelude.{◌≡◌, ◌+◌, ◌-◌, ◌<◌, ◌^◌, List, ℕ, [], ◌∷◌, ◌++◌, length, true, Some, IfOk, OnOk, OnErr};
+ghost use Rattle.std.specs.Prelude.{◌≡◌, ◌+◌, ◌<◌, ◌^◌, List, ℕ, [], ◌∷◌, ◌++◌, length, true, Some, IfOk, OnOk, OnErr};
 ghost use Rattle.std.specs.List.{All};
 ghost use Rattle.ew_model.specs.declared.id.Id.{Id};
 ghost use Rattle.ew_model.specs.Positions.{AreParents, IsHistoryOfParents, frontier_of, is_reduced_at};
 ghost use Rattle.history_words.specs.Agents.{count_of};
-ghost use Rattle.agent_ids.specs.IdRuns.{last_in};
 ghost use Rattle.critical.specs.KeptCuts.{kept_for};
+ghost use Rattle.event_graph.specs.Afters.{StandsOn, id_after};
+ghost use Rattle.event_graph.specs.declared.parts.After.TheVariants.{Last};
 ghost use Rattle.event_runs.specs.BareEvents.{bare};
-ghost use Rattle.history_words.specs.Chains.{next_id};
 
 use agent_ids::AgentTable;
 use critical::Cuts;
@@ -20,167 +20,142 @@ use frontier::Frontier;
 use smallvec::SmallVec;
 use std::alloc::Global;
 
-/// The frontier whose one head stands at a position.
-pub fn only_head(alloc: Global, lv: u32) -> Result<Frontier, NoMem>
-    ensures { IfOk result (λ heads. heads ≡ lv ∷ []) }
-{
-    let heads = SmallVec::from_slice(alloc, &[lv])?;
-    Ok(Frontier::from_rising(heads))
+/// What a new event comes after, and its id.
+#[derive(Clone, Copy)]
+pub enum After {
+    /// The last event, which is the only head. It has the next id of that event's agent, which isn't made.
+    Last,
+    /// All heads.
+    Heads(Id),
+    /// Other events than the heads.
+    Other(Id),
 }
 
-/// Puts one more event behind the others, in each of the parts or in none. `heads` is the frontier so far.
+/// Puts one more event behind the others, in each of the parts or in none. Where its parents aren't the heads, these, which may be many,
+/// aren't copied.
 pub fn append(
+    alloc: Global,
     ids: &mut AgentTable,
     runs: &mut EventRuns,
+    heads: &mut Frontier,
     cuts: &mut Cuts,
-    heads: &Frontier,
-    id: Id,
+    after: &After,
     op: Op,
     parents: &[u32],
 ) -> Result<(), NoMem>
-    requires next { id.seq ≡ count_of ids.old id.agent }
+    requires some { (x : Id) × (id_after after.now ids.old ≡ Some x) }
+    requires next { (x : Id) → id_after after.now ids.old ≡ Some x → x.seq ≡ count_of ids.old x.agent }
     requires alike { length ids.old ≡ length runs.old }
     requires cut_count { cuts.old.count ≡ length runs.old }
+    requires below { All (λ h. h < length runs.old) heads.old }
     requires parents { AreParents (length runs.old) parents.now }
+    requires few { after.now ≡ Last → 0 < length runs.old }
     requires room { length runs.old + 1 < 2 ^ 32 }
-    ensures ids { OnOk result (ids.new ≡ ids.old ++ id ∷ []) }
+    ensures ids { OnOk result ((x : Id) → id_after after.now ids.old ≡ Some x → ids.new ≡ ids.old ++ x ∷ []) }
     ensures runs { OnOk result (runs.new ≡ runs.old ++ bare op parents.now ∷ []) }
-    ensures cuts { OnOk result ((history : List (List ℕ)) → IsHistoryOfParents history → cuts.old ≡ kept_for history → heads.now ≡ frontier_of history → is_reduced_at history parents.now ≡ true → cuts.new ≡ kept_for (history ++ parents.now ∷ [])) }
+    ensures heads { OnOk result ((history : List (List ℕ)) → IsHistoryOfParents history → length runs.old ≡ length history → heads.old ≡ frontier_of history → StandsOn after.now (length runs.old) heads.old parents.now → heads.new ≡ frontier_of (history ++ parents.now ∷ [])) }
+    ensures cuts { OnOk result ((history : List (List ℕ)) → IsHistoryOfParents history → cuts.old ≡ kept_for history → heads.old ≡ frontier_of history → StandsOn after.now (length runs.old) heads.old parents.now → is_reduced_at history parents.now ≡ true → cuts.new ≡ kept_for (history ++ parents.now ∷ [])) }
     ensures same_ids { OnErr result (ids.new ≡ ids.old) }
     ensures same_runs { OnErr result (runs.new ≡ runs.old) }
+    ensures same_heads { OnErr result (heads.new ≡ heads.old) }
     ensures same_cuts { OnErr result (cuts.new ≡ cuts.old) }
 {
     let count = runs.count();
-    ids.append(id)?;
-    if let Err(fault) = append_bare(runs, cuts, heads, op, parents) {
+    append_id(ids, after)?;
+    if let Err(fault) = append_bare(alloc, runs, heads, cuts, after, op, parents) {
         ids.truncate(count);
         return Err(fault);
     }
     Ok(())
+}
+
+/// Puts the id behind the others.
+fn append_id(ids: &mut AgentTable, after: &After) -> Result<(), NoMem>
+    requires some { (x : Id) × (id_after after.now ids.old ≡ Some x) }
+    requires next { (x : Id) → id_after after.now ids.old ≡ Some x → x.seq ≡ count_of ids.old x.agent }
+    requires room { length ids.old + 1 < 2 ^ 32 }
+    ensures ok { OnOk result ((x : Id) → id_after after.now ids.old ≡ Some x → ids.new ≡ ids.old ++ x ∷ []) }
+    ensures err { OnErr result (ids.new ≡ ids.old) }
+{
+    match after {
+        After::Last => ids.append_next(),
+        After::Heads(id) | After::Other(id) => ids.append(*id),
+    }
 }
 
 /// The same for the parts that don't know ids.
 fn append_bare(
+    alloc: Global,
     runs: &mut EventRuns,
+    heads: &mut Frontier,
     cuts: &mut Cuts,
-    heads: &Frontier,
+    after: &After,
     op: Op,
     parents: &[u32],
 ) -> Result<(), NoMem>
     requires cut_count { cuts.old.count ≡ length runs.old }
+    requires below { All (λ h. h < length runs.old) heads.old }
     requires parents { AreParents (length runs.old) parents.now }
+    requires few { after.now ≡ Last → 0 < length runs.old }
     requires room { length runs.old + 1 < 2 ^ 32 }
     ensures runs { OnOk result (runs.new ≡ runs.old ++ bare op parents.now ∷ []) }
-    ensures cuts { OnOk result ((history : List (List ℕ)) → IsHistoryOfParents history → cuts.old ≡ kept_for history → heads.now ≡ frontier_of history → is_reduced_at history parents.now ≡ true → cuts.new ≡ kept_for (history ++ parents.now ∷ [])) }
+    ensures heads { OnOk result ((history : List (List ℕ)) → IsHistoryOfParents history → length runs.old ≡ length history → heads.old ≡ frontier_of history → StandsOn after.now (length runs.old) heads.old parents.now → heads.new ≡ frontier_of (history ++ parents.now ∷ [])) }
+    ensures cuts { OnOk result ((history : List (List ℕ)) → IsHistoryOfParents history → cuts.old ≡ kept_for history → heads.old ≡ frontier_of history → StandsOn after.now (length runs.old) heads.old parents.now → is_reduced_at history parents.now ≡ true → cuts.new ≡ kept_for (history ++ parents.now ∷ [])) }
     ensures same_runs { OnErr result (runs.new ≡ runs.old) }
+    ensures same_heads { OnErr result (heads.new ≡ heads.old) }
     ensures same_cuts { OnErr result (cuts.new ≡ cuts.old) }
 {
     let count = runs.count();
     runs.append(op, parents)?;
-    if let Err(fault) = cuts.push(parents, heads) {
+    if let Err(fault) = move_heads(alloc, heads, cuts, after, count, parents) {
         runs.truncate(count);
         return Err(fault);
     }
     Ok(())
 }
 
-/// Puts an event behind the others that goes on from the last one, which is the only head, in each of the parts or in none. Its id
-/// isn't made.
-pub fn append_on_last(
-    ids: &mut AgentTable,
-    runs: &mut EventRuns,
+/// Takes the event after so many others into the heads and the cuts.
+fn move_heads(
+    alloc: Global,
+    heads: &mut Frontier,
     cuts: &mut Cuts,
-    op: Op,
-) -> Result<(), NoMem>
-    requires some { 0 < length ids.old }
-    requires alike { length ids.old ≡ length runs.old }
-    requires cut_count { cuts.old.count ≡ length runs.old }
-    requires room { length runs.old + 1 < 2 ^ 32 }
-    ensures ids { OnOk result ((x : Id) × (last_in ids.old ≡ Some x) × (ids.new ≡ ids.old ++ next_id x ∷ [])) }
-    ensures runs { OnOk result (runs.new ≡ runs.old ++ bare op ((length runs.old - 1) ∷ []) ∷ []) }
-    ensures cuts { OnOk result ((history : List (List ℕ)) → IsHistoryOfParents history → cuts.old ≡ kept_for history → frontier_of history ≡ (length runs.old - 1) ∷ [] → is_reduced_at history ((length runs.old - 1) ∷ []) ≡ true → cuts.new ≡ kept_for (history ++ ((length runs.old - 1) ∷ []) ∷ [])) }
-    ensures same_ids { OnErr result (ids.new ≡ ids.old) }
-    ensures same_runs { OnErr result (runs.new ≡ runs.old) }
-    ensures same_cuts { OnErr result (cuts.new ≡ cuts.old) }
-{
-    let count = runs.count();
-    ids.append_next()?;
-    if let Err(fault) = append_bare_on_last(runs, cuts, op) {
-        ids.truncate(count);
-        return Err(fault);
-    }
-    Ok(())
-}
-
-/// The same for the parts that don't know ids.
-fn append_bare_on_last(runs: &mut EventRuns, cuts: &mut Cuts, op: Op) -> Result<(), NoMem>
-    requires some { 0 < length runs.old }
-    requires cut_count { cuts.old.count ≡ length runs.old }
-    requires room { length runs.old + 1 < 2 ^ 32 }
-    ensures runs { OnOk result (runs.new ≡ runs.old ++ bare op ((length runs.old - 1) ∷ []) ∷ []) }
-    ensures cuts { OnOk result ((history : List (List ℕ)) → IsHistoryOfParents history → cuts.old ≡ kept_for history → frontier_of history ≡ (length runs.old - 1) ∷ [] → is_reduced_at history ((length runs.old - 1) ∷ []) ≡ true → cuts.new ≡ kept_for (history ++ ((length runs.old - 1) ∷ []) ∷ [])) }
-    ensures same_runs { OnErr result (runs.new ≡ runs.old) }
-    ensures same_cuts { OnErr result (cuts.new ≡ cuts.old) }
-{
-    let count = runs.count();
-    runs.append(op, &[count - 1])?;
-    if let Err(fault) = cuts.push_on_last() {
-        runs.truncate(count);
-        return Err(fault);
-    }
-    Ok(())
-}
-
-/// Puts one more event behind the others, in each of these parts or in none.
-pub fn append_apart(
-    ids: &mut AgentTable,
-    runs: &mut EventRuns,
-    heads: &mut Frontier,
-    id: Id,
-    op: Op,
+    after: &After,
+    count: u32,
     parents: &[u32],
 ) -> Result<(), NoMem>
-    requires next { id.seq ≡ count_of ids.old id.agent }
-    requires alike { length ids.old ≡ length runs.old }
-    requires below { All (λ h. h < length runs.old) heads.old }
-    requires parents { AreParents (length runs.old) parents.now }
-    requires room { length runs.old + 1 < 2 ^ 32 }
-    ensures ids { OnOk result (ids.new ≡ ids.old ++ id ∷ []) }
-    ensures runs { OnOk result (runs.new ≡ runs.old ++ bare op parents.now ∷ []) }
-    ensures heads { OnOk result ((history : List (List ℕ)) → IsHistoryOfParents history → length runs.old ≡ length history → heads.old ≡ frontier_of history → heads.new ≡ frontier_of (history ++ parents.now ∷ [])) }
-    ensures same_ids { OnErr result (ids.new ≡ ids.old) }
-    ensures same_runs { OnErr result (runs.new ≡ runs.old) }
+    requires cut_count { cuts.old.count ≡ count }
+    requires below { All (λ h. h < count) heads.old }
+    requires parents { AreParents count parents.now }
+    requires few { after.now ≡ Last → 0 < count }
+    requires room { count + 1 < 2 ^ 32 }
+    ensures heads { OnOk result ((history : List (List ℕ)) → IsHistoryOfParents history → count ≡ length history → heads.old ≡ frontier_of history → StandsOn after.now count heads.old parents.now → heads.new ≡ frontier_of (history ++ parents.now ∷ [])) }
+    ensures cuts { OnOk result ((history : List (List ℕ)) → IsHistoryOfParents history → cuts.old ≡ kept_for history → heads.old ≡ frontier_of history → StandsOn after.now count heads.old parents.now → is_reduced_at history parents.now ≡ true → cuts.new ≡ kept_for (history ++ parents.now ∷ [])) }
     ensures same_heads { OnErr result (heads.new ≡ heads.old) }
+    ensures same_cuts { OnErr result (cuts.new ≡ cuts.old) }
 {
-    let count = runs.count();
-    ids.append(id)?;
-    if let Err(fault) = append_heads(runs, heads, op, parents) {
-        ids.truncate(count);
-        return Err(fault);
+    match after {
+        After::Last => {
+            let next = only_head(alloc, count)?;
+            cuts.push_on_last()?;
+            *heads = next;
+        }
+        After::Heads(_) => {
+            let next = only_head(alloc, count)?;
+            cuts.push(parents, heads)?;
+            *heads = next;
+        }
+        After::Other(_) => {
+            heads.insert_event(count, parents)?;
+            cuts.push_apart(parents);
+        }
     }
     Ok(())
 }
 
-/// The same for the parts that don't know ids.
-fn append_heads(
-    runs: &mut EventRuns,
-    heads: &mut Frontier,
-    op: Op,
-    parents: &[u32],
-) -> Result<(), NoMem>
-    requires below { All (λ h. h < length runs.old) heads.old }
-    requires parents { AreParents (length runs.old) parents.now }
-    requires room { length runs.old + 1 < 2 ^ 32 }
-    ensures runs { OnOk result (runs.new ≡ runs.old ++ bare op parents.now ∷ []) }
-    ensures heads { OnOk result ((history : List (List ℕ)) → IsHistoryOfParents history → length runs.old ≡ length history → heads.old ≡ frontier_of history → heads.new ≡ frontier_of (history ++ parents.now ∷ [])) }
-    ensures same_runs { OnErr result (runs.new ≡ runs.old) }
-    ensures same_heads { OnErr result (heads.new ≡ heads.old) }
+/// The frontier whose one head stands at a position.
+fn only_head(alloc: Global, position: u32) -> Result<Frontier, NoMem>
+    ensures { IfOk result (λ heads. heads ≡ position ∷ []) }
 {
-    let count = runs.count();
-    runs.append(op, parents)?;
-    if let Err(fault) = heads.insert_event(count, parents) {
-        runs.truncate(count);
-        return Err(fault);
-    }
-    Ok(())
+    let heads = SmallVec::from_slice(alloc, &[position])?;
+    Ok(Frontier::from_rising(heads))
 }

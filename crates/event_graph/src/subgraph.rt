@@ -53,8 +53,8 @@ fn admit_span(graph: &Graph, part: &mut Graph, span: Span) -> Result<(), NoMem>
     ensures { OnOk result (part.new ≡ part.old ++ events_at graph.now (positions_in span)) }
 {
     let mut near = Near::start();
-    for lv in span.from..span.to {
-        part.admit(&graph.event_near(lv, &mut near)?)?;
+    for position in span.from..span.to {
+        part.admit(&graph.event_near(position, &mut near)?)?;
     }
     Ok(())
 }

@@ -7,14 +7,14 @@ use Rattle.event_graph.proofs.subgraph.admit_span.Goals as goal
 
 pub admit-requires-clause-good : goal.admit-requires-clause-good
 admit-requires-clause-good c =
-    (step c.args.graph.now c.loop-lv.part c.loop-lv.lv c.in_ok-event_near.field-0 _ _ (range_first c.loop-lv.lv c.args.span.to c.loop-lv-test.true) c.in_ok-event_near.ensures c.loop-lv.invariant.next).good
+    (step c.args.graph.now c.loop-position.part c.loop-position.position c.in_ok-event_near.field-0 _ _ (range_first c.loop-position.position c.args.span.to c.loop-position-test.true) c.in_ok-event_near.ensures c.loop-position.invariant.next).good
 
-pub loop-lv-preserved : goal.loop-lv-preserved
-loop-lv-preserved c =
+pub loop-position-preserved : goal.loop-position-preserved
+loop-position-preserved c =
     let graph = c.args.graph.now in
-    let later = range_with_len (c.loop-lv.lv + 1) (c.args.span.to - (c.loop-lv.lv + 1)) in
-    let s = step graph c.loop-lv.part c.loop-lv.lv c.in_ok-event_near.field-0 later _ (range_first c.loop-lv.lv c.args.span.to c.loop-lv-test.true) c.in_ok-event_near.ensures c.loop-lv.invariant.next in
+    let later = range_with_len (c.loop-position.position + 1) (c.args.span.to - (c.loop-position.position + 1)) in
+    let s = step graph c.loop-position.part c.loop-position.position c.in_ok-event_near.field-0 later _ (range_first c.loop-position.position c.args.span.to c.loop-position-test.true) c.in_ok-event_near.ensures c.loop-position.invariant.next in
     record {
       next = subst (λ (part : List Event). AreNext graph part later) (sym c.in_ok-admit.ensures.ok) s.next;
-      same = ap (λ (part : List Event). part ++ events_at graph later) c.in_ok-admit.ensures.ok ∙ s.same ∙ c.loop-lv.invariant.same;
+      same = ap (λ (part : List Event). part ++ events_at graph later) c.in_ok-admit.ensures.ok ∙ s.same ∙ c.loop-position.invariant.same;
     }

@@ -6,8 +6,8 @@ use Rattle.event_graph.proofs.SpanEvents.{AreNext}
 use Rattle.event_graph.proofs.subgraph.admit_span.Given as goal
 
 -- the positions from here on are next, and complete the part
-abbrev pub invariant-loop-lv : goal.invariant-loop-lv
-invariant-loop-lv l = record {
-  next : AreNext l.fn.graph l.part (range_with_len l.lv (l.fn.span.to - l.lv));
-  same : l.part ++ events_at l.fn.graph (range_with_len l.lv (l.fn.span.to - l.lv)) ≡ l.fn.part ++ events_at l.fn.graph (positions_in l.fn.span);
+abbrev pub invariant-loop-position : goal.invariant-loop-position
+invariant-loop-position l = record {
+  next : AreNext l.fn.graph l.part (range_with_len l.position (l.fn.span.to - l.position));
+  same : l.part ++ events_at l.fn.graph (range_with_len l.position (l.fn.span.to - l.position)) ≡ l.fn.part ++ events_at l.fn.graph (positions_in l.fn.span);
 }

@@ -12,11 +12,11 @@ returns-clause-chain c =
     let now = c.args.self.now in
     let inside = c.self.inside in
     let kept : IsKeptOf now inside.ids inside.events inside.heads inside.cuts = subst (λ (h : List Event). IsKeptOf h inside.ids inside.events inside.heads inside.cuts) c.self.view_is c.self.invariant in
-    subst (λ (lists : List (List ℕ)). IsChain lists c.chain_start_near.result c.args.lv) (parents_are now inside.ids inside.events inside.heads inside.cuts kept) c.chain_start_near.ensures.chain
+    subst (λ (lists : List (List ℕ)). IsChain lists c.chain_start_near.result c.args.position) (parents_are now inside.ids inside.events inside.heads inside.cuts kept) c.chain_start_near.ensures.chain
 
 pub returns-clause-start : goal.returns-clause-start
 returns-clause-start c =
     let now = c.args.self.now in
     let inside = c.self.inside in
     let kept : IsKeptOf now inside.ids inside.events inside.heads inside.cuts = subst (λ (h : List Event). IsKeptOf h inside.ids inside.events inside.heads inside.cuts) c.self.view_is c.self.invariant in
-    subst (λ (events : List BareEvent). IsRunStart events c.args.lv c.chain_start_near.result) kept.events_are c.chain_start_near.ensures.start
+    subst (λ (events : List BareEvent). IsRunStart events c.args.position c.chain_start_near.result) kept.events_are c.chain_start_near.ensures.start

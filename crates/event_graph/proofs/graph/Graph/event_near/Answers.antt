@@ -17,15 +17,15 @@ pub returns : goal.returns
 returns c =
     let now = c.args.self.now in
     let inside = c.self.inside in
-    let lv = c.args.lv in
+    let place = c.args.position in
     let kept : IsKeptOf now inside.ids inside.events inside.heads inside.cuts = subst (λ (h : List Event). IsKeptOf h inside.ids inside.events inside.heads inside.cuts) c.self.view_is c.self.invariant in
-    let positions = parents_at (parents_in inside.events) lv in
+    let positions = parents_at (parents_in inside.events) place in
     let found : c.in_ok-parents.parents.items ≡ map (id_of inside.ids) positions = c.in_ok-parents.ensures ∙ ap (map (id_of inside.ids)) (c.as_slice.ensures ∙ c.event_near-op.ensures.parents) in
     let after = c.sort_unstable.new.self.items in
     let sorted : after ≡ sort_by id_cmp (map (id_of inside.ids) positions) =
-    sorted_is_sort_by id_total (map (id_of inside.ids) positions) after (parents_apart now inside.ids inside.events inside.heads inside.cuts kept lv c.requires)
+    sorted_is_sort_by id_total (map (id_of inside.ids) positions) after (parents_apart now inside.ids inside.events inside.heads inside.cuts kept place c.requires)
     (subst (λ (xs : List Id). IsPermutation xs after) found c.sort_unstable.ensures.permutation) c.sort_unstable.ensures.sorted in
     let same : ascending_at inside.ids positions ≡ c.from_vec.result = sym (c.from_vec.ensures ∙ sorted) in
-    ap (λ (h : List Event). slice_get h lv) (sym c.self.view_is)
-    ∙ event_here inside.ids inside.ids inside.events lv c.id_near.result c.event_near-op.result.0 c.id_near.ensures c.event_near-op.ensures.op
+    ap (λ (h : List Event). slice_get h place) (sym c.self.view_is)
+    ∙ event_here inside.ids inside.ids inside.events place c.id_near.result c.event_near-op.result.0 c.id_near.ensures c.event_near-op.ensures.op
     ∙ ap (λ (ps : List Id). Some (record { id = c.id_near.result; parents = ps; op = c.event_near-op.result.0 })) same

@@ -18,4 +18,4 @@ returns-clause-within c =
     let now = c.args.self.now in
     let inside = c.self.inside in
     let kept : IsKeptOf now inside.ids inside.events inside.heads inside.cuts = subst (λ (h : List Event). IsKeptOf h inside.ids inside.events inside.heads inside.cuts) c.self.view_is c.self.invariant in
-    subst (λ n. IfSome c.position.result (λ lv. lv < n)) (length_ids now inside.ids inside.events inside.heads inside.cuts kept) c.position.ensures.within
+    subst (λ n. IfSome c.position.result (λ p. p < n)) (length_ids now inside.ids inside.events inside.heads inside.cuts kept) c.position.ensures.within

@@ -17,4 +17,4 @@ returns c =
     let now = c.args.self.now in
     let inside = c.self.inside in
     let kept : IsKeptOf now inside.ids inside.events inside.heads inside.cuts = subst (λ (h : List Event). IsKeptOf h inside.ids inside.events inside.heads inside.cuts) c.self.view_is c.self.invariant in
-    subst (λ (ids : List Id). slice_get ids c.args.lv ≡ Some c.id_near.result) kept.ids_are c.id_near.ensures
+    subst (λ (ids : List Id). slice_get ids c.args.position ≡ Some c.id_near.result) kept.ids_are c.id_near.ensures

@@ -14,10 +14,10 @@ contains-requires-clause-version c = positions_there c.args.self.now c.args.name
 pub returns-in-Some : goal.returns-in-Some
 returns-in-Some c =
     let now = c.args.self.now in
-    let f = found_event now c.args.id.now c.in-Some.lv (sym c.in-Some.ensures.value) in
-    let same : is_known_at (parent_positions now) c.args.positions.now c.in-Some.lv ≡ is_among (ancestors now c.args.named.now) c.args.id.now =
-    ap (λ (ps : List ℕ). is_known_at (parent_positions now) ps c.in-Some.lv) c.requires
-    ∙ (agrees now c.count-count.ensures.admitted).known c.args.named.now c.in-Some.lv f.0 f.1
+    let f = found_event now c.args.id.now c.in-Some.position (sym c.in-Some.ensures.value) in
+    let same : is_known_at (parent_positions now) c.args.positions.now c.in-Some.position ≡ is_among (ancestors now c.args.named.now) c.args.id.now =
+    ap (λ (ps : List ℕ). is_known_at (parent_positions now) ps c.in-Some.position) c.requires
+    ∙ (agrees now c.count-count.ensures.admitted).known c.args.named.now c.in-Some.position f.0 f.1
     ∙ ap (is_among (ancestors now c.args.named.now)) (sym f.2) in
     subst (λ (x : Bool). IfOk c.contains.result (λ b. b ≡ x)) same c.contains.ensures
 

@@ -17,4 +17,4 @@ returns c =
     let now = c.args.self.now in
     let inside = c.self.inside in
     let kept : IsKeptOf now inside.ids inside.events inside.heads inside.cuts = subst (λ (h : List Event). IsKeptOf h inside.ids inside.events inside.heads inside.cuts) c.self.view_is c.self.invariant in
-    subst (λ (ops : List Op). slice_get ops c.args.lv ≡ Some c.op_near.result) (ops_are now inside.ids inside.events inside.heads inside.cuts kept) c.op_near.ensures
+    subst (λ (ops : List Op). slice_get ops c.args.position ≡ Some c.op_near.result) (ops_are now inside.ids inside.events inside.heads inside.cuts kept) c.op_near.ensures

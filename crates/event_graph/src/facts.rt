@@ -1,0 +1,42 @@
+//! What a type tells of its values.
+
+ghost use Rattle.ew_model.specs.Sound.{IsSoundId, IsSoundOp};
+
+use ew_model::event::Op;
+use ew_model::id::Id;
+
+/// Values whose parts lie in the ranges of their types. A proof knows how far a number reaches, and how long a name is, only where
+/// code reads it. So `facts` reads each part and says where it lies. When the program runs, it does nothing.
+pub trait Facts {
+    /// Each part lies in the range of its type.
+    ghost is_sound: { Self → Type 0 };
+
+    /// Does nothing: what it says is true of each value.
+    fn facts(&self)
+        ensures { is_sound self.now };
+}
+
+impl Facts for Id {
+    ghost is_sound = { λ x. IsSoundId x };
+
+    fn facts(&self) {
+        let _agent = self.agent.as_slice();
+        let _number = self.seq;
+    }
+}
+
+impl Facts for Op {
+    ghost is_sound = { λ op. IsSoundOp op };
+
+    fn facts(&self) {
+        match *self {
+            Op::Ins { at, ch } => {
+                let _index = at;
+                let _character = ch;
+            }
+            Op::Del { at } => {
+                let _index = at;
+            }
+        }
+    }
+}
