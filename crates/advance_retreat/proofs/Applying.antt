@@ -13,8 +13,8 @@ use Rattle.ew_model.proofs.RecordLaws.{records_tell}
 use Rattle.ew_model.proofs.StateLaws.{node_of as record_node, applies_keep}
 use Rattle.advance_retreat.specs.Kept.{Kept}
 use Rattle.advance_retreat.specs.Standing.{most, is_applied, StandsFor}
-use Rattle.advance_retreat.proofs.Lists.{count, length-push}
-use Rattle.advance_retreat.proofs.Cuts.{length-mapped}
+use Rattle.character_runs.proofs.Lists.{count, length-push}
+use Rattle.character_runs.proofs.Cuts.{length-mapped}
 
 -- as many records have effect as the text has characters
 pub text_told : (b : ℕ) (events : List (Applied ℕ)) (prepared : List ℕ) → IsRun [] events → count (λ (r : Record). r.effect) (walker_records b events prepared) ≡ length (visible (applied_entries b events))

@@ -12,10 +12,10 @@ use Rattle.ew_model.proofs.SortingLaws.{all_from}
 use Rattle.ew_model.proofs.ClearLaws.{all_pass}
 use Rattle.ew_model.proofs.BaseLaws.{base_visible, base_long, base_kept}
 use Rattle.ew_model.proofs.RecordLaws.{is_inserted_from}
-use Rattle.advance_retreat.specs.Kept.{Kept, single, base_records}
+use Rattle.advance_retreat.specs.Kept.{Kept}
+use Rattle.character_runs.specs.States.{single, base_records}
 use Rattle.advance_retreat.specs.Standing.{most, kept_record, kept_target, AreChildren, StandsFor}
 use Rattle.advance_retreat.proofs.Nodes.{base_node, base_next, base_there}
-use Rattle.advance_retreat.proofs.Lists.{length-push}
 
 base_struck : (n : ℕ) (x : Id) → filter (deletes x) (based n) ≡ []
 base_struck zero x = refl
@@ -64,13 +64,6 @@ base_prepared b = ap (λ ns. entries_over nat_eq b ns []) (no_events b) ∙ no_n
 
 base_walker : (b : ℕ) → walker_records b [] [] ≡ map (base_record b) (insertions (based b))
 base_walker b = (λ i. records (base_applied b i) (base_prepared b i)) ∙ ap (map (base_record b)) (base_order b)
-
-length-base : (b : ℕ) → length (base_records b) ≡ b
-length-base zero = refl
-length-base (suc b) = length-push (base_records b) (single (Base b) 1 true) ∙ ap suc (length-base b)
-
-pub base_few : (b : ℕ) → length (base_records b) ≤ b
-base_few b = let all = length-base b in omega arith
 
 abbrev pub base_state : ℕ → Kept
 base_state b = record { base = b; records = base_records b; attached = []; targets = []; lost = 0 }

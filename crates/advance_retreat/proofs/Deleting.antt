@@ -22,12 +22,13 @@ use Rattle.ew_model.proofs.StateLaws.{applies_tell}
 use Rattle.walker_record.specs.Stretches.{Stretch}
 use Rattle.fugue_place.specs.Attachments.{node_eq}
 use Rattle.advance_retreat.specs.declared.target.Target.{Target}
-use Rattle.advance_retreat.specs.declared.change.Change.TheVariants.{Strike}
-use Rattle.advance_retreat.specs.Kept.{Kept, with_deletion, deletion_by, single, is_visible, visible_in, shown_in, changed, changed_at}
-use Rattle.advance_retreat.specs.Spots.{IsVisibleAt}
+use Rattle.character_runs.specs.declared.change.Change.TheVariants.{Strike}
+use Rattle.advance_retreat.specs.Kept.{Kept, with_deletion}
+use Rattle.character_runs.specs.States.{deletion_by, single, is_visible, visible_in, shown_in, changed, changed_at}
+use Rattle.character_runs.specs.Spots.{IsVisibleAt}
 use Rattle.advance_retreat.specs.Standing.{most, node_of, kept_record, kept_target, about, AreChildren, StandsFor}
-use Rattle.advance_retreat.proofs.Lists.{count, count_above}
-use Rattle.advance_retreat.proofs.Cuts.{count-mapped, mapped_alike, Cut, cut_at, taken}
+use Rattle.character_runs.proofs.Lists.{count, count_above}
+use Rattle.character_runs.proofs.Cuts.{count-mapped, mapped_alike, Cut, cut_at, taken}
 use Rattle.advance_retreat.proofs.Room.{CanDelete}
 use Rattle.advance_retreat.proofs.Nodes.{node_of-delete}
 use Rattle.advance_retreat.proofs.Keeping.{notes, rs, part, record_char, visible_told, about_told}

@@ -11,13 +11,13 @@ use Rattle.std.proofs.lemmas.Option.{slice_get_cases}
 use Rattle.std.proofs.lemmas.Bool.{eqb-true, ltb-true, ltb-false, false≢true}
 use Rattle.ew_model.specs.declared.node.Node.{Node}
 use Rattle.ew_model.specs.Tree.{Applied, Noted}
-use Rattle.advance_retreat.specs.declared.change.Positions.{Positions}
+use Rattle.character_runs.specs.declared.change.Positions.{Positions}
 use Rattle.advance_retreat.specs.declared.target.Target.{Target}
 use Rattle.advance_retreat.specs.Kept.{Kept, target_at, place_in, is_next, node_for, found_in, AreFound, AreWithin}
 use Rattle.advance_retreat.specs.Standing.{kept_target, StandsFor}
 use Rattle.advance_retreat.specs.Conditions.{IsNewPosition}
 use Rattle.advance_retreat.proofs.Keeping.{notes}
-use Rattle.advance_retreat.proofs.Lists.{length-push}
+use Rattle.character_runs.proofs.Lists.{length-push}
 
 or_parts : (a b : Bool) → (a || b) ≡ false → (a ≡ false) × (b ≡ false)
 or_parts false b e = (refl, e)

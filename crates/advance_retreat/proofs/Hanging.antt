@@ -7,17 +7,19 @@ use Rattle.ew_model.proofs.SetLaws.{joined_right}
 use Rattle.walker_record.specs.Stretches.{Stretch}
 use Rattle.fugue_place.specs.declared.child.Attached.{Attached}
 use Rattle.fugue_place.specs.Attachments.{is_there}
-use Rattle.advance_retreat.specs.declared.spot.Hold.{Hold}
+use Rattle.character_runs.specs.declared.slot.Slot.{Slot}
 use Rattle.advance_retreat.specs.Kept.{Kept, target_at}
-use Rattle.advance_retreat.specs.Rights.{Counted, AreRights}
-use Rattle.advance_retreat.specs.Spots.{IsVisibleAt, IsHold, first_known, has_next_base, has_counted_right, has_known_right, hold_by}
+use Rattle.character_runs.specs.States.{knows}
+use Rattle.right_children.specs.Rights.{Counted, AreRights}
+use Rattle.character_runs.specs.Spots.{IsVisibleAt, IsSlot, first_known, slot_by}
+use Rattle.advance_retreat.specs.Hanging.{has_next_base, has_counted_right, has_known_right}
 use Rattle.advance_retreat.specs.Standing.{node_of, kept_record, about, is_applied, StandsFor}
 use Rattle.advance_retreat.proofs.CharLaws.{own_char, char_there}
-use Rattle.advance_retreat.proofs.Cuts.{cut_at}
+use Rattle.character_runs.proofs.Cuts.{cut_at}
 use Rattle.advance_retreat.proofs.Keeping.{notes, rs, grown, note_named, records_few}
 use Rattle.advance_retreat.proofs.Moving.{found_node}
 use Rattle.advance_retreat.proofs.Nodes.{about_char, char_cases}
-use Rattle.advance_retreat.proofs.RightMoves.{known_child}
+use Rattle.right_children.proofs.RightMoves.{known_child}
 
 some_node : (v w : Node) → Some v ≡ Some w → v ≡ w
 some_node v w e = cc
@@ -45,15 +47,15 @@ module _ (s : Kept) (b : ℕ) (events : List (Applied ℕ)) (prepared : List ℕ
       ap (λ (r : Stretch). is_there s.attached r.from) (sym cut.image) ∙ char_there s b events prepared st cut.here.node (own_char s b events prepared st cut.here among)
 
 -- the counts tell which nodes have right children
-pub counted_right : (ks : List Stretch) (attached : List Attached) (c : Counted) → AreRights ks attached c → (b : ℕ) (v : Node) → has_counted_right b c v ≡ has_known_right b ks attached v
-counted_right ks attached c rights b v = ap (λ known. has_next_base b v || known) (ap (nat_lt 0) (rights.counts v) ∙ known_child ks attached v)
+pub counted_right : (ks : List Stretch) (attached : List Attached) (c : Counted) → AreRights (knows ks) attached c → (b : ℕ) (v : Node) → has_counted_right b c v ≡ has_known_right b ks attached v
+counted_right ks attached c rights b v = ap (λ known. has_next_base b v || known) (ap (nat_lt 0) (rights.counts v) ∙ known_child (knows ks) attached v)
 
 -- so by them a new character hangs where it should
-pub hold_is : (ks : List Stretch) (attached : List Attached) (c : Counted) → AreRights ks attached c → (b at : ℕ) (o : Option Hold)
-    → IfSome o (IsHold (has_counted_right b c) ks at) → IfSome o (IsHold (has_known_right b ks attached) ks at)
-hold_is ks attached c rights b at None h = tt
-hold_is ks attached c rights b at (Some hold) h = record {
+pub slot_is : (ks : List Stretch) (attached : List Attached) (c : Counted) → AreRights (knows ks) attached c → (b at : ℕ) (o : Option Slot)
+    → IfSome o (IsSlot (has_counted_right b c) ks at) → IfSome o (IsSlot (has_known_right b ks attached) ks at)
+slot_is ks attached c rights b at None h = tt
+slot_is ks attached c rights b at (Some slot) h = record {
   left = h.left;
   here = h.here;
-  is = h.is ∙ ap (λ (known : Bool). hold_by known (first_known (drop h.left.behind ks)) h.left.node) (counted_right ks attached c rights b h.left.node);
+  is = h.is ∙ ap (λ (known : Bool). slot_by known (first_known (drop h.left.behind ks)) h.left.node) (counted_right ks attached c rights b h.left.node);
 }

@@ -39,18 +39,20 @@ use Rattle.fugue_place.specs.Attachments.{node_eq, is_attached, is_there, has_id
 use Rattle.fugue_place.specs.Neighbours.{AreNodesOf, StandsAt, IsPlaceOfNew}
 use Rattle.fugue_place.proofs.NodeLaws.{node_same, node_itself}
 use Rattle.fugue_place.proofs.PathLaws.{root_path, path_of_new, there_more, attached_there, attached_push, path_stays, child_found}
-use Rattle.advance_retreat.specs.declared.spot.Hold.{Hold}
+use Rattle.character_runs.specs.declared.slot.Slot.{Slot}
 use Rattle.advance_retreat.specs.declared.target.Target.{Target}
-use Rattle.advance_retreat.specs.Kept.{Kept, single, is_of, is_visible, shown_in}
-use Rattle.advance_retreat.specs.Spots.{Left, IsLeft, hold_of, IsIndex, kept_with, MayHang, Puts}
+use Rattle.advance_retreat.specs.Kept.{Kept}
+use Rattle.character_runs.specs.States.{single, is_of, is_visible, shown_in}
+use Rattle.character_runs.specs.Spots.{Left, IsLeft, IsIndex}
+use Rattle.advance_retreat.specs.Hanging.{slot_of, kept_with, MayHang, Puts}
 use Rattle.advance_retreat.specs.Standing.{most, node_of, kept_record, kept_target, AreChildren, StandsFor}
 use Rattle.advance_retreat.proofs.Room.{CanInsert}
-use Rattle.advance_retreat.proofs.Lists.{count, count_above}
-use Rattle.advance_retreat.proofs.Cuts.{count-mapped, Cut, cut_at, taken, taken_next, dropped_here, dropped_next}
+use Rattle.character_runs.proofs.Lists.{count, count_above}
+use Rattle.character_runs.proofs.Cuts.{count-mapped, Cut, cut_at, taken, taken_next, dropped_here, dropped_next}
 use Rattle.advance_retreat.proofs.Nodes.{base_node, base_event, same_event, note_char, node_event, about_char, char_cases}
 use Rattle.advance_retreat.proofs.Keeping.{notes, rs, all, part, grown, visible_told, records_few}
 use Rattle.advance_retreat.proofs.CharLaws.{IsOwn, own_char, own_event, char_path, record_of, base_in_tree}
-use Rattle.advance_retreat.proofs.Holding.{left_told, HoldIs, hold_told}
+use Rattle.advance_retreat.proofs.SlotLaws.{left_told, SlotIs, slot_told}
 use Rattle.advance_retreat.proofs.Applying as apply
 
 abbrev about_node : ℕ → Node → Target
@@ -179,7 +181,7 @@ module _ (s : Kept) (b : ℕ) (events : List (Applied ℕ)) (prepared : List ℕ
       pub comes : after ≡ front ++ fresh y ∷ rest
       pub does : next_operation nat_eq b (tree_of nat_eq b events) a ≡ Ins (effects_in front) ch
 
-    module _ (h : Hold) (is : HoldIs s b events prepared st h x (new_path walk p x)) where
+    module _ (h : Slot) (is : SlotIs s b events prepared st h x (new_path walk p x)) where
       nodes_told : AreNodesOf s.attached b (map record_node records)
       nodes_told = record {
         only = λ z m.
@@ -382,31 +384,31 @@ module _ (s : Kept) (b : ℕ) (events : List (Applied ℕ)) (prepared : List ℕ
 
 -- by what the calls below answer
 module _ (s : Kept) (b : ℕ) (events : List (Applied ℕ)) (prepared : List ℕ) (st : StandsFor s b events prepared) (at : ℕ) (l : Left) (left : IsLeft s.records at l) (lv : ℕ) (x : Id) where
-  pub hold_fits : (p : List Step) × HoldIs s b events prepared st (hold_of s.base s.records s.attached l) x (new_path (order (part s b events prepared st)) p x) × (path_before (visible (part s b events prepared st)) at ≡ Some p)
-  hold_fits =
+  pub slot_fits : (p : List Step) × SlotIs s b events prepared st (slot_of s.base s.records s.attached l) x (new_path (order (part s b events prepared st)) p x) × (path_before (visible (part s b events prepared st)) at ≡ Some p)
+  slot_fits =
       let q = left_told s b events prepared st at l left in
-      (q.0, hold_told s b events prepared st at l q.0 q.1 q.2 x, q.2.before)
+      (q.0, slot_told s b events prepared st at l q.0 q.1 q.2 x, q.2.before)
 
-  module _ (agent : x.agent ≡ [] → ⊥) (may : CanInsert b events lv x) (new : Kept) (n ch : ℕ) (puts : Puts s new lv x (hold_of s.base s.records s.attached l) n) where
+  module _ (agent : x.agent ≡ [] → ⊥) (may : CanInsert b events lv x) (new : Kept) (n ch : ℕ) (puts : Puts s new lv x (slot_of s.base s.records s.attached l) n) where
     pub inserted_by_put : StandsFor new b (events ++ next_of lv (InsertAs x at ch) prepared ∷ []) (lv ∷ prepared)
     inserted_by_put =
-        let f = hold_fits in
-        let h = hold_of s.base s.records s.attached l in
+        let f = slot_fits in
+        let h = slot_of s.base s.records s.attached l in
         subst (λ (w : Kept). StandsFor w b (events ++ next_of lv (InsertAs x at ch) prepared ∷ []) (lv ∷ prepared)) (sym puts.after)
         (inserted s b events prepared st lv x agent may at ch f.0 f.2 h f.1 puts.index
         (spot s b events prepared st lv x agent may at ch f.0 f.2 h f.1 puts.place puts.right puts.index puts.here))
 
     pub insertion_done : next_operation nat_eq b (tree_of nat_eq b events) (next_of lv (InsertAs x at ch) prepared) ≡ Ins n ch
     insertion_done =
-        let f = hold_fits in
-        let h = hold_of s.base s.records s.attached l in
+        let f = slot_fits in
+        let h = slot_of s.base s.records s.attached l in
         insertion_does s b events prepared st lv x agent may at ch f.0 f.2 h f.1 puts.index
         (spot s b events prepared st lv x agent may at ch f.0 f.2 h f.1 puts.place puts.right puts.index puts.here)
         ∙ ap (λ k. Ins k ch) (sym puts.before)
 
-  pub asked : (x.agent ≡ [] → ⊥) → CanInsert b events lv x → (h : Hold) → h ≡ hold_of s.base s.records s.attached l → MayHang s lv x h
+  pub asked : (x.agent ≡ [] → ⊥) → CanInsert b events lv x → (h : Slot) → h ≡ slot_of s.base s.records s.attached l → MayHang s lv x h
   asked agent may h e =
-      let f = hold_fits.1 in
+      let f = slot_fits.1 in
       subst (MayHang s lv x) (sym e)
       (record {
         parent = f.there;

@@ -19,10 +19,11 @@ use Rattle.ew_model.proofs.StateLaws.{node_of as record_node, nodes_of}
 use Rattle.walker_record.specs.Stretches.{Stretch}
 use Rattle.fugue_place.specs.Attachments.{node_eq}
 use Rattle.advance_retreat.specs.declared.target.Target.{Target}
-use Rattle.advance_retreat.specs.Kept.{Kept, is_visible, visible_in, shown_in, target_at, HasRoom}
+use Rattle.advance_retreat.specs.Kept.{Kept, target_at}
+use Rattle.character_runs.specs.States.{is_visible, visible_in, shown_in, HasRoom}
 use Rattle.advance_retreat.specs.Standing.{node_of, kept_record, kept_target, about, is_applied, StandsFor}
-use Rattle.advance_retreat.proofs.Lists.{count_few, length-push}
-use Rattle.advance_retreat.proofs.Cuts.{length-mapped, count-mapped}
+use Rattle.character_runs.proofs.Lists.{count_few, length-push}
+use Rattle.character_runs.proofs.Cuts.{length-mapped, count-mapped}
 use Rattle.advance_retreat.proofs.Nodes.{base_node, char_cases, nodes_by_ids, is_about_id, same_name}
 use Rattle.std.proofs.lemmas.List.{length-append}
 use Rattle.ew_model.proofs.TextLengths.{length-insertions-le}

@@ -1,5 +1,5 @@
 -- How many runs stand apart for no event's character, as events are applied and applies are refused.
-use Rattle.std.proofs.Common.{◌≡◌, ℕ, ◌+◌, ◌-◌, ◌*◌, ◌^◌, ◌<◌, ◌≤◌, Bool, true, false, ◌&&◌, ◌||◌, nat_lt, nat_eq, if◌then◌else◌, cond, List, [], ◌∷◌, ◌++◌, length, find, Some, option_map, refl, sym, ap, ◌∙◌, arith}
+use Rattle.std.proofs.Common.{◌≡◌, ℕ, ◌+◌, ◌-◌, ◌*◌, ◌^◌, ◌<◌, ◌≤◌, Bool, true, false, ◌&&◌, ◌||◌, nat_lt, nat_eq, if◌then◌else◌, cond, List, [], ◌∷◌, ◌++◌, map, length, find, Some, option_map, refl, sym, ap, ◌∙◌, arith}
 use Rattle.std.proofs.lemmas.Bool.{ltb-true, ltb-false, false≢true}
 use Rattle.ew_model.specs.declared.node.Node.{Node}
 use Rattle.ew_model.specs.Tree.{Applied, Noted, tree_of}
@@ -10,9 +10,10 @@ use Rattle.advance_retreat.specs.declared.target.Target.{Target}
 use Rattle.advance_retreat.specs.Kept.{Kept, target_at}
 use Rattle.advance_retreat.specs.Standing.{kept_target, StandsFor}
 use Rattle.advance_retreat.specs.Refusals.{one_more}
-use Rattle.advance_retreat.specs.Loose.{begins_in, ends_in, loose_behind, loose_in, is_told, FewLoose}
-use Rattle.advance_retreat.proofs.Cuts.{length-mapped}
-use Rattle.advance_retreat.proofs.LooseRuns.{one_of, one_most, one_none}
+use Rattle.character_runs.specs.Loose.{begins_in, ends_in, loose_behind, loose_in, is_one}
+use Rattle.advance_retreat.specs.Refusals.{is_told, FewLoose}
+use Rattle.character_runs.proofs.Cuts.{length-mapped}
+use Rattle.character_runs.proofs.LooseRuns.{one_of, one_most, one_none}
 
 -- MORE CHARACTERS, FEWER RUNS
 one_fewer : (b x c y : Bool) → (b ≡ true → c ≡ true) → (x ≡ true → y ≡ true) → one_of c y ≤ one_of b x
@@ -44,6 +45,11 @@ loose_long p b (r ∷ rs) =
 or_right : (a b : Bool) → b ≡ true → (a || b) ≡ true
 or_right true b e = refl
 or_right false b e = e
+
+-- the characters that events are about, as a list of nodes
+pub told_nodes : (ts : List Target) → is_one node_eq (map (λ (t : Target). t.node) ts) ≡ is_told ts
+told_nodes [] = refl
+told_nodes (t ∷ ts) = λ i v. node_eq t.node v || told_nodes ts i v
 
 pub last_told : (ts : List Target) (t : Target) → is_told (ts ++ t ∷ []) t.node ≡ true
 last_told [] t = ap (λ (b : Bool). b || false) (node_itself t.node)

@@ -10,11 +10,12 @@ use Rattle.ew_model.specs.Records.{Record, holds, is_about, raised, lowered, one
 use Rattle.ew_model.proofs.StateLaws.{advances_tell, retreats_tell, holds_without}
 use Rattle.walker_record.specs.Stretches.{Stretch}
 use Rattle.fugue_place.specs.Attachments.{node_eq}
-use Rattle.advance_retreat.specs.declared.change.Change.{Change}
-use Rattle.advance_retreat.specs.declared.change.Change.TheVariants.{Raise, Lower}
-use Rattle.advance_retreat.specs.Kept.{Kept, single, changed, changed_at, target_at}
+use Rattle.character_runs.specs.declared.change.Change.{Change}
+use Rattle.character_runs.specs.declared.change.Change.TheVariants.{Raise, Lower}
+use Rattle.advance_retreat.specs.Kept.{Kept, target_at}
+use Rattle.character_runs.specs.States.{single, changed, changed_at}
 use Rattle.advance_retreat.specs.Standing.{node_of, kept_record, about, is_applied, StandsFor}
-use Rattle.advance_retreat.proofs.Cuts.{mapped_alike}
+use Rattle.character_runs.proofs.Cuts.{mapped_alike}
 use Rattle.advance_retreat.proofs.Nodes.{about_char}
 use Rattle.advance_retreat.proofs.Keeping.{notes, rs, grown, note_named, target_told, about_told}
 

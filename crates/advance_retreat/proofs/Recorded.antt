@@ -13,7 +13,8 @@ use Rattle.ew_model.proofs.ListTests.{found_by}
 use Rattle.walker_record.specs.Stretches.{Stretch}
 use Rattle.fugue_place.specs.Attachments.{is_there}
 use Rattle.fugue_place.proofs.NodeLaws.{node_same}
-use Rattle.advance_retreat.specs.Kept.{Kept, is_of, target_at}
+use Rattle.advance_retreat.specs.Kept.{Kept, target_at}
+use Rattle.character_runs.specs.States.{is_of}
 use Rattle.advance_retreat.specs.Standing.{node_of, kept_record, about, StandsFor}
 use Rattle.advance_retreat.proofs.CharLaws.{own_char, own_event, char_there}
 use Rattle.advance_retreat.proofs.Keeping.{notes, rs, target_told}

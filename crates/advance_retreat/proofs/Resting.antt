@@ -11,16 +11,15 @@ use Rattle.ew_model.proofs.PrefixLaws.{ordered_among}
 use Rattle.ew_model.proofs.ReadLaws.{names_prepare}
 use Rattle.ew_model.proofs.RecordLaws.{map_map}
 use Rattle.ew_model.proofs.StateLaws.{holds_without}
-use Rattle.advance_retreat.specs.declared.change.Positions.{Positions}
-use Rattle.advance_retreat.specs.Kept.{Kept, single, target_at, AreWithin}
-use Rattle.advance_retreat.specs.Replacing.{is_event_in}
-use Rattle.advance_retreat.specs.Resting.{at_rest, rested}
-use Rattle.advance_retreat.specs.Rights.{HangWithin}
+use Rattle.character_runs.specs.declared.change.Positions.{Positions}
+use Rattle.advance_retreat.specs.Kept.{Kept, target_at, AreWithin}
+use Rattle.character_runs.specs.States.{single}
+use Rattle.character_runs.specs.Resting.{at_rest, rested}
+use Rattle.right_children.specs.Rights.{HangWithin}
 use Rattle.advance_retreat.specs.Standing.{node_of, kept_record, about, StandsFor}
 use Rattle.advance_retreat.proofs.BaseStates.{base_number}
 use Rattle.advance_retreat.proofs.CharLaws.{IsOwn, own_event}
-use Rattle.advance_retreat.proofs.Cuts.{mapped_alike}
-use Rattle.advance_retreat.proofs.EventSpans.{event_is_in}
+use Rattle.character_runs.proofs.Cuts.{mapped_alike}
 use Rattle.advance_retreat.proofs.Keeping.{notes, all, part, grown, target_told, note_named}
 use Rattle.advance_retreat.proofs.Moving.{with_records, found_node}
 use Rattle.advance_retreat.proofs.Nodes.{char_cases}
@@ -81,11 +80,11 @@ module _ (s : Kept) (b : ℕ) (events : List (Applied ℕ)) (prepared : List ℕ
 
   -- THE POSITIONS
   module _ (at : Positions) (within : AreWithin at (target_at s.targets)) where
-    pub hang_within : HangWithin at s.attached
+    pub hang_within : HangWithin at.from at.to s.attached
     hang_within a m =
         let o = st.children.only a m in
         let place = within o.0.name (node_of ns (about o.0.entry)) (target_told s b events prepared st o.0 o.1) in
-        ap (is_event_in at.from at.to) o.2 ∙ event_is_in at.from at.to o.0.name place.0 place.1
+        (o.0.name, place.0, place.1, o.2)
 
     prepared_within : (n : ℕ) → holds prepared n ≡ true → (at.from ≤ n) × (n < at.to)
     prepared_within n h =

@@ -2,7 +2,7 @@
 use Rattle.std.proofs.Common.{◌≡◌, ℕ, List, ap, ◌∙◌}
 use Rattle.advance_retreat.specs.declared.target.Target.{Target}
 use Rattle.advance_retreat.specs.Kept.{Kept}
-use Rattle.advance_retreat.specs.Rights.{InTree}
+use Rattle.advance_retreat.specs.Hanging.{InTree}
 
 abbrev pub kept_by : ℕ → List Target → ℕ → InTree → Kept
 kept_by base targets lost t = record { base = base; records = t.records; attached = t.attached; targets = targets; lost = lost }

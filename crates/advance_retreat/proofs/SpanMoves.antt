@@ -1,5 +1,5 @@
 -- What advances and retreats of events that follow one another leave.
-use Rattle.std.proofs.Common.{◌≡◌, ℕ, zero, suc, ◌+◌, ◌-◌, ◌<◌, ◌≤◌, List, [], ◌∷◌, ◌++◌, map, reverse, Some, refl, sym, ap, ◌∙◌, subst, arith}
+use Rattle.std.proofs.Common.{◌≡◌, ℕ, zero, suc, ◌+◌, ◌-◌, ◌<◌, ◌≤◌, List, [], ◌∷◌, ◌++◌, map, reverse, Some, refl, sym, ap, ◌∙◌, subst, append_assoc, arith, Result, OnErr}
 use Rattle.std.specs.List.{range_with_len}
 use Rattle.std.proofs.lemmas.List.{reverse-append}
 use Rattle.ew_model.specs.declared.node.Node.TheVariants.{Event}
@@ -7,13 +7,14 @@ use Rattle.ew_model.specs.Tree.{Applied}
 use Rattle.ew_model.specs.Records.{without}
 use Rattle.ew_model.specs.Moves.{after_advances, after_retreats}
 use Rattle.fugue_place.specs.Attachments.{node_eq}
-use Rattle.advance_retreat.specs.declared.change.Change.{Change}
-use Rattle.advance_retreat.specs.declared.change.Change.TheVariants.{Raise, Lower}
+use Rattle.character_runs.specs.declared.change.Change.{Change}
+use Rattle.character_runs.specs.declared.change.Change.TheVariants.{Raise, Lower}
 use Rattle.advance_retreat.specs.Kept.{Kept, target_at}
-use Rattle.advance_retreat.specs.Replacing.{changed_among, is_event_in}
+use Rattle.character_runs.specs.Replacing.{changed_among, is_event_in}
 use Rattle.advance_retreat.specs.Standing.{StandsFor}
-use Rattle.advance_retreat.specs.Conditions.{MayAdvanceEach, MayRetreatEach, Advanced, Retreated}
-use Rattle.advance_retreat.proofs.EventSpans.{none_between, none_among, in_turn, event_low, low_apart, event_high, high_apart}
+use Rattle.advance_retreat.specs.Conditions.{MayAdvanceEach, MayRetreatEach, Advanced, Retreated, PartAdvanced, PartRetreated}
+use Rattle.character_runs.proofs.Entered.{on_err}
+use Rattle.character_runs.proofs.EventSpans.{none_between, none_among, in_turn, event_low, low_apart, event_high, high_apart}
 use Rattle.advance_retreat.proofs.Moving.{with_records, changed_state, advanced_by, retreated_by}
 
 -- POSITIONS
@@ -60,19 +61,88 @@ same_records s low high change le = ap (with_records s) (none_among change (is_e
 abbrev pub AreTold : Kept → ℕ → ℕ → Type 0
 AreTold s low high = (n : ℕ) → low ≤ n → n < high → target_at s.targets n ≡ Some (Event n)
 
+-- MOVES IN PARTS
+pub advances-append : (prepared xs ys : List ℕ) → after_advances prepared (xs ++ ys) ≡ after_advances (after_advances prepared xs) ys
+advances-append prepared [] ys = refl
+advances-append prepared (x ∷ xs) ys = advances-append (x ∷ prepared) xs ys
+
+pub retreats-append : (prepared xs ys : List ℕ) → after_retreats prepared (xs ++ ys) ≡ after_retreats (after_retreats prepared xs) ys
+retreats-append prepared [] ys = refl
+retreats-append prepared (x ∷ xs) ys = retreats-append (without x prepared) xs ys
+
+-- two fronts, the second of what the first leaves
+pub fronts_joined : (one two left mid all : List ℕ) → two ++ left ≡ mid → one ++ mid ≡ all → (one ++ two) ++ left ≡ all
+fronts_joined one two left mid all inner outer = append_assoc one two left ∙ ap (λ (ps : List ℕ). one ++ ps) inner ∙ outer
+
+module _ (b : ℕ) (events : List (Applied ℕ)) (prepared all : List ℕ) where
+  -- all moves: those that were made, and the others
+  pub advance_whole : (s : Kept) (rest : List ℕ) → (a : Advanced s b events prepared all rest) → after_advances a.now rest ≡ after_advances prepared all
+  advance_whole s rest a = ap (λ (ps : List ℕ). after_advances ps rest) a.is ∙ sym (advances-append prepared a.made rest) ∙ ap (after_advances prepared) a.parts
+
+  pub retreat_whole : (s : Kept) (rest : List ℕ) → (a : Retreated s b events prepared all rest) → after_retreats a.now rest ≡ after_retreats prepared all
+  retreat_whole s rest a = ap (λ (ps : List ℕ). after_retreats ps rest) a.is ∙ sym (retreats-append prepared a.made rest) ∙ ap (after_retreats prepared) a.parts
+
+  -- further moves
+  pub advanced_on : (s t : Kept) (mid rest : List ℕ) → (a : Advanced s b events prepared all mid) → Advanced t b events a.now mid rest → Advanced t b events prepared all rest
+  advanced_on s t mid rest a d = record {
+    made = a.made ++ d.made;
+    parts = fronts_joined a.made d.made rest mid all d.parts a.parts;
+    now = d.now;
+    is = d.is ∙ ap (λ (ps : List ℕ). after_advances ps d.made) a.is ∙ sym (advances-append prepared a.made d.made);
+    stands = d.stands;
+    may = d.may;
+  }
+
+  pub retreated_on : (s t : Kept) (mid rest : List ℕ) → (a : Retreated s b events prepared all mid) → Retreated t b events a.now mid rest → Retreated t b events prepared all rest
+  retreated_on s t mid rest a d = record {
+    made = a.made ++ d.made;
+    parts = fronts_joined a.made d.made rest mid all d.parts a.parts;
+    now = d.now;
+    is = d.is ∙ ap (λ (ps : List ℕ). after_retreats ps d.made) a.is ∙ sym (retreats-append prepared a.made d.made);
+    stands = d.stands;
+    may = d.may;
+  }
+
+  -- the next move wasn't made
+  pub advance_ends : (s : Kept) (next : ℕ) (left : List ℕ) → Advanced s b events prepared all (next ∷ left) → PartAdvanced s b events prepared all
+  advance_ends s next left a = record { made = a.made; next = next; left = left; parts = a.parts; stands = subst (StandsFor s b events) a.is a.stands }
+
+  pub retreat_ends : (s : Kept) (next : ℕ) (left : List ℕ) → Retreated s b events prepared all (next ∷ left) → PartRetreated s b events prepared all
+  retreat_ends s next left a = record { made = a.made; next = next; left = left; parts = a.parts; stands = subst (StandsFor s b events) a.is a.stands }
+
+  -- of the next moves only a front was made
+  module _ (s t : Kept) (xs ys rest : List ℕ) (parts : rest ≡ xs ++ ys) where
+    pub advanced_part : {X E : Type 0} (result : Result X E) (a : Advanced s b events prepared all rest) → PartAdvanced t b events a.now xs → OnErr result (PartAdvanced t b events prepared all)
+    advanced_part result a d = on_err result (PartAdvanced t b events prepared all) (record {
+      made = a.made ++ d.made;
+      next = d.next;
+      left = d.left ++ ys;
+      parts = fronts_joined a.made d.made (d.next ∷ (d.left ++ ys)) rest all (sym (append_assoc d.made (d.next ∷ d.left) ys) ∙ ap (λ (ps : List ℕ). ps ++ ys) d.parts ∙ sym parts) a.parts;
+      stands = subst (StandsFor t b events) (ap (λ (ps : List ℕ). after_advances ps d.made) a.is ∙ sym (advances-append prepared a.made d.made)) d.stands;
+    })
+
+    pub retreated_part : {X E : Type 0} (result : Result X E) (a : Retreated s b events prepared all rest) → PartRetreated t b events a.now xs → OnErr result (PartRetreated t b events prepared all)
+    retreated_part result a d = on_err result (PartRetreated t b events prepared all) (record {
+      made = a.made ++ d.made;
+      next = d.next;
+      left = d.left ++ ys;
+      parts = fronts_joined a.made d.made (d.next ∷ (d.left ++ ys)) rest all (sym (append_assoc d.made (d.next ∷ d.left) ys) ∙ ap (λ (ps : List ℕ). ps ++ ys) d.parts ∙ sym parts) a.parts;
+      stands = subst (StandsFor t b events) (ap (λ (ps : List ℕ). after_retreats ps d.made) a.is ∙ sym (retreats-append prepared a.made d.made)) d.stands;
+    })
+
 module _ (b : ℕ) (events : List (Applied ℕ)) where
   -- ADVANCES
   advance_all : (n low high : ℕ) (s : Kept) (prepared rest : List ℕ) → low + n ≡ high → StandsFor s b events prepared → AreTold s low high → MayAdvanceEach events prepared (range_with_len low n ++ rest)
       → Advanced (changed_span s low high Raise) b events prepared (range_with_len low n ++ rest) rest
   advance_all zero low high s prepared rest long st told may =
-      subst (λ (t : Kept). Advanced t b events prepared rest rest) (sym (same_records s low high Raise (omega (arith, long)))) (record { now = prepared; stands = st; may = may; same = refl })
+      subst (λ (t : Kept). Advanced t b events prepared rest rest) (sym (same_records s low high Raise (omega (arith, long)))) (record { made = []; parts = refl; now = prepared; is = refl; stands = st; may = may })
   advance_all (suc n) low high s prepared rest long st told may =
       let one = changed_state s (Event low) Raise in
       let stands : StandsFor one b events (low ∷ prepared) = advanced_by s b events prepared st low (Event low) (told low (omega arith) (omega (arith, long))) may.0.0 may.0.1 in
       let later = advance_all n (low + 1) high one (low ∷ prepared) rest (omega (arith, long)) stands (λ k le lt. told k (omega (arith, le)) lt) may.1 in
       let records = in_turn Raise (is_event_in low high) (λ v. node_eq v (Event low)) (is_event_in (low + 1) high) (event_low low high (omega (arith, long))) (low_apart low high) s.records in
       subst (λ (t : Kept). Advanced t b events prepared (low ∷ (range_with_len (low + 1) n ++ rest)) rest) (ap (with_records s) records)
-      (record { now = later.now; stands = later.stands; may = later.may; same = later.same })
+      (record { made = low ∷ later.made; parts = ap (λ (ps : List ℕ). low ∷ ps) later.parts; now = later.now; is = later.is; stands = later.stands; may = later.may })
 
   pub advance_run : (s : Kept) (prepared : List ℕ) (low mid high : ℕ) → low ≤ mid → mid ≤ high → StandsFor s b events prepared → AreTold s low mid → MayAdvanceEach events prepared (range_with_len low (high - low))
       → Advanced (changed_span s low mid Raise) b events prepared (range_with_len low (high - low)) (range_with_len mid (high - mid))
@@ -86,18 +156,18 @@ module _ (b : ℕ) (events : List (Applied ℕ)) where
   advance_one t prepared low high lt may st =
       let first = range_first low high lt in
       subst (λ (ps : List ℕ). Advanced t b events prepared ps (range_with_len (low + 1) (high - (low + 1)))) (sym first)
-      (record { now = low ∷ prepared; stands = st; may = (subst (MayAdvanceEach events prepared) first may).1; same = refl })
+      (record { made = low ∷ []; parts = refl; now = low ∷ prepared; is = refl; stands = st; may = (subst (MayAdvanceEach events prepared) first may).1 })
 
   pub advanced_end : (s : Kept) (prepared : List ℕ) (low high : ℕ) (all : List ℕ) → Advanced s b events prepared all (range_with_len low (high - low)) → high ≤ low → StandsFor s b events (after_advances prepared all)
   advanced_end s prepared low high all a le =
       let none : 0 ≡ high - low = omega (arith, le) in
-      subst (StandsFor s b events) (ap (λ (n : ℕ). after_advances a.now (range_with_len low n)) none ∙ a.same) a.stands
+      subst (StandsFor s b events) (ap (λ (n : ℕ). after_advances a.now (range_with_len low n)) none ∙ advance_whole b events prepared all s (range_with_len low (high - low)) a) a.stands
 
   -- RETREATS
   retreat_all : (n low : ℕ) (s : Kept) (prepared rest : List ℕ) → StandsFor s b events prepared → AreTold s low (low + n) → MayRetreatEach events prepared (reverse (range_with_len low n) ++ rest)
       → Retreated (changed_span s low (low + n) Lower) b events prepared (reverse (range_with_len low n) ++ rest) rest
   retreat_all zero low s prepared rest st told may =
-      subst (λ (t : Kept). Retreated t b events prepared rest rest) (sym (same_records s low (low + 0) Lower (omega arith))) (record { now = prepared; stands = st; may = may; same = refl })
+      subst (λ (t : Kept). Retreated t b events prepared rest rest) (sym (same_records s low (low + 0) Lower (omega arith))) (record { made = []; parts = refl; now = prepared; is = refl; stands = st; may = may })
   retreat_all (suc n) low s prepared rest st told may =
       let last = low + n in
       let next : low + suc n ≡ last + 1 = omega arith in
@@ -110,7 +180,7 @@ module _ (b : ℕ) (events : List (Applied ℕ)) where
       subst (λ (ps : List ℕ). Retreated (changed_span s low (low + suc n) Lower) b events prepared ps rest) (sym falls)
       (subst (λ (k : ℕ). Retreated (changed_span s low k Lower) b events prepared (last ∷ (reverse (range_with_len low n) ++ rest)) rest) (sym next)
       (subst (λ (t : Kept). Retreated t b events prepared (last ∷ (reverse (range_with_len low n) ++ rest)) rest) (ap (with_records s) records)
-      (record { now = later.now; stands = later.stands; may = later.may; same = later.same })))
+      (record { made = last ∷ later.made; parts = ap (λ (ps : List ℕ). last ∷ ps) later.parts; now = later.now; is = later.is; stands = later.stands; may = later.may })))
 
   pub retreat_run : (s : Kept) (prepared : List ℕ) (low mid high : ℕ) → low ≤ mid → mid ≤ high → StandsFor s b events prepared → AreTold s mid high → MayRetreatEach events prepared (reverse (range_with_len low (high - low)))
       → Retreated (changed_span s mid high Lower) b events prepared (reverse (range_with_len low (high - low))) (reverse (range_with_len low (mid - low)))
@@ -126,9 +196,18 @@ module _ (b : ℕ) (events : List (Applied ℕ)) where
   retreat_one t prepared low last high le next may st =
       let first = falling_first low last high le next in
       subst (λ (ps : List ℕ). Retreated t b events prepared ps (reverse (range_with_len low (last - low)))) (sym first)
-      (record { now = without last prepared; stands = st; may = (subst (MayRetreatEach events prepared) first may).1; same = refl })
+      (record { made = last ∷ []; parts = refl; now = without last prepared; is = refl; stands = st; may = (subst (MayRetreatEach events prepared) first may).1 })
 
   pub retreated_end : (s : Kept) (prepared : List ℕ) (low high : ℕ) (all : List ℕ) → Retreated s b events prepared all (reverse (range_with_len low (high - low))) → high ≤ low → StandsFor s b events (after_retreats prepared all)
   retreated_end s prepared low high all a le =
       let none : 0 ≡ high - low = omega (arith, le) in
-      subst (StandsFor s b events) (ap (λ (n : ℕ). after_retreats a.now (reverse (range_with_len low n))) none ∙ a.same) a.stands
+      subst (StandsFor s b events) (ap (λ (n : ℕ). after_retreats a.now (reverse (range_with_len low n))) none ∙ retreat_whole b events prepared all s (reverse (range_with_len low (high - low))) a) a.stands
+
+  -- where the next move wasn't made
+  pub advance_left : (s : Kept) (prepared all : List ℕ) (low high : ℕ) → low < high → Advanced s b events prepared all (range_with_len low (high - low)) → PartAdvanced s b events prepared all
+  advance_left s prepared all low high lt a = advance_ends b events prepared all s low (range_with_len (low + 1) (high - (low + 1))) (subst (Advanced s b events prepared all) (range_first low high lt) a)
+
+  pub retreat_left : (s : Kept) (prepared all : List ℕ) (low high : ℕ) → low < high → Retreated s b events prepared all (reverse (range_with_len low (high - low))) → PartRetreated s b events prepared all
+  retreat_left s prepared all low high lt a =
+      retreat_ends b events prepared all s (high - 1) (reverse (range_with_len low (high - 1 - low)))
+      (subst (Retreated s b events prepared all) (falling_first low (high - 1) high (omega (arith, lt)) (omega (arith, lt))) a)

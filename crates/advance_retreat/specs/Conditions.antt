@@ -1,5 +1,5 @@
 -- What the calls of a state require.
-use Rattle.std.specs.Prelude.{◌≡◌, ℕ, nat_eq, true, false, List, [], ◌∷◌}
+use Rattle.std.specs.Prelude.{◌≡◌, ℕ, nat_eq, true, false, List, [], ◌∷◌, ◌++◌}
 use Rattle.std.specs.List.{list_any}
 use Rattle.ew_model.specs.declared.id.Id.{Id}
 use Rattle.ew_model.specs.Sets.{Among}
@@ -38,19 +38,39 @@ abbrev pub MayRetreatEach : List (Applied ℕ) → List ℕ → List ℕ → Typ
 MayRetreatEach events prepared [] = Unit {0}
 MayRetreatEach events prepared (x ∷ xs) = MayRetreatFrom events prepared x × MayRetreatEach events (without x prepared) xs
 
--- the first of all these advances were made, and the rest of them may be made now
+-- a front of all these advances was made, and the rest of them may be made now
 pub record Advanced (s : Kept) (b : ℕ) (events : List (Applied ℕ)) (prepared all rest : List ℕ) : Type 0 where
+  pub made : List ℕ
+  pub parts : made ++ rest ≡ all
   pub now : List ℕ
+  pub is : now ≡ after_advances prepared made
   pub stands : StandsFor s b events now
   pub may : MayAdvanceEach events now rest
-  pub same : after_advances now rest ≡ after_advances prepared all
 
 -- the same of retreats
 pub record Retreated (s : Kept) (b : ℕ) (events : List (Applied ℕ)) (prepared all rest : List ℕ) : Type 0 where
+  pub made : List ℕ
+  pub parts : made ++ rest ≡ all
   pub now : List ℕ
+  pub is : now ≡ after_retreats prepared made
   pub stands : StandsFor s b events now
   pub may : MayRetreatEach events now rest
-  pub same : after_retreats now rest ≡ after_retreats prepared all
+
+-- a front of all these advances was made, the next of them wasn't, and nothing else has changed
+pub record PartAdvanced (s : Kept) (b : ℕ) (events : List (Applied ℕ)) (prepared all : List ℕ) : Type 0 where
+  pub made : List ℕ
+  pub next : ℕ
+  pub left : List ℕ
+  pub parts : made ++ next ∷ left ≡ all
+  pub stands : StandsFor s b events (after_advances prepared made)
+
+-- the same of retreats
+pub record PartRetreated (s : Kept) (b : ℕ) (events : List (Applied ℕ)) (prepared all : List ℕ) : Type 0 where
+  pub made : List ℕ
+  pub next : ℕ
+  pub left : List ℕ
+  pub parts : made ++ next ∷ left ≡ all
+  pub stands : StandsFor s b events (after_retreats prepared made)
 
 -- all events are prepared
 abbrev pub AllPrepared : List (Applied ℕ) → List ℕ → Type 0

@@ -1,14 +1,5 @@
 pub mod Conditions
-pub mod Cursors
-pub mod Entering
+pub mod Hanging
 pub mod Kept
-pub mod Labelled
-pub mod Laid
-pub mod Loose
 pub mod Refusals
-pub mod Replacing
-pub mod Resting
-pub mod Rights
-pub mod Rows
-pub mod Spots
 pub mod Standing

@@ -14,7 +14,8 @@ use Rattle.fugue_place.specs.declared.child.Attached.{Attached}
 use Rattle.fugue_place.specs.Attachments.{is_attached, path_of, AreAttached}
 use Rattle.fugue_place.specs.Subtrees.{HasBase}
 use Rattle.advance_retreat.specs.declared.target.Target.{Target}
-use Rattle.advance_retreat.specs.Kept.{Kept, single}
+use Rattle.advance_retreat.specs.Kept.{Kept}
+use Rattle.character_runs.specs.States.{single}
 
 -- no base, history or text has more
 abbrev pub most : ℕ

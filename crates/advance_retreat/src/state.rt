@@ -11,18 +11,18 @@ ghost use Rattle.ew_model.specs.Records.{next_of, without, prepared_entries, app
 ghost use Rattle.walker_record.specs.Stretches.{Stretch};
 ghost use Rattle.fugue_place.specs.Attachments.{is_there, AreAttached};
 ghost use Rattle.advance_retreat.specs.declared.fault.ApplyFault.TheVariants as apply;
-ghost use Rattle.advance_retreat.specs.Kept.{with_lost, with_deletion, target_at, AreWithin, HasRoom};
-ghost use Rattle.advance_retreat.specs.Laid.{records_in};
+ghost use Rattle.advance_retreat.specs.Kept.{with_lost, with_deletion, target_at, AreWithin};
+ghost use Rattle.character_runs.specs.States.{HasRoom};
+ghost use Rattle.character_runs.specs.Laid.{records_in};
 ghost use Rattle.advance_retreat.specs.Standing.{most, StandsFor};
 ghost use Rattle.advance_retreat.specs.Refusals.{lost_after, one_more};
-ghost use Rattle.advance_retreat.specs.Conditions.{MayInsert, MayDelete, MayAdvanceTo, MayRetreatFrom, MayAdvanceEach, MayRetreatEach, Advanced, Retreated, AllPrepared};
-ghost use Rattle.advance_retreat.specs.Spots.{MayHang, Puts};
+ghost use Rattle.advance_retreat.specs.Conditions.{MayInsert, MayDelete, MayAdvanceTo, MayRetreatFrom, MayAdvanceEach, MayRetreatEach, Advanced, Retreated, PartAdvanced, PartRetreated, AllPrepared};
+ghost use Rattle.advance_retreat.specs.Hanging.{MayHang, Puts};
 
-use crate::change::{Change, Positions};
 use crate::fault::ApplyFault;
-use crate::spot::Hold;
 use crate::target::Targets;
 use crate::tree::Tree;
+use character_runs::{Change, Positions, Slot};
 use ew_model::NoMem;
 use ew_model::id::Id;
 use ew_model::node::Node;
@@ -56,7 +56,7 @@ impl Drop for State {
 
 impl Model for State {
     ghost use Rattle.advance_retreat.specs.Kept.{Kept};
-    ghost use Rattle.advance_retreat.specs.Loose.{FewLoose};
+    ghost use Rattle.advance_retreat.specs.Refusals.{FewLoose};
 
     ghost Value = { Kept };
 
@@ -164,7 +164,7 @@ impl State {
     {
         // A name has at least one byte.
         let _agent = id.agent.as_slice();
-        let Some(hold) = self.tree.hold_at(self.base, at) else {
+        let Some(slot) = self.tree.slot_at(self.base, at) else {
             return Err(ApplyFault::OutOfRange {
                 len: self.prepared_len(),
             });
@@ -173,23 +173,23 @@ impl State {
             self.lost = one_more(self.lost);
             return Err(ApplyFault::OutOfMemory);
         }
-        let at = self.put(lv, id, hold)?;
+        let at = self.put(lv, id, slot)?;
         Ok(TextOp::Ins { at, ch })
     }
 
     /// Puts the character of a new event into the tree. Answers its index in the text. Counts a want of memory.
-    fn put(&mut self, lv: u32, id: Id, hold: Hold) -> Result<u32, NoMem>
-        requires hangs { MayHang self.old lv id hold }
+    fn put(&mut self, lv: u32, id: Id, slot: Slot) -> Result<u32, NoMem>
+        requires hangs { MayHang self.old lv id slot }
         requires new { target_at self.old.targets lv ≡ None }
         requires sound { AreAttached [] self.old.attached }
-        ensures ok { IfOk result (λ at. Puts self.old self.new lv id hold at) }
+        ensures ok { IfOk result (λ at. Puts self.old self.new lv id slot at) }
         ensures err { OnErr result (self.new ≡ with_lost self.old (one_more self.old.lost)) }
     {
         if let Err(e) = self.targets.add(lv, Node::Event(lv)) {
             self.lost = one_more(self.lost);
             return Err(e);
         }
-        match self.tree.insert(hold, id, lv) {
+        match self.tree.insert(slot, id, lv) {
             Ok(at) => Ok(at),
             Err(e) => {
                 self.targets.take_back(lv);
@@ -299,7 +299,8 @@ impl State {
     }
 
     /// Puts the events at the positions from `from` on that are below `to` into the prepared version, one after another from the
-    /// lowest position up. After an error for want of memory it stands for some version on the way.
+    /// lowest position up. After an error for want of memory a front of these moves was made, and not all: the events
+    /// below some position of the span came in, and those from there on didn't.
     pub fn advance_span<L: Ledger>(
         &mut self,
         from: u32,
@@ -309,7 +310,7 @@ impl State {
         requires order { from ≤ to }
         requires may { (b : ℕ) × (events : List (Applied ℕ)) × (prepared : List ℕ) × StandsFor self.old b events prepared × MayAdvanceEach events prepared (range_with_len from (to - from)) }
         ensures ok { (b : ℕ) (events : List (Applied ℕ)) (prepared : List ℕ) → StandsFor self.old b events prepared → MayAdvanceEach events prepared (range_with_len from (to - from)) → OnOk result (StandsFor self.new b events (after_advances prepared (range_with_len from (to - from)))) }
-        ensures err { (b : ℕ) (events : List (Applied ℕ)) (prepared : List ℕ) → StandsFor self.old b events prepared → MayAdvanceEach events prepared (range_with_len from (to - from)) → OnErr result ((later : List ℕ) × StandsFor self.new b events later) }
+        ensures err { (b : ℕ) (events : List (Applied ℕ)) (prepared : List ℕ) → StandsFor self.old b events prepared → MayAdvanceEach events prepared (range_with_len from (to - from)) → OnErr result (PartAdvanced self.new b events prepared (range_with_len from (to - from))) }
         ensures lost { self.new.lost ≡ self.old.lost }
         ensures steps { OnOk result (steps.new ≡ steps.old + (to - from)) }
         ensures most { steps.new ≤ steps.old + (to - from) }
@@ -349,7 +350,8 @@ impl State {
 
     /// Takes the events at the positions from `from` on that are below `to` out of the prepared version, one after another from
     /// the highest position down. Where they are all that was applied, one way over the runs takes them out. After an error for
-    /// want of memory it stands for some version on the way.
+    /// want of memory a front of these moves was made, and not all: the events above some position of the span went out, and
+    /// those up to there didn't.
     pub fn retreat_span<L: Ledger>(
         &mut self,
         from: u32,
@@ -359,7 +361,7 @@ impl State {
         requires order { from ≤ to }
         requires may { (b : ℕ) × (events : List (Applied ℕ)) × (prepared : List ℕ) × StandsFor self.old b events prepared × MayRetreatEach events prepared (reverse (range_with_len from (to - from))) }
         ensures ok { (b : ℕ) (events : List (Applied ℕ)) (prepared : List ℕ) → StandsFor self.old b events prepared → MayRetreatEach events prepared (reverse (range_with_len from (to - from))) → OnOk result (StandsFor self.new b events (after_retreats prepared (reverse (range_with_len from (to - from))))) }
-        ensures err { (b : ℕ) (events : List (Applied ℕ)) (prepared : List ℕ) → StandsFor self.old b events prepared → MayRetreatEach events prepared (reverse (range_with_len from (to - from))) → OnErr result ((later : List ℕ) × StandsFor self.new b events later) }
+        ensures err { (b : ℕ) (events : List (Applied ℕ)) (prepared : List ℕ) → StandsFor self.old b events prepared → MayRetreatEach events prepared (reverse (range_with_len from (to - from))) → OnErr result (PartRetreated self.new b events prepared (reverse (range_with_len from (to - from)))) }
         ensures lost { self.new.lost ≡ self.old.lost }
         ensures steps { OnOk result (steps.new ≡ steps.old + (to - from)) }
         ensures most { steps.new ≤ steps.old + (to - from) }

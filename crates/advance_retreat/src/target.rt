@@ -6,7 +6,7 @@ ghost use Rattle.std.specs.BTreeMap.{get};
 ghost use Rattle.advance_retreat.specs.declared.target.Target.{Target as One};
 ghost use Rattle.advance_retreat.specs.Kept.{target_at, place_in, is_next, found_in, AreWithin};
 
-use crate::change::Positions;
+use character_runs::Positions;
 use ew_model::NoMem;
 use ew_model::node::Node;
 use std::alloc::Global;

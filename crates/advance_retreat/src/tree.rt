@@ -9,22 +9,22 @@ ghost use Rattle.fugue_place.specs.declared.neighbour.Place.{Place};
 ghost use Rattle.fugue_place.specs.Attachments.{is_attached, is_there, has_id, AreAttached};
 ghost use Rattle.fugue_place.specs.Neighbours.{has_beyond, IsPlaceOfNew};
 ghost use Rattle.advance_retreat.specs.declared.target.Target.{Target};
-ghost use Rattle.advance_retreat.specs.Kept.{is_of, visible_in, shown_in, base_records, changed_at, HasRoom};
-ghost use Rattle.advance_retreat.specs.Laid.{records_in};
-ghost use Rattle.advance_retreat.specs.Loose.{loose_in, is_told};
-ghost use Rattle.advance_retreat.specs.Replacing.{ArePart, changed_in};
-ghost use Rattle.advance_retreat.specs.Resting.{rested};
-ghost use Rattle.advance_retreat.specs.Rights.{HangWithin};
-ghost use Rattle.advance_retreat.specs.Spots.{IsHold, IsDeletion, Comes, has_known_right};
+ghost use Rattle.character_runs.specs.States.{is_of, visible_in, shown_in, base_records, changed_at, HasRoom};
+ghost use Rattle.character_runs.specs.Laid.{records_in};
+ghost use Rattle.character_runs.specs.Loose.{loose_in};
+ghost use Rattle.advance_retreat.specs.Refusals.{is_told};
+ghost use Rattle.character_runs.specs.Replacing.{ArePart, changed_in};
+ghost use Rattle.character_runs.specs.Resting.{rested};
+ghost use Rattle.right_children.specs.Rights.{HangWithin};
+ghost use Rattle.character_runs.specs.Spots.{IsSlot, IsDeletion, Comes};
+ghost use Rattle.advance_retreat.specs.Hanging.{has_known_right, has_next_base};
 
-use crate::change::{Change, Positions};
-use crate::characters::{Characters, Deletion};
-use crate::rights::Rights;
-use crate::spot::Hold;
+use character_runs::{Change, Characters, Deletion, KnownRights, Positions, Slot};
 use ew_model::NoMem;
 use ew_model::id::Id;
 use ew_model::node::Node;
 use fugue_place::Siblings;
+use right_children::Rights;
 use std::alloc::Global;
 use std::marker::Model;
 
@@ -37,13 +37,42 @@ pub struct Tree {
 }
 
 impl Model for Tree {
-    ghost use Rattle.advance_retreat.specs.Rights.{InTree, KeepRights};
+    ghost use Rattle.advance_retreat.specs.Hanging.{InTree, KeepRights};
 
     ghost Value = { InTree };
 
     ghost view = { λ t. record { records = t.characters.records; runs = t.characters.runs; attached = t.siblings } };
 
     ghost invariant = { λ t. KeepRights t.characters.records t.siblings t.rights };
+}
+
+/// The right children of nodes, over a base of so many characters.
+#[derive(Clone, Copy)]
+struct OverBase<'a> {
+    base: u32,
+    rights: &'a Rights,
+}
+
+impl<'a> KnownRights for OverBase<'a> {
+    ghost use Rattle.right_children.specs.Rights.{counted};
+    ghost use Rattle.advance_retreat.specs.Hanging.{has_counted_right};
+
+    ghost has_right = { λ over v. has_counted_right over.base (counted over.rights.now) v };
+
+    fn has_known_right(&self, node: Node) -> bool {
+        has_next_base(self.base, node) || self.rights.has_known(node)
+    }
+}
+
+/// Whether a base character is the right child of the node.
+fn has_next_base(base: u32, node: Node) -> bool
+    ensures { result ≡ has_next_base base node }
+{
+    match node {
+        Node::Root => base > 0,
+        Node::Base(i) => base > 1 && i < base - 1,
+        Node::Event(_) => false,
+    }
 }
 
 impl Tree {
@@ -86,12 +115,16 @@ impl Tree {
 
     /// What a new character hangs on at an index of what is prepared, over a base of so many characters. None where the index is
     /// past the end.
-    pub fn hold_at(&mut self, base: u32, at: u32) -> Option<Hold>
-        ensures some { IfSome result (IsHold (has_known_right base self.old.records self.old.attached) self.old.records at) }
+    pub fn slot_at(&mut self, base: u32, at: u32) -> Option<Slot>
+        ensures some { IfSome result (IsSlot (has_known_right base self.old.records self.old.attached) self.old.records at) }
         ensures none { IfNone result (visible_in self.old.records < at) }
         ensures same { self.new ≡ self.old }
     {
-        self.characters.hold_at(base, &self.rights, at)
+        let over = OverBase {
+            base,
+            rights: &self.rights,
+        };
+        self.characters.slot_at(&over, at)
     }
 
     /// The deletion of the character at an index of what is prepared. None where no character is there.
@@ -135,33 +168,34 @@ impl Tree {
         ensures loose { (among : Nodes → Bool) → loose_in among self.new.runs ≡ loose_in among self.old.runs }
     {
         let (positions, known) = self.characters.change_run(lv, within, change)?;
-        self.rights.shift_each(positions, known);
+        self.rights
+            .shift_each(positions.from, positions.to, known.was, known.is);
         Some(positions)
     }
 
     /// Takes all events out of what is prepared. Those whose nodes hang are at these positions.
     pub fn rest(&mut self, at: Positions)
         requires order { at.from ≤ at.to }
-        requires within { HangWithin at self.old.attached }
+        requires within { HangWithin at.from at.to self.old.attached }
         ensures records { self.new.records ≡ map rested self.old.records }
         ensures attached { self.new.attached ≡ self.old.attached }
         ensures loose { (among : Nodes → Bool) → loose_in among self.new.runs ≡ loose_in among self.old.runs }
     {
         self.characters.rest();
-        self.rights.rest(at);
+        self.rights.rest(at.from, at.to);
     }
 
     /// Attaches the node of a new event, and puts its character beside its neighbour. Answers its index in the text.
-    pub fn insert(&mut self, hold: Hold, id: Id, lv: u32) -> Result<u32, NoMem>
-        requires parent { is_there self.old.attached hold.parent ≡ true }
+    pub fn insert(&mut self, slot: Slot, id: Id, lv: u32) -> Result<u32, NoMem>
+        requires parent { is_there self.old.attached slot.parent ≡ true }
         requires unused { has_id self.old.attached id ≡ false }
         requires new { is_attached self.old.attached (nodes.Event lv) ≡ false }
         requires unrecorded { list_any (is_of (nodes.Event lv)) self.old.records ≡ false }
-        requires last { hold.side ≡ sides.Right → has_beyond self.old.attached hold.parent ≡ false }
+        requires last { slot.side ≡ sides.Right → has_beyond self.old.attached slot.parent ≡ false }
         requires room { length self.old.records < 2 ^ 25 }
         requires sound { AreAttached [] self.old.attached }
-        ensures comes { IfOk result (λ at. (place : Place) × IsPlaceOfNew self.old.attached hold.parent hold.side id place × Comes self.old.records self.new.records place lv at) }
-        ensures attached { OnOk result (self.new.attached ≡ self.old.attached ++ record { parent = hold.parent; side = hold.side; id = id; node = nodes.Event lv } ∷ []) }
+        ensures comes { IfOk result (λ at. (place : Place) × IsPlaceOfNew self.old.attached slot.parent slot.side id place × Comes self.old.records self.new.records place lv at) }
+        ensures attached { OnOk result (self.new.attached ≡ self.old.attached ++ record { parent = slot.parent; side = slot.side; id = id; node = nodes.Event lv } ∷ []) }
         ensures err { OnErr result (self.new.records ≡ self.old.records) }
         ensures detached { OnErr result (self.new.attached ≡ self.old.attached) }
         ensures told { OnOk result ((among : Nodes → Bool) → among (nodes.Event lv) ≡ true → loose_in among self.new.runs ≤ loose_in among self.old.runs) }
@@ -171,10 +205,10 @@ impl Tree {
             agent: id.agent,
             seq: id.seq,
         };
-        let place = self.siblings.position(hold.parent, hold.side, own);
-        self.rights.note(lv, hold)?;
+        let place = self.siblings.position(slot.parent, slot.side, own);
+        self.rights.note(lv, slot.parent, slot.side)?;
         let characters = &mut self.characters;
-        let at = characters.insert(&mut self.siblings, hold, id, lv, place)?;
+        let at = characters.insert(&mut self.siblings, slot, id, lv, place)?;
         self.rights.shift(Node::Event(lv), false, true);
         Ok(at)
     }

@@ -1,5 +1,5 @@
 -- Moves over the positions of spans.
-use Rattle.std.proofs.Common.{◌≡◌, ℕ, suc, ◌+◌, ◌-◌, ◌<◌, ◌≤◌, List, [], ◌∷◌, ◌++◌, reverse, take, drop, refl, sym, ap, ◌∙◌, subst, arith, length, get_or, length-append, drop-cons}
+use Rattle.std.proofs.Common.{◌≡◌, ℕ, suc, ◌+◌, ◌-◌, ◌<◌, ◌≤◌, List, [], ◌∷◌, ◌++◌, reverse, take, drop, sym, ap, ◌∙◌, subst, arith, length, get_or, length-append, drop-cons}
 use Rattle.std.proofs.lemmas.List.{reverse-append, take_more, drop_all}
 use Rattle.std.proofs.lemmas.List.FromFn.{length-range_with_len}
 use Rattle.ew_model.specs.Tree.{Applied}
@@ -8,6 +8,7 @@ use Rattle.ew_model.specs.Moves.{after_advances, after_retreats}
 use Rattle.advance_retreat.specs.Kept.{Kept}
 use Rattle.advance_retreat.specs.Standing.{StandsFor}
 use Rattle.advance_retreat.specs.Conditions.{MayRetreatEach, MayAdvanceEach, Advanced, Retreated}
+use Rattle.advance_retreat.proofs.SpanMoves.{advances-append, retreats-append, advance_whole, retreat_whole, fronts_joined}
 use Rattle.ancestors.specs.declared.spans.Span.{Span}
 use Rattle.ancestors.specs.Spans.{positions_in, positions_of}
 use Rattle.ancestors.proofs.SpanLists.{positions_push}
@@ -58,14 +59,6 @@ module _ (events : List (Applied ℕ)) where
   advances_parted prepared [] ys may = (tt, may)
   advances_parted prepared (x ∷ xs) ys may = let rest = advances_parted (x ∷ prepared) xs ys may.1 in ((may.0, rest.0), rest.1)
 
-retreats-append : (prepared xs ys : List ℕ) → after_retreats prepared (xs ++ ys) ≡ after_retreats (after_retreats prepared xs) ys
-retreats-append prepared [] ys = refl
-retreats-append prepared (x ∷ xs) ys = retreats-append (without x prepared) xs ys
-
-advances-append : (prepared xs ys : List ℕ) → after_advances prepared (xs ++ ys) ≡ after_advances (after_advances prepared xs) ys
-advances-append prepared [] ys = refl
-advances-append prepared (x ∷ xs) ys = advances-append (x ∷ prepared) xs ys
-
 module _ (b : ℕ) (events : List (Applied ℕ)) (prepared all : List ℕ) where
   -- the next of them, and what is left behind them
   module _ (s : Kept) (xs ys rest : List ℕ) (parts : rest ≡ xs ++ ys) where
@@ -74,10 +67,12 @@ module _ (b : ℕ) (events : List (Applied ℕ)) (prepared all : List ℕ) where
 
     pub retreat_on : (a : Retreated s b events prepared all rest) (t : Kept) → StandsFor t b events (after_retreats a.now xs) → Retreated t b events prepared all ys
     retreat_on a t stands = record {
+      made = a.made ++ xs;
+      parts = fronts_joined a.made xs ys rest all (sym parts) a.parts;
       now = after_retreats a.now xs;
+      is = ap (λ (ps : List ℕ). after_retreats ps xs) a.is ∙ sym (retreats-append prepared a.made xs);
       stands = stands;
       may = (retreats_parted events a.now xs ys (subst (MayRetreatEach events a.now) parts a.may)).1;
-      same = sym (retreats-append a.now xs ys) ∙ ap (after_retreats a.now) (sym parts) ∙ a.same;
     }
 
     pub advance_next : (a : Advanced s b events prepared all rest) → MayAdvanceEach events a.now xs
@@ -85,17 +80,19 @@ module _ (b : ℕ) (events : List (Applied ℕ)) (prepared all : List ℕ) where
 
     pub advance_on : (a : Advanced s b events prepared all rest) (t : Kept) → StandsFor t b events (after_advances a.now xs) → Advanced t b events prepared all ys
     advance_on a t stands = record {
+      made = a.made ++ xs;
+      parts = fronts_joined a.made xs ys rest all (sym parts) a.parts;
       now = after_advances a.now xs;
+      is = ap (λ (ps : List ℕ). after_advances ps xs) a.is ∙ sym (advances-append prepared a.made xs);
       stands = stands;
       may = (advances_parted events a.now xs ys (subst (MayAdvanceEach events a.now) parts a.may)).1;
-      same = sym (advances-append a.now xs ys) ∙ ap (after_advances a.now) (sym parts) ∙ a.same;
     }
 
   -- none is left
   pub retreats_made : (s : Kept) (spans : List Span) (i : ℕ) → length spans ≤ i → Retreated s b events prepared all (reverse (positions_of (drop i spans))) → StandsFor s b events (after_retreats prepared all)
   retreats_made s spans i le a =
       let none : [] ≡ drop i spans = sym (drop_all i spans le) in
-      subst (StandsFor s b events) (ap (λ (ss : List Span). after_retreats a.now (reverse (positions_of ss))) none ∙ a.same) a.stands
+      subst (StandsFor s b events) (ap (λ (ss : List Span). after_retreats a.now (reverse (positions_of ss))) none ∙ retreat_whole b events prepared all s (reverse (positions_of (drop i spans))) a) a.stands
 
   pub advances_made : (s : Kept) (spans : List Span) (i : ℕ) → i ≡ 0 → Advanced s b events prepared all (positions_of (take i spans)) → StandsFor s b events (after_advances prepared all)
-  advances_made s spans i none a = subst (StandsFor s b events) (ap (λ (n : ℕ). after_advances a.now (positions_of (take n spans))) (sym none) ∙ a.same) a.stands
+  advances_made s spans i none a = subst (StandsFor s b events) (ap (λ (n : ℕ). after_advances a.now (positions_of (take n spans))) (sym none) ∙ advance_whole b events prepared all s (positions_of (take i spans)) a) a.stands

@@ -1,8 +1,9 @@
-use Rattle.std.proofs.Common.{◌≡◌, ℕ, List, take, length, refl, sym, ap, ◌∙◌, subst, arith}
+use Rattle.std.proofs.Common.{◌≡◌, ℕ, List, [], take, length, refl, sym, ap, ◌∙◌, subst, arith}
 use Rattle.std.proofs.Math.Seq.{take-length}
 use Rattle.advance_retreat.specs.Conditions.{Advanced}
 use Rattle.ancestors.specs.declared.spans.Span.{Span}
 use Rattle.ancestors.specs.Spans.{positions_of}
+use Rattle.advance_retreat.proofs.SpanMoves.{advanced_part}
 use Rattle.transform.proofs.SpanLists.{rising_next, rising_long, advance_next, advance_on, advances_made}
 use Rattle.transform.proofs.moves.advance_all.Goals as goal
 
@@ -13,7 +14,7 @@ loop-left-init g c =
     record {
       within = omega arith;
       stands = λ b events prepared st may. subst (λ (ss : List Span). Advanced c.args.state.now b events prepared (positions_of c.args.spans.now) (positions_of ss)) (sym same)
-          (record { now = prepared; stands = st; may = may; same = refl });
+          (record { made = []; parts = refl; now = prepared; is = refl; stands = st; may = may });
       steps = let long = ap (λ (ss : List Span). length (positions_of ss)) same in omega (arith, long);
     }
 
@@ -44,6 +45,14 @@ returns-in_err-advance_span-clause-most g c =
     let one = c.advance_span.ensures.most in
     let so = c.loop-left.invariant.steps in
     omega (arith, one, so, long)
+
+pub returns-in_err-advance_span-clause-err : goal.returns-in_err-advance_span-clause-err
+returns-in_err-advance_span-clause-err g c = λ b events prepared st may.
+    let all = positions_of c.args.spans.now in
+    let a = c.loop-left.invariant.stands b events prepared st may in
+    let next = rising_next c.as_slice-items.result.now c.loop-left.left _ c.loop-left-test.true c.loop-left.invariant.within in
+    let part = c.in_err-advance_span.ensures.err b events a.now a.stands (advance_next b events prepared _ c.loop-left.state _ _ _ next a) in
+    advanced_part b events prepared all c.loop-left.state c.advance_span.new.self _ _ _ next c.from_residual.result a part
 
 pub returns-clause-ok : goal.returns-clause-ok
 returns-clause-ok g c = λ b events prepared st may.

@@ -1,8 +1,9 @@
-use Rattle.std.proofs.Common.{List, length, reverse, refl, sym, ap, subst, arith}
+use Rattle.std.proofs.Common.{List, [], length, reverse, refl, sym, ap, subst, arith}
 use Rattle.std.proofs.lemmas.List.{drop_all}
 use Rattle.advance_retreat.specs.Conditions.{Retreated}
 use Rattle.ancestors.specs.declared.spans.Span.{Span}
 use Rattle.ancestors.specs.Spans.{positions_of}
+use Rattle.advance_retreat.proofs.SpanMoves.{retreated_part}
 use Rattle.transform.proofs.SpanLists.{falling_next, falling_long, retreat_next, retreat_on, retreats_made}
 use Rattle.transform.proofs.moves.retreat_all.Goals as goal
 
@@ -11,7 +12,7 @@ loop-span-init g c =
     let same = c.as_slice-span-items.ensures.spans in
     record {
       stands = λ b events prepared st may. subst (λ (ss : List Span). Retreated c.args.state.now b events prepared (reverse (positions_of c.args.spans.now)) (reverse (positions_of ss))) (sym same)
-          (record { now = prepared; stands = st; may = may; same = refl });
+          (record { made = []; parts = refl; now = prepared; is = refl; stands = st; may = may });
       steps = let long = ap (λ (ss : List Span). length (positions_of ss)) same in omega (arith, long);
     }
 
@@ -41,6 +42,14 @@ returns-in_err-retreat_span-clause-most g c =
     let one = c.retreat_span.ensures.most in
     let so = c.loop-span.invariant.steps in
     omega (arith, one, so, long)
+
+pub returns-in_err-retreat_span-clause-err : goal.returns-in_err-retreat_span-clause-err
+returns-in_err-retreat_span-clause-err g c = λ b events prepared st may.
+    let all = reverse (positions_of c.args.spans.now) in
+    let a = c.loop-span.invariant.stands b events prepared st may in
+    let next = falling_next c.as_slice-span-items.result.now c.loop-span.span-index _ c.loop-span-test.true in
+    let part = c.in_err-retreat_span.ensures.err b events a.now a.stands (retreat_next b events prepared _ c.loop-span.state _ _ _ next a) in
+    retreated_part b events prepared all c.loop-span.state c.retreat_span.new.self _ _ _ next c.from_residual.result a part
 
 pub returns-clause-ok : goal.returns-clause-ok
 returns-clause-ok g c = λ b events prepared st may.

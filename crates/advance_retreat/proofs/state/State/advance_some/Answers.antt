@@ -4,10 +4,11 @@ use Rattle.ew_model.specs.declared.node.Node.TheVariants.{Event}
 use Rattle.walker_record.specs.Stretches.{Stretch}
 use Rattle.fugue_place.specs.declared.child.Attached.{Attached}
 use Rattle.fugue_place.specs.Attachments.{is_there, AreAttached}
-use Rattle.advance_retreat.specs.declared.change.Change.TheVariants.{Raise}
+use Rattle.character_runs.specs.declared.change.Change.TheVariants.{Raise}
 use Rattle.advance_retreat.specs.Conditions.{MayAdvanceEach, Advanced}
-use Rattle.advance_retreat.specs.Kept.{Kept, HasRoom, is_of, target_at}
-use Rattle.advance_retreat.specs.Rights.{InTree}
+use Rattle.advance_retreat.specs.Kept.{Kept, target_at}
+use Rattle.character_runs.specs.States.{HasRoom, is_of}
+use Rattle.advance_retreat.specs.Hanging.{InTree}
 use Rattle.advance_retreat.specs.Standing.{StandsFor}
 use Rattle.advance_retreat.proofs.Hanging.{few_records}
 use Rattle.advance_retreat.proofs.Keeping.{has_room}

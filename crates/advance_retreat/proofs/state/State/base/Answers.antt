@@ -1,7 +1,7 @@
 use Rattle.std.proofs.Common.{List, [], sym, subst, arith}
 use Rattle.advance_retreat.specs.declared.target.Target.{Target}
 use Rattle.advance_retreat.specs.Kept.{Kept}
-use Rattle.advance_retreat.specs.Loose.{FewLoose}
+use Rattle.advance_retreat.specs.Refusals.{FewLoose}
 use Rattle.advance_retreat.specs.Standing.{StandsFor}
 use Rattle.advance_retreat.proofs.BaseStates.{base_stands}
 use Rattle.advance_retreat.proofs.LooseEvents.{base_few}

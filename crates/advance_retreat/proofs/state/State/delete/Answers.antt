@@ -7,8 +7,9 @@ use Rattle.ew_model.specs.Tree.{Applied}
 use Rattle.ew_model.specs.Records.{next_of, prepared_entries}
 use Rattle.fugue_place.specs.Attachments.{is_there, AreAttached}
 use Rattle.advance_retreat.specs.declared.fault.ApplyFault.TheVariants.{OutOfMemory}
-use Rattle.advance_retreat.specs.Kept.{Kept, HasRoom, with_deletion, target_at, visible_in}
-use Rattle.advance_retreat.specs.Spots.{IsDeletion}
+use Rattle.advance_retreat.specs.Kept.{Kept, with_deletion, target_at}
+use Rattle.character_runs.specs.States.{HasRoom, visible_in}
+use Rattle.character_runs.specs.Spots.{IsDeletion}
 use Rattle.advance_retreat.specs.Standing.{StandsFor}
 use Rattle.advance_retreat.proofs.Answering.{refused, not_refused, answered}
 use Rattle.advance_retreat.proofs.Found.{new_target}

@@ -1,5 +1,6 @@
 use Rattle.std.proofs.Common.{ap, ◌∙◌}
-use Rattle.advance_retreat.specs.Kept.{Kept, shown_in}
+use Rattle.advance_retreat.specs.Kept.{Kept}
+use Rattle.character_runs.specs.States.{shown_in}
 use Rattle.advance_retreat.proofs.Keeping.{shown_told}
 use Rattle.advance_retreat.proofs.state.State.effect_len.Goals as goal
 

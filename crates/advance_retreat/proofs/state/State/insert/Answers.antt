@@ -7,9 +7,11 @@ use Rattle.ew_model.specs.Records.{prepared_entries}
 use Rattle.fugue_place.specs.Attachments.{AreAttached}
 use Rattle.fugue_place.proofs.PathLaws.{has_agent}
 use Rattle.advance_retreat.specs.declared.fault.ApplyFault.TheVariants.{OutOfMemory}
-use Rattle.advance_retreat.specs.declared.spot.Hold.{Hold}
-use Rattle.advance_retreat.specs.Kept.{Kept, target_at, visible_in}
-use Rattle.advance_retreat.specs.Spots.{Left, IsLeft, hold_of, MayHang, Puts}
+use Rattle.character_runs.specs.declared.slot.Slot.{Slot}
+use Rattle.advance_retreat.specs.Kept.{Kept, target_at}
+use Rattle.character_runs.specs.States.{visible_in}
+use Rattle.character_runs.specs.Spots.{Left, IsLeft}
+use Rattle.advance_retreat.specs.Hanging.{slot_of, MayHang, Puts}
 use Rattle.advance_retreat.specs.Standing.{StandsFor}
 use Rattle.advance_retreat.specs.Conditions.{MayInsert}
 use Rattle.advance_retreat.proofs.Answering.{refused, not_refused, answered}
@@ -23,7 +25,7 @@ use Rattle.advance_retreat.proofs.state.State.insert.Goals.{In_ok-at}
 
 pub returns-in_default-clause-out_of_range : goal.returns-in_default-clause-out_of_range
 returns-in_default-clause-out_of_range c = λ b events prepared st len.
-    let same = same_kept c.self.inside.base c.self.inside.targets c.self.inside.lost c.self.inside.tree c.hold_at.new.self c.args.self.now c.hold_at.ensures.same c.self.view_is in
+    let same = same_kept c.self.inside.base c.self.inside.targets c.self.inside.lost c.self.inside.tree c.slot_at.new.self c.args.self.now c.slot_at.ensures.same c.self.view_is in
     let told = c.prepared_len.ensures b events prepared (subst (λ (s : Kept). StandsFor s b events prepared) (sym same) st) in
     let few : visible_in c.args.self.now.records < c.args.at = subst (λ (s : Kept). visible_in s.records < c.args.at) c.self.view_is c.in_default.ensures.none in
     let past = subst (λ (n : ℕ). n < c.args.at) (visible_told c.args.self.now b events prepared st) few in
@@ -35,16 +37,16 @@ put-requires-clause-hangs c =
     let now = c.args.self.now in
     let is = c.in-Some.ensures.some in
     let left : IsLeft now.records c.args.at is.left = subst (λ (s : Kept). IsLeft s.records c.args.at is.left) c.self.view_is is.here in
-    let hold : c.in-Some.hold ≡ hold_of now.base now.records now.attached is.left = is.is ∙ ap (λ (s : Kept). hold_of s.base s.records s.attached is.left) c.self.view_is in
-    let same = same_kept c.self.inside.base c.self.inside.targets c.self.inside.lost c.self.inside.tree c.hold_at.new.self c.args.self.now c.hold_at.ensures.same c.self.view_is in
+    let slot : c.in-Some.slot ≡ slot_of now.base now.records now.attached is.left = is.is ∙ ap (λ (s : Kept). slot_of s.base s.records s.attached is.left) c.self.view_is in
+    let same = same_kept c.self.inside.base c.self.inside.targets c.self.inside.lost c.self.inside.tree c.slot_at.new.self c.args.self.now c.slot_at.ensures.same c.self.view_is in
     let still = subst (λ (s : Kept). StandsFor s q.0 q.1 q.2) (sym same) q.3 in
     let room = can_insert q.0 q.1 c.args.lv c.args.id q.4 (sym (c.has_room_for_character.ensures q.0 q.1 q.2 still) ∙ c.if-not-has_room_for_character.false) in
-    subst (λ (s : Kept). MayHang s c.args.lv c.args.id c.in-Some.hold) (sym same)
-    (asked now q.0 q.1 q.2 q.3 c.args.at is.left left c.args.lv c.args.id (has_agent c.args.id.agent c.as_slice-agent.ensures.name) room c.in-Some.hold hold)
+    subst (λ (s : Kept). MayHang s c.args.lv c.args.id c.in-Some.slot) (sym same)
+    (asked now q.0 q.1 q.2 q.3 c.args.at is.left left c.args.lv c.args.id (has_agent c.args.id.agent c.as_slice-agent.ensures.name) room c.in-Some.slot slot)
 
 pub put-requires-clause-sound : goal.put-requires-clause-sound
 put-requires-clause-sound c =
-    let same = same_kept c.self.inside.base c.self.inside.targets c.self.inside.lost c.self.inside.tree c.hold_at.new.self c.args.self.now c.hold_at.ensures.same c.self.view_is in
+    let same = same_kept c.self.inside.base c.self.inside.targets c.self.inside.lost c.self.inside.tree c.slot_at.new.self c.args.self.now c.slot_at.ensures.same c.self.view_is in
     subst (λ (s : Kept). AreAttached [] s.attached) (sym same) c.requires.3.children.sound
 
 pub put-requires-clause-new : goal.put-requires-clause-new
@@ -73,18 +75,18 @@ left_of c = c.in-Some.ensures.some.left
 found : (c : In_ok-at) → IsLeft c.args.self.now.records c.args.at (left_of c)
 found c = subst (λ (s : Kept). IsLeft s.records c.args.at (left_of c)) c.self.view_is c.in-Some.ensures.some.here
 
-puts : (c : In_ok-at) → let now = c.args.self.now in Puts now c.put.new.self c.args.lv c.args.id (hold_of now.base now.records now.attached (left_of c)) c.in_ok-at.at
+puts : (c : In_ok-at) → let now = c.args.self.now in Puts now c.put.new.self c.args.lv c.args.id (slot_of now.base now.records now.attached (left_of c)) c.in_ok-at.at
 puts c =
     let now = c.args.self.now in
     let is = c.in-Some.ensures.some in
-    let hold : c.in-Some.hold ≡ hold_of now.base now.records now.attached is.left = is.is ∙ ap (λ (s : Kept). hold_of s.base s.records s.attached is.left) c.self.view_is in
-    let same = same_kept c.self.inside.base c.self.inside.targets c.self.inside.lost c.self.inside.tree c.hold_at.new.self c.args.self.now c.hold_at.ensures.same c.self.view_is in
-    subst (λ (h : Hold). Puts now c.put.new.self c.args.lv c.args.id h c.in_ok-at.at) hold
-    (subst (λ (s : Kept). Puts s c.put.new.self c.args.lv c.args.id c.in-Some.hold c.in_ok-at.at) same c.in_ok-at.ensures.ok)
+    let slot : c.in-Some.slot ≡ slot_of now.base now.records now.attached is.left = is.is ∙ ap (λ (s : Kept). slot_of s.base s.records s.attached is.left) c.self.view_is in
+    let same = same_kept c.self.inside.base c.self.inside.targets c.self.inside.lost c.self.inside.tree c.slot_at.new.self c.args.self.now c.slot_at.ensures.same c.self.view_is in
+    subst (λ (h : Slot). Puts now c.put.new.self c.args.lv c.args.id h c.in_ok-at.at) slot
+    (subst (λ (s : Kept). Puts s c.put.new.self c.args.lv c.args.id c.in-Some.slot c.in_ok-at.at) same c.in_ok-at.ensures.ok)
 
 room : (c : In_ok-at) → (b : ℕ) (events : List (Applied ℕ)) (prepared : List ℕ) → StandsFor c.args.self.now b events prepared → MayInsert events c.args.lv c.args.id → CanInsert b events c.args.lv c.args.id
 room c b events prepared st may =
-    let same = same_kept c.self.inside.base c.self.inside.targets c.self.inside.lost c.self.inside.tree c.hold_at.new.self c.args.self.now c.hold_at.ensures.same c.self.view_is in
+    let same = same_kept c.self.inside.base c.self.inside.targets c.self.inside.lost c.self.inside.tree c.slot_at.new.self c.args.self.now c.slot_at.ensures.same c.self.view_is in
     let still = subst (λ (s : Kept). StandsFor s b events prepared) (sym same) st in
     can_insert b events c.args.lv c.args.id may (sym (c.has_room_for_character.ensures b events prepared still) ∙ c.if-not-has_room_for_character.false)
 

@@ -1,5 +1,6 @@
 use Rattle.std.proofs.Common.{ap, ◌∙◌}
-use Rattle.advance_retreat.specs.Kept.{Kept, visible_in}
+use Rattle.advance_retreat.specs.Kept.{Kept}
+use Rattle.character_runs.specs.States.{visible_in}
 use Rattle.advance_retreat.proofs.Keeping.{visible_told}
 use Rattle.advance_retreat.proofs.state.State.prepared_len.Goals as goal
 

@@ -2,8 +2,8 @@ use Rattle.std.proofs.Common.{◌≡◌, List, [], map, sym, ap, ◌∙◌, subs
 use Rattle.walker_record.specs.Stretches.{Stretch}
 use Rattle.fugue_place.specs.declared.child.Attached.{Attached}
 use Rattle.advance_retreat.specs.Kept.{Kept}
-use Rattle.advance_retreat.specs.Resting.{rested}
-use Rattle.advance_retreat.specs.Rights.{HangWithin}
+use Rattle.character_runs.specs.Resting.{rested}
+use Rattle.right_children.specs.Rights.{HangWithin}
 use Rattle.advance_retreat.specs.Standing.{StandsFor}
 use Rattle.advance_retreat.proofs.Moving.{with_records}
 use Rattle.advance_retreat.proofs.Resting.{rested_stands, hang_within}
@@ -12,7 +12,7 @@ use Rattle.advance_retreat.proofs.state.State.rest.Goals as goal
 pub rest-requires-clause-within : goal.rest-requires-clause-within
 rest-requires-clause-within g c =
     let q = c.requires.stands in
-    subst (λ (s : Kept). HangWithin c.args.at s.attached) (sym c.self.view_is) (hang_within c.args.self.now q.0 q.1 q.2 q.3 c.args.at c.requires.within)
+    subst (λ (s : Kept). HangWithin c.args.at.from c.args.at.to s.attached) (sym c.self.view_is) (hang_within c.args.self.now q.0 q.1 q.2 q.3 c.args.at c.requires.within)
 
 pub returns-clause-rests : goal.returns-clause-rests
 returns-clause-rests g c = λ b events prepared st.

@@ -4,9 +4,10 @@ use Rattle.ew_model.specs.Records.{without}
 use Rattle.walker_record.specs.Stretches.{Stretch}
 use Rattle.fugue_place.specs.declared.child.Attached.{Attached}
 use Rattle.fugue_place.specs.Attachments.{is_there, AreAttached}
-use Rattle.advance_retreat.specs.declared.change.Change.TheVariants.{Lower}
-use Rattle.advance_retreat.specs.Kept.{Kept, HasRoom, changed_at, target_at}
-use Rattle.advance_retreat.specs.Loose.{is_told}
+use Rattle.character_runs.specs.declared.change.Change.TheVariants.{Lower}
+use Rattle.advance_retreat.specs.Kept.{Kept, target_at}
+use Rattle.character_runs.specs.States.{HasRoom, changed_at}
+use Rattle.advance_retreat.specs.Refusals.{is_told}
 use Rattle.advance_retreat.specs.Standing.{StandsFor}
 use Rattle.advance_retreat.proofs.Hanging.{few_records, target_there}
 use Rattle.advance_retreat.proofs.Keeping.{has_room}

@@ -1,17 +1,19 @@
-use Rattle.std.proofs.Common.{ℕ, List, ◌∙◌, refl, subst, sym, arith}
-use Rattle.advance_retreat.specs.declared.change.Positions.{Positions}
+use Rattle.std.proofs.Common.{ℕ, ◌-◌, List, [], ◌∙◌, reverse, refl, subst, sym, arith}
+use Rattle.character_runs.specs.declared.change.Positions.{Positions}
+use Rattle.std.specs.List.{range_with_len}
 use Rattle.advance_retreat.specs.Kept.{Kept, target_at, AreWithin}
 use Rattle.advance_retreat.specs.Standing.{StandsFor}
-use Rattle.advance_retreat.proofs.Entered.{on_err}
+use Rattle.advance_retreat.specs.Conditions.{PartRetreated}
+use Rattle.character_runs.proofs.Entered.{on_err}
 use Rattle.advance_retreat.proofs.Resting.{none_prepared}
-use Rattle.advance_retreat.proofs.SpanMoves.{retreated_end}
+use Rattle.advance_retreat.proofs.SpanMoves.{retreated_end, retreated_on, retreat_left}
 use Rattle.advance_retreat.proofs.state.State.retreat_span.Goals as goal
 
 pub loop-at-init : goal.loop-at-init
 loop-at-init g c = record {
   low = c.requires.order;
   high = omega arith;
-  stands = λ b events prepared st may. record { now = prepared; stands = st; may = may; same = refl };
+  stands = λ b events prepared st may. record { made = []; parts = refl; now = prepared; is = refl; stands = st; may = may };
   lost = refl;
   steps = refl;
 }
@@ -32,16 +34,16 @@ loop-at-preserved g c =
       stands = λ b events prepared st may.
           let a = c.loop-at.invariant.stands b events prepared st may in
           let d = c.in_ok-at.ensures.ok b events a.now a.stands a.may in
-          record { now = d.now; stands = d.stands; may = d.may; same = d.same ∙ a.same };
+          retreated_on b events prepared _ c.loop-at.self _ _ _ a d;
       lost = c.retreat_some.ensures.lost ∙ c.loop-at.invariant.lost;
       steps = let one = c.in_ok-at.ensures.steps in let so = c.loop-at.invariant.steps in omega (arith, one, so);
     }
 
 pub returns-in_err-at-clause-err : goal.returns-in_err-at-clause-err
 returns-in_err-at-clause-err g c = λ b events prepared st may.
-    let a = c.loop-at.invariant.stands b events prepared st may in
-    let stands = subst (λ (s : Kept). StandsFor s b events a.now) (sym c.in_err-at.ensures.err) a.stands in
-    on_err c.from_residual.result ((later : List ℕ) × StandsFor c.retreat_some.new.self b events later) (a.now, stands)
+    let all = reverse (range_with_len c.args.from (c.args.to - c.args.from)) in
+    let part = retreat_left b events c.loop-at.self prepared all c.args.from c.loop-at.at c.loop-at-test.true (c.loop-at.invariant.stands b events prepared st may) in
+    on_err c.from_residual.result (PartRetreated c.retreat_some.new.self b events prepared all) (subst (λ (s : Kept). PartRetreated s b events prepared all) (sym c.in_err-at.ensures.err) part)
 
 pub returns-clause-ok : goal.returns-clause-ok
 returns-clause-ok g c = λ b events prepared st may.

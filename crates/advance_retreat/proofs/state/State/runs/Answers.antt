@@ -1,6 +1,6 @@
 use Rattle.std.proofs.Common.{◌≡◌, length, ap, ◌∙◌, subst, arith}
 use Rattle.advance_retreat.specs.Kept.{Kept}
-use Rattle.advance_retreat.specs.Laid.{records_in}
+use Rattle.character_runs.specs.Laid.{records_in}
 use Rattle.advance_retreat.proofs.LooseEvents.{all_few, long_targets}
 use Rattle.advance_retreat.proofs.state.State.runs.Goals as goal
 

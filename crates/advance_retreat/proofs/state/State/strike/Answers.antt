@@ -1,6 +1,6 @@
 use Rattle.std.proofs.Common.{List, [], ◌∷◌, ◌++◌, sym, subst}
 use Rattle.advance_retreat.specs.declared.target.Target.{Target}
-use Rattle.advance_retreat.specs.Loose.{is_told, FewLoose}
+use Rattle.advance_retreat.specs.Refusals.{is_told, FewLoose}
 use Rattle.advance_retreat.proofs.LooseEvents.{last_told, told_few}
 use Rattle.advance_retreat.proofs.state.State.strike.Goals as goal
 

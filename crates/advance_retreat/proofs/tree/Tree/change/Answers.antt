@@ -1,6 +1,7 @@
 use Rattle.std.proofs.Common.{◌≤◌, ◌^◌, [], length, sym, ap, ◌∙◌, subst}
 use Rattle.fugue_place.specs.Attachments.{is_there, AreAttached}
-use Rattle.advance_retreat.specs.Rights.{InTree, counted}
+use Rattle.advance_retreat.specs.Hanging.{InTree}
+use Rattle.right_children.specs.Rights.{counted}
 use Rattle.advance_retreat.proofs.TreeMoves.{change_may, change_kept}
 use Rattle.advance_retreat.proofs.tree.Tree.change.Goals as goal
 

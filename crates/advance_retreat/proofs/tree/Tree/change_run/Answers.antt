@@ -1,11 +1,14 @@
-use Rattle.std.proofs.Common.{◌≤◌, ◌^◌, List, [], length, sym, ap, ◌∙◌, subst, arith}
+use Rattle.std.proofs.Common.{◌≤◌, ◌^◌, List, [], map, length, sym, ap, ◌∙◌, subst, arith}
 use Rattle.std.specs.List.{list_any}
 use Rattle.ew_model.specs.declared.node.Node.TheVariants.{Event}
 use Rattle.walker_record.specs.Stretches.{Stretch}
 use Rattle.fugue_place.specs.Attachments.{is_there, AreAttached}
-use Rattle.advance_retreat.specs.Kept.{is_of, knows}
-use Rattle.advance_retreat.specs.Laid.{InRuns}
-use Rattle.advance_retreat.specs.Rights.{InTree, AreRights, KeepRights, ShiftEach, counted}
+use Rattle.character_runs.specs.States.{is_of, knows}
+use Rattle.character_runs.specs.Replacing.{changed_in}
+use Rattle.character_runs.specs.Laid.{InRuns}
+use Rattle.advance_retreat.specs.Hanging.{InTree, KeepRights}
+use Rattle.right_children.specs.Rights.{AreRights, counted}
+use Rattle.advance_retreat.proofs.TreeMoves.{span_shifts}
 use Rattle.advance_retreat.proofs.tree.Tree.change_run.Goals as goal
 
 pub shift_each-requires-clause-order : goal.shift_each-requires-clause-order
@@ -16,14 +19,12 @@ shift_each-requires-clause-may c =
     let t = c.self.inside in
     let read = c.self.view_is in
     let r = c.in_ok-positions.ensures in
-    let shift : ShiftEach t.characters.records t.siblings c.args.change c.in_ok-positions.positions c.in_ok-positions.known = record {
-      sound = subst (λ (s : InTree). AreAttached [] s.attached) (sym read) c.requires.sound;
-      few = subst (λ (s : InTree). length s.records ≤ 2 ^ 25) (sym read) c.requires.few;
-      there = λ n low high. ap (λ (s : InTree). is_there s.attached (Event n)) read ∙ c.requires.there n (ap (λ (s : InTree). list_any (is_of (Event n)) s.records) (sym read) ∙ r.told n low high);
-      was = r.was;
-      is = λ n low high. ap (λ (xs : List Stretch). knows xs (Event n)) (sym r.records) ∙ r.is n low high;
-    } in
-    (t.characters.records, t.siblings, c.args.change, c.self.invariant.rights, shift)
+    let shift = span_shifts t.characters.records t.siblings c.args.change c.in_ok-positions.positions c.in_ok-positions.known.was c.in_ok-positions.known.is
+    (subst (λ (s : InTree). AreAttached [] s.attached) (sym read) c.requires.sound)
+    (subst (λ (s : InTree). length s.records ≤ 2 ^ 25) (sym read) c.requires.few)
+    (λ n low high. ap (λ (s : InTree). is_there s.attached (Event n)) read ∙ c.requires.there n (ap (λ (s : InTree). list_any (is_of (Event n)) s.records) (sym read) ∙ r.told n low high))
+    r.was (λ n low high. ap (λ (xs : List Stretch). knows xs (Event n)) (sym r.records) ∙ r.is n low high) in
+    (knows t.characters.records, knows (map (changed_in c.in_ok-positions.positions c.args.change) t.characters.records), t.siblings, c.self.invariant.rights, shift)
 
 pub invariant_of-self : goal.invariant_of-self
 invariant_of-self c =
@@ -35,15 +36,13 @@ invariant_of-self-2 c =
     let t = c.self.inside in
     let read = c.self.view_is in
     let r = c.in_ok-positions.ensures in
-    let shift : ShiftEach t.characters.records t.siblings c.args.change c.in_ok-positions.positions c.in_ok-positions.known = record {
-      sound = subst (λ (s : InTree). AreAttached [] s.attached) (sym read) c.requires.sound;
-      few = subst (λ (s : InTree). length s.records ≤ 2 ^ 25) (sym read) c.requires.few;
-      there = λ n low high. ap (λ (s : InTree). is_there s.attached (Event n)) read ∙ c.requires.there n (ap (λ (s : InTree). list_any (is_of (Event n)) s.records) (sym read) ∙ r.told n low high);
-      was = r.was;
-      is = λ n low high. ap (λ (xs : List Stretch). knows xs (Event n)) (sym r.records) ∙ r.is n low high;
-    } in
+    let shift = span_shifts t.characters.records t.siblings c.args.change c.in_ok-positions.positions c.in_ok-positions.known.was c.in_ok-positions.known.is
+    (subst (λ (s : InTree). AreAttached [] s.attached) (sym read) c.requires.sound)
+    (subst (λ (s : InTree). length s.records ≤ 2 ^ 25) (sym read) c.requires.few)
+    (λ n low high. ap (λ (s : InTree). is_there s.attached (Event n)) read ∙ c.requires.there n (ap (λ (s : InTree). list_any (is_of (Event n)) s.records) (sym read) ∙ r.told n low high))
+    r.was (λ n low high. ap (λ (xs : List Stretch). knows xs (Event n)) (sym r.records) ∙ r.is n low high) in
     record {
-      rights = subst (λ (xs : List Stretch). AreRights xs t.siblings (counted c.shift_each.new.self)) (sym r.records)
-          (c.shift_each.ensures.rights t.characters.records t.siblings c.args.change c.self.invariant.rights shift);
+      rights = subst (λ (xs : List Stretch). AreRights (knows xs) t.siblings (counted c.shift_each.new.self)) (sym r.records)
+          (c.shift_each.ensures.rights (knows t.characters.records) (knows (map (changed_in c.in_ok-positions.positions c.args.change) t.characters.records)) t.siblings c.self.invariant.rights shift);
       whole = c.shift_each.ensures.whole;
     }

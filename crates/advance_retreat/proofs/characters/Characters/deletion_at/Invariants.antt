@@ -1,4 +1,0 @@
-use Rattle.advance_retreat.proofs.characters.Characters.deletion_at.Given as goal
-
-abbrev pub ghosts-deletion_by : goal.ghosts-deletion_by
-ghosts-deletion_by a = record { name = a.blank.name; parts = a.blank.parts }

@@ -1,4 +1,0 @@
-use Rattle.advance_retreat.proofs.characters.Characters.insert.Given as goal
-
-abbrev pub ghosts-insert_by : goal.ghosts-insert_by
-ghosts-insert_by a = record { name = a.blank.name; parts = a.blank.parts }

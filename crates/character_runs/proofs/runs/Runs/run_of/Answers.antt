@@ -1,0 +1,11 @@
+use Rattle.character_runs.proofs.Standings.{in_last, none_before, if_none}
+use Rattle.character_runs.proofs.runs.Runs.run_of.Goals as goal
+
+pub returns-in_err-label-clause-none : goal.returns-in_err-label-clause-none
+returns-in_err-label-clause-none g c =
+    if_none c.from_residual.result _ (none_before c.args.self.now.tree.pairs c.args.self.now.labels c.requires c.args.node c.in_err-label.ensures.none)
+
+pub returns-in_err-offset-clause-none : goal.returns-in_err-offset-clause-none
+returns-in_err-offset-clause-none g c =
+    if_none c.from_residual-in_err-offset.result _
+    (in_last c.args.self.now.tree.pairs c.args.self.now.labels c.requires c.args.node c.in_ok-label.label c.locate-run.result.now c.facts.ensures.rising c.in_ok-label.ensures.some c.locate-run.ensures.run c.in_err-offset.ensures.none)

@@ -1,0 +1,9 @@
+pub mod Cursors
+pub mod Entering
+pub mod Labelled
+pub mod Laid
+pub mod Loose
+pub mod Replacing
+pub mod Resting
+pub mod Spots
+pub mod States

@@ -1,0 +1,68 @@
+-- One record in the place of another.
+use Rattle.std.specs.Prelude.{◌≡◌, ℕ, ◌+◌, ◌<◌, ◌≤◌, nat_le, nat_lt, Bool, true, false, ◌&&◌, if◌then◌else◌, List, ◌∷◌, ◌++◌, length, Option, Some, None}
+use Rattle.ew_model.specs.declared.node.Node.{Node}
+use Rattle.ew_model.specs.declared.node.Node.TheVariants.{Root, Base, Event}
+use Rattle.walker_record.specs.Stretches.{Stretch, node_on, prepared_of, effect_of}
+use Rattle.character_runs.specs.declared.change.Change.{Change}
+use Rattle.character_runs.specs.declared.change.Positions.{Positions}
+use Rattle.character_runs.specs.declared.runs.changing.Altered.{Altered}
+use Rattle.character_runs.specs.States.{changed, is_inserted, visible_in, shown_in}
+
+-- what one counts that passes or does not
+abbrev pub one_if : Bool → ℕ
+one_if b = if b then 1 else 0
+
+-- the new list has a record where the old one has another
+pub record Replaces (old new : List Stretch) (before after : Stretch) : Type 0 where
+  pub front : List Stretch
+  pub back : List Stretch
+  pub was : old ≡ front ++ before ∷ back
+  pub now : new ≡ front ++ after ∷ back
+
+-- so it has these, or it is the same where there are none
+abbrev pub StaysOr : List Stretch → List Stretch → Option Altered → Type 0
+StaysOr old new None = new ≡ old
+StaysOr old new (Some a) = Replaces old new a.before a.after
+
+-- the records of some characters are changed
+abbrev pub changed_among : (Node → Bool) → Change → Stretch → Stretch
+changed_among among change r = if among r.from then changed change r else r
+
+-- these are the nodes of a run, and no others
+pub record AreNodesOf (run : Stretch) (among : Node → Bool) : Type 0 where
+  pub inside : (n : ℕ) → n < run.len → among (node_on run.from n) ≡ true
+  pub outside : (v : Node) → ((n : ℕ) → n < run.len → node_on run.from n ≡ v → ⊥) → among v ≡ false
+
+-- so many of the new list are visible, and in the text, where a run has other states than in the old list
+pub record Recounted (old new : List Stretch) (a : Altered) : Type 0 where
+  pub visible : visible_in new + prepared_of a.before ≡ visible_in old + prepared_of a.after
+  pub visible_there : prepared_of a.before ≤ visible_in old
+  pub shown : shown_in new + effect_of a.before ≡ shown_in old + effect_of a.after
+  pub shown_there : effect_of a.before ≤ shown_in old
+  pub long : length new ≡ length old
+
+-- characters are inserted before a change, and after it; none are where there are none
+abbrev pub were_inserted : Option Altered → Bool
+were_inserted None = false
+were_inserted (Some a) = is_inserted a.before
+
+abbrev pub are_inserted : Option Altered → Bool
+are_inserted None = false
+are_inserted (Some a) = is_inserted a.after
+
+-- the node is that of an event at one of the positions from the first on that are below the second
+abbrev pub is_event_in : ℕ → ℕ → Node → Bool
+is_event_in low high Root = false
+is_event_in low high (Base i) = false
+is_event_in low high (Event n) = nat_le low n && nat_lt n high
+
+-- the records of such events are changed
+abbrev pub changed_in : Positions → Change → Stretch → Stretch
+changed_in at change r = changed_among (is_event_in at.from at.to) change r
+
+-- the position is one of these, all of which are among those
+pub record ArePart (position : ℕ) (these those : Positions) : Type 0 where
+  pub first : those.from ≤ these.from
+  pub last : these.to ≤ those.to
+  pub low : these.from ≤ position
+  pub high : position < these.to

@@ -1,0 +1,5 @@
+pub mod RestingRights
+pub mod RightCounts
+pub mod RightKeeping
+pub mod RightMoves
+pub mod RightSpans

@@ -1,0 +1,268 @@
+//! What is kept of the nodes of events, by the events' positions.
+
+ghost use Rattle.std.specs.Prelude.{◌≡◌, ◌+◌, ◌-◌, ◌≤◌, ℕ, true, None, Some, IsSome, OnOk, OnErr, length, nat_eq, unwrap_or, if◌then◌else◌};
+ghost use Rattle.std.specs.Ordering.{nat_cmp};
+ghost use Rattle.std.specs.BTreeMap.{get};
+ghost use Rattle.right_children.specs.Rows.{empty, in_line, kept_at, row_at, stepped, KeepsRows, MayStep};
+
+use ew_model::NoMem;
+use ew_model::node::Node;
+use std::alloc::Global;
+use std::collections::BTreeMap;
+
+/// The most positions without a row that the line goes on over at once.
+const LONGEST_GAP: usize = 1 << 20;
+
+/// The parent of a node that is a right child, and how many right children of the node are inserted in what is prepared.
+#[derive(Clone, Copy)]
+pub struct Row {
+    pub parent: Option<Node>,
+    pub inserted: u32,
+}
+
+impl Row {
+    /// Of a node that is no right child, and has none that is inserted.
+    fn empty() -> Row
+        ensures { result ≡ empty }
+    {
+        Row {
+            parent: None,
+            inserted: 0,
+        }
+    }
+}
+
+/// Rows by position. Those from some position on stand in line, one for each position, so that a row is found by its place.
+#[derive(Drop)]
+pub struct Rows {
+    /// The position of the first in line.
+    first: u32,
+    line: Vec<Row>,
+    /// Those of positions before the line, or far behind it.
+    others: BTreeMap<u32, Row>,
+}
+
+impl Rows {
+    /// No rows.
+    pub fn new(alloc: Global) -> Rows
+        ensures { (n : ℕ) → kept_at result n ≡ None }
+    {
+        Rows {
+            first: 0,
+            line: Vec::new(alloc),
+            others: BTreeMap::new(alloc),
+        }
+    }
+
+    /// The row of a position, which is empty where none is kept.
+    pub fn at(&self, lv: u32) -> Row
+        ensures { result ≡ row_at self.now lv }
+    {
+        self.get(lv).unwrap_or(Row::empty())
+    }
+
+    /// The row that is kept of a position.
+    fn get(&self, lv: u32) -> Option<Row>
+        ensures { result ≡ kept_at self.now lv }
+    {
+        match in_line(self.first, &self.line, lv) {
+            Some(row) => Some(row),
+            None => other(&self.others, lv),
+        }
+    }
+
+    /// Gives a position that has a row another.
+    fn put(&mut self, lv: u32, row: Row)
+        requires { IsSome (kept_at self.old lv) }
+        ensures { (n : ℕ) → kept_at self.new n ≡ (if nat_eq lv n then Some row else kept_at self.old n) }
+    {
+        if in_line(self.first, &self.line, lv).is_some() {
+            self.line[(lv - self.first) as usize] = row;
+        } else {
+            replace(&mut self.others, lv, row);
+        }
+    }
+
+    /// Notes that one more right child of the node of a position that has a row is inserted, or one fewer.
+    pub fn shift_inserted(&mut self, lv: u32, is: bool)
+        requires has { IsSome (kept_at self.old lv) }
+        requires may { MayStep (row_at self.old lv).inserted is }
+        ensures { (n : ℕ) → kept_at self.new n ≡ (if nat_eq lv n then Some (record (row_at self.old lv) { inserted = stepped (row_at self.old lv).inserted is }) else kept_at self.old n) }
+    {
+        if in_line(self.first, &self.line, lv).is_some() {
+            let place = (lv - self.first) as usize;
+            let row = self.line[place];
+            let inserted = stepped(row.inserted, is);
+            self.line[place] = Row { inserted, ..row };
+        } else {
+            let row = self.elsewhere(lv);
+            let inserted = stepped(row.inserted, is);
+            replace(&mut self.others, lv, Row { inserted, ..row });
+        }
+    }
+
+    /// Notes that no right child of the node of a position that has a row is inserted.
+    pub fn reset_inserted(&mut self, lv: u32)
+        requires { IsSome (kept_at self.old lv) }
+        ensures { (n : ℕ) → kept_at self.new n ≡ (if nat_eq lv n then Some (record (row_at self.old lv) { inserted = 0 }) else kept_at self.old n) }
+    {
+        let row = self.at(lv);
+        self.put(lv, Row { inserted: 0, ..row });
+    }
+
+    /// Notes the parent of the node of a position, or that it is no right child.
+    pub fn note(&mut self, lv: u32, parent: Option<Node>) -> Result<(), NoMem>
+        ensures ok { OnOk result ((n : ℕ) → row_at self.new n ≡ (if nat_eq lv n then record (row_at self.old n) { parent = parent } else row_at self.old n)) }
+        ensures err { OnErr result ((n : ℕ) → row_at self.new n ≡ row_at self.old n) }
+        ensures kept { (n : ℕ) → IsSome (kept_at self.old n) → IsSome (kept_at self.new n) }
+    {
+        if self.is_next(lv) {
+            let row = self.elsewhere(lv);
+            return self.push_row(lv, Row { parent, ..row });
+        }
+        self.begin(lv)?;
+        let row = self.at(lv);
+        self.put(lv, Row { parent, ..row });
+        Ok(())
+    }
+
+    /// Sees to it that a position has a row.
+    pub fn begin(&mut self, lv: u32) -> Result<(), NoMem>
+        ensures begun { OnOk result (IsSome (kept_at self.new lv)) }
+        ensures rows { KeepsRows self.old self.new }
+    {
+        if in_line(self.first, &self.line, lv).is_some() {
+            return Ok(());
+        }
+        self.begin_out_of_line(lv)
+    }
+
+    /// Sees to it that a position out of line has a row.
+    // Seldom called: kept apart, so that what is done for each character stays short.
+    #[inline(never)]
+    fn begin_out_of_line(&mut self, lv: u32) -> Result<(), NoMem>
+        requires { in_line self.old.first self.old.line.items lv ≡ None }
+        ensures begun { OnOk result (IsSome (kept_at self.new lv)) }
+        ensures rows { KeepsRows self.old self.new }
+    {
+        if other(&self.others, lv).is_some() {
+            return Ok(());
+        }
+        if self.line.is_empty() {
+            self.first = lv;
+        }
+        if self.is_near(lv) {
+            self.lengthen(lv)
+        } else {
+            keep(&mut self.others, lv, Row::empty())
+        }
+    }
+
+    /// Whether a position lies right behind the line. It may say no: then the longer way is taken.
+    fn is_next(&self, lv: u32) -> bool
+        ensures { result ≡ true → lv ≡ self.now.first + length self.now.line.items }
+    {
+        self.first as usize + self.line.len() == lv as usize
+    }
+
+    /// Whether a position lies behind the line, and not far.
+    fn is_near(&self, lv: u32) -> bool
+        ensures { result ≡ true → (self.now.first ≤ lv) × (length self.now.line.items ≤ lv - self.now.first) }
+    {
+        let len = self.line.len();
+        match lv.checked_sub(self.first) {
+            Some(place) => len <= place as usize && place as usize - len <= LONGEST_GAP,
+            None => false,
+        }
+    }
+
+    /// Lengthens the line up to a position behind it.
+    fn lengthen(&mut self, lv: u32) -> Result<(), NoMem>
+        requires { (self.old.first ≤ lv) × (length self.old.line.items ≤ lv - self.old.first) }
+        ensures begun { OnOk result (IsSome (kept_at self.new lv)) }
+        ensures rows { KeepsRows self.old self.new }
+    {
+        let next = self.first + self.line.len() as u32;
+        for gap in next..lv {
+            self.push(gap)?;
+        }
+        self.push(lv)
+    }
+
+    /// Lengthens the line by one position, whose row is the one that is kept elsewhere, if any.
+    fn push(&mut self, lv: u32) -> Result<(), NoMem>
+        requires { lv ≡ self.old.first + length self.old.line.items }
+        ensures begun { OnOk result (IsSome (kept_at self.new lv)) }
+        ensures len { OnOk result (length self.new.line.items ≡ length self.old.line.items + 1) }
+        ensures first { self.new.first ≡ self.old.first }
+        ensures rows { KeepsRows self.old self.new }
+    {
+        let row = self.elsewhere(lv);
+        self.push_row(lv, row)
+    }
+
+    /// Lengthens the line by one position, with its row.
+    fn push_row(&mut self, lv: u32, row: Row) -> Result<(), NoMem>
+        requires { lv ≡ self.old.first + length self.old.line.items }
+        ensures ok { OnOk result ((n : ℕ) → kept_at self.new n ≡ (if nat_eq lv n then Some row else kept_at self.old n)) }
+        ensures err { OnErr result ((n : ℕ) → kept_at self.new n ≡ kept_at self.old n) }
+        ensures len { OnOk result (length self.new.line.items ≡ length self.old.line.items + 1) }
+        ensures first { self.new.first ≡ self.old.first }
+    {
+        self.line.push(row)?;
+        Ok(())
+    }
+
+    /// The row of a position out of line, which is empty where none is kept.
+    fn elsewhere(&self, lv: u32) -> Row
+        ensures { result ≡ unwrap_or (get nat_cmp self.now.others lv) empty }
+    {
+        other(&self.others, lv).unwrap_or(Row::empty())
+    }
+}
+
+/// One more, or one fewer.
+pub fn stepped(count: u32, more: bool) -> u32
+    requires { MayStep count more }
+    ensures { result ≡ stepped count more }
+{
+    if more { count + 1 } else { count - 1 }
+}
+
+/// The row of a position among rows in line, which begin at a position.
+fn in_line(first: u32, line: &[Row], lv: u32) -> Option<Row>
+    ensures { result ≡ in_line first line.now lv }
+{
+    if lv < first {
+        return None;
+    }
+    line.get((lv - first) as usize).copied()
+}
+
+fn other(others: &BTreeMap<u32, Row>, lv: u32) -> Option<Row>
+    ensures { result ≡ get nat_cmp others.now lv }
+{
+    others.get(&lv).copied()
+}
+
+/// Keeps the row of a position, which may have one.
+fn keep(others: &mut BTreeMap<u32, Row>, lv: u32, row: Row) -> Result<(), NoMem>
+    ensures ok { OnOk result ((k : ℕ) → get nat_cmp others.new k ≡ (if nat_eq lv k then Some row else get nat_cmp others.old k)) }
+    ensures err { OnErr result ((k : ℕ) → get nat_cmp others.new k ≡ get nat_cmp others.old k) }
+    ensures absent { OnErr result (get nat_cmp others.old lv ≡ None) }
+{
+    match others.insert(lv, row) {
+        Ok(_) => Ok(()),
+        Err(_) => Err(NoMem),
+    }
+}
+
+/// Gives a position that has a row another.
+fn replace(others: &mut BTreeMap<u32, Row>, lv: u32, row: Row)
+    requires { IsSome (get nat_cmp others.old lv) }
+    ensures { (k : ℕ) → get nat_cmp others.new k ≡ (if nat_eq lv k then Some row else get nat_cmp others.old k) }
+{
+    let Ok(()) = keep(others, lv, row) else {
+        unreachable!()
+    };
+}
