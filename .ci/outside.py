@@ -173,6 +173,9 @@ class Rows:
         first, _, more = rest.partition(" ")
         if verb == "bytes":
             self.bytes[first] = unescaped(more)
+        elif verb == "more":
+            count, text = more.split(" ", 1)
+            self.bytes[first] = self.bytes.get(first, b"") + int(count) * unescaped(text)
         elif verb == "front":
             of, count = more.split()
             self.bytes[first] = self.bytes[of][: int(count)]
@@ -207,6 +210,11 @@ class Rows:
             return f"{made} left {len(outside.left)}"
         if verb == "flushed":
             return str(outside.flushed)
+        if verb == "ends":
+            self.status = self.reader.run(outside, words_of(rest))
+            return str(self.status)
+        if verb == "printed":
+            return "yes" if outside.taken["out"] == self.bytes[rest] else "no"
         file, name = rest.split()
         if verb != "same" or name not in self.bytes:
             raise ValueError(asked)

@@ -1,39 +1,12 @@
-//! The groups of rows.
+//! The rows of a group, under its limits.
 
-use crate::fault::Fault;
-use crate::report::Report;
 use crate::run::{Ran, run_line};
-use crate::words::{first_word, number};
+use crate::words::number;
 use crate::world::World;
-use ew_model::NoMem;
 use ew_model::limits::Limits;
-use std::alloc::Global;
-
-/// All groups.
-pub fn run_groups(alloc: Global, text: &str) -> Result<Report<'_>, NoMem> {
-    let mut world = World::new(alloc);
-    let mut report = Report::new(alloc);
-    for group in text.split("\n\n") {
-        let (head, rows) = group.split_once('\n').unwrap_or((group, ""));
-        run_group(&mut world, head, rows.trim_end_matches('\n'), &mut report)?;
-    }
-    Ok(report)
-}
-
-fn run_group<'a>(
-    world: &mut World,
-    head: &'a str,
-    rows: &'a str,
-    report: &mut Report<'a>,
-) -> Result<(), NoMem> {
-    let (limits, title) = head.split_once(": ").unwrap_or((head, ""));
-    match run_rows(world, limits, rows, report) {
-        Ok(()) => {}
-        Err(Fault::Unreadable) => report.unreadable()?,
-        Err(Fault::OutOfMemory) => return Err(NoMem),
-    }
-    report.end(title)
-}
+use trial_rows::fault::Fault;
+use trial_rows::report::Report;
+use trial_rows::words::first_word;
 
 /// One of the four numbers of limits, and what stands behind it.
 fn limit(text: &str) -> Result<(u32, &str), Fault> {
@@ -42,43 +15,46 @@ fn limit(text: &str) -> Result<(u32, &str), Fault> {
     Ok((limit, rest))
 }
 
-/// Those of the program, or events, waiting events, input and body.
-fn limits(text: &str) -> Result<Limits, Fault> {
-    if text == "program" {
+/// Those of the program, or events, and then waiting events, input and body.
+fn limits(first: &str, rest: &str) -> Result<Limits, Fault> {
+    if first == "program" {
         return Ok(Limits::program());
     }
-    let (events, rest) = limit(text)?;
+    let (events, _) = limit(first)?;
     let (waiting, rest) = limit(rest)?;
     let (input, rest) = limit(rest)?;
     let (body, _) = limit(rest)?;
     Limits::new(events, waiting, input, body).ok_or(Fault::Unreadable)
 }
 
-fn run_rows<'a>(
+/// Carries the rows out in turn.
+pub fn run_rows<'a>(
     world: &mut World,
-    head: &str,
+    first: &str,
+    rest: &str,
     rows: &'a str,
     report: &mut Report<'a>,
 ) -> Result<(), Fault> {
-    world.begin(limits(head)?);
+    world.begin(limits(first, rest)?);
     let mut last = None;
     for row in rows.split('\n') {
         report.see(row);
         if !world.make_ready(row)? {
-            run_row(world, &mut last, report)?;
+            run_row(world, &mut last, row, report)?;
         }
     }
     Ok(())
 }
 
 /// Carries out a row that has an answer.
-fn run_row(
+fn run_row<'a>(
     world: &mut World,
     last: &mut Option<Ran>,
-    report: &mut Report<'_>,
+    row: &'a str,
+    report: &mut Report<'a>,
 ) -> Result<(), Fault> {
-    let (verb, rest) = first_word(report.ask()?);
-    if verb == "run" {
+    let (verb, rest) = first_word(report.ask(row)?);
+    if verb == "run" || verb == "ends" {
         *last = Some(run_line(world, rest)?);
     }
     let answer = answer(world, last.as_ref(), verb, rest)?;
@@ -93,6 +69,8 @@ fn answer(world: &World, last: Option<&Ran>, verb: &str, rest: &str) -> Result<S
     let last = last.ok_or(Fault::Unreadable)?;
     match verb {
         "run" => Ok(last.answer(alloc)?),
+        "ends" => Ok(last.ended(alloc)?),
+        "printed" => Ok(String::from_str(alloc, last.printed(world.named(rest)?))?),
         "calls" => Ok(last.calls(world)?),
         "flushed" => Ok(last.flushed(alloc)?),
         _ => Err(Fault::Unreadable),

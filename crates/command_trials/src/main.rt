@@ -7,8 +7,8 @@
 //! digits are a byte.
 //!
 //! These rows make ready, and have no answer:
-//! - `bytes NAME TEXT` names bytes, for all that follows; `front NAME OF COUNT` the first bytes of others, and `sealed NAME OF`
-//!   others with their SHA-256 digest behind them;
+//! - `bytes NAME TEXT` names bytes, for all that follows; `more NAME COUNT TEXT` puts a text so many times behind those of a name,
+//!   `front NAME OF COUNT` names the first bytes of others, and `sealed NAME OF` others with their SHA-256 digest behind them;
 //! - `file FILE NAME` stores named bytes;
 //! - `in TEXT` and `in_bytes NAME` are the input of the next run, and `slow N` lets it give at most so many bytes at a time;
 //! - `fail OBJECT N..` lets the calls with these numbers of the next run fail, of `shelf`, `source`, `out` or `err`, each counted from 0;
@@ -19,56 +19,50 @@
 //! These have an answer, behind ` =`:
 //! - `run WORDS` runs a command line, with `|` between two words where one has a space. The answer is the status, ` out ` and what was
 //!   printed, if anything was, and ` err ` and what was said;
+//! - `ends WORDS` runs one too, and the answer is the status alone; `printed NAME` is whether these bytes were printed in the last run:
+//!   `yes` or `no`;
 //! - `calls` is how often the shelf, the source, the output and the error output were called in the last run, and how many bytes of
 //!   the input were left;
 //! - `flushed` is how many bytes of the output were flushed in the last run;
 //! - `same FILE NAME` is whether the file has these bytes: `yes`, `no`, or `no file`.
 #![tactic(auto)]
 
-mod fault;
 mod groups;
 mod narrow;
-mod report;
 mod run;
 mod setting;
 mod slow;
 mod words;
 mod world;
 
-use crate::groups::run_groups;
-use std::alloc::Global;
-use std::io::Read;
+use crate::groups::run_rows;
+use crate::world::World;
 use std::process::ExitCode;
+use trial_rows::fault::Fault;
+use trial_rows::groups::{Trials, carry_out};
+use trial_rows::report::Report;
 
-/// All bytes of the input, or none where it can't be read.
-fn read_all<R: Read + Drop>(alloc: Global, mut input: R) -> Option<Vec<u8>> {
-    let mut bytes = Vec::new(alloc);
-    let mut piece = [0; 4096];
-    for _ in 0..1_000_000 {
-        let count = input.read(&mut piece).ok()?;
-        if count == 0 {
-            return Some(bytes);
-        }
-        bytes.extend_from_slice(&piece[..count]).ok()?;
-    }
-    None
+/// Named bytes stay from group to group.
+#[derive(Drop)]
+struct CommandTrials {
+    world: World,
 }
 
-/// Ends with failure where a row differs or can't be read, or where memory is wanting.
-fn main(rt: HostRuntime) -> ExitCode {
-    let Some(bytes) = read_all(rt.alloc(), rt.stdin()) else {
-        return ExitCode::FAILURE;
-    };
-    let Ok(rows) = str::from_utf8(bytes.as_slice()) else {
-        return ExitCode::FAILURE;
-    };
-    let Ok(report) = run_groups(rt.alloc(), rows) else {
-        return ExitCode::FAILURE;
-    };
-    let _ = rt.print(report.told());
-    if report.wrong() > 0 {
-        ExitCode::FAILURE
-    } else {
-        ExitCode::SUCCESS
+impl Trials for CommandTrials {
+    fn run<'a>(
+        &mut self,
+        kind: &str,
+        words: &str,
+        rows: &'a str,
+        report: &mut Report<'a>,
+    ) -> Result<(), Fault> {
+        run_rows(&mut self.world, kind, words, rows, report)
     }
+}
+
+fn main(rt: HostRuntime) -> ExitCode {
+    let mut trials = CommandTrials {
+        world: World::new(rt.alloc()),
+    };
+    carry_out(&rt, &mut trials)
 }

@@ -1,6 +1,5 @@
 //! A run of a command line, and what came of it.
 
-use crate::fault::Fault;
 use crate::narrow::{Narrow, ROOM};
 use crate::setting::Setting;
 use crate::slow::Slow;
@@ -12,6 +11,7 @@ use std::alloc::Global;
 use std::fmt::Write;
 use std::marker::Brand;
 use std::sync::ledger::Blank;
+use trial_rows::fault::Fault;
 
 /// What came of a run.
 #[derive(Drop)]
@@ -81,6 +81,21 @@ impl Ran {
         tell(&mut told, " out ", self.out.sink.bytes.as_slice())?;
         tell(&mut told, " err ", self.err.sink.bytes.as_slice())?;
         Ok(told)
+    }
+
+    /// The status alone.
+    pub fn ended(&self, alloc: Global) -> Result<String, NoMem> {
+        let status = self.status;
+        format!(in alloc; "{status}")
+    }
+
+    /// Whether these bytes were printed.
+    pub fn printed(&self, bytes: &[u8]) -> &'static str {
+        if self.out.sink.bytes.as_slice() == bytes {
+            "yes"
+        } else {
+            "no"
+        }
     }
 
     /// How often each object was called, and how many bytes of the input are left.

@@ -1,9 +1,10 @@
 //! What the rows before a run make ready for it.
 
-use crate::fault::Fault;
 use crate::narrow::ROOM;
-use crate::words::{first_word, numbers};
+use crate::words::numbers;
 use std::alloc::Global;
+use trial_rows::fault::Fault;
+use trial_rows::words::first_word;
 
 /// The input of a run and how many bytes it gives at a time, the numbers of the calls that fail, of the stores that land though they
 /// fail, for how many bytes the output has room, and how many bytes each output takes at a time.

@@ -1,14 +1,10 @@
 //! The words of a row.
 
-use crate::fault::Fault;
 use ew_model::NoMem;
 use std::alloc::Global;
 use std::fmt::Write;
-
-/// The first word, and what stands behind it.
-pub fn first_word(text: &str) -> (&str, &str) {
-    text.split_once(' ').unwrap_or((text, ""))
-}
+use trial_rows::fault::Fault;
+use trial_rows::words::unescaped;
 
 pub fn number(text: &str) -> Result<u64, Fault> {
     Ok(text.parse::<u64>()?)
@@ -21,21 +17,6 @@ pub fn numbers(alloc: Global, text: &str) -> Result<Vec<u64>, Fault> {
         numbers.push(number(word)?)?;
     }
     Ok(numbers)
-}
-
-/// The bytes of a text, in which `%` and two digits stand for a byte.
-pub fn unescaped(alloc: Global, text: &str) -> Result<Vec<u8>, Fault> {
-    let mut bytes = Vec::new(alloc);
-    let mut parts = text.split('%');
-    if let Some(first) = parts.next() {
-        bytes.extend_from_slice(first.as_bytes())?;
-    }
-    for part in parts {
-        let (digits, rest) = part.split_at_checked(2).ok_or(Fault::Unreadable)?;
-        bytes.push(u8::from_str_radix(digits, 16)?)?;
-        bytes.extend_from_slice(rest.as_bytes())?;
-    }
-    Ok(bytes)
 }
 
 /// Appends bytes to a text; all but the printed characters of ASCII, and `%` itself, as `%` and two digits.

@@ -1,12 +1,13 @@
 //! What the rows of a group run over: files, named bytes, and what the next run is to meet.
 
-use crate::fault::Fault;
 use crate::setting::Setting;
-use crate::words::{first_word, number, numbers, unescaped};
+use crate::words::{number, numbers};
 use ew_model::limits::Limits;
 use ew_outside::{Calls, FileMap, MemShelf};
 use sha2::{Digest, Sha256};
 use std::alloc::Global;
+use trial_rows::fault::Fault;
+use trial_rows::words::{first_word, unescaped};
 
 #[derive(Drop)]
 pub struct World {
@@ -44,7 +45,7 @@ impl World {
     }
 
     /// The bytes of this name.
-    fn named(&self, name: &str) -> Result<&[u8], Fault> {
+    pub fn named(&self, name: &str) -> Result<&[u8], Fault> {
         self.bytes.get(name).ok_or(Fault::Unreadable)
     }
 
@@ -52,6 +53,21 @@ impl World {
     fn name_bytes(&mut self, text: &str) -> Result<(), Fault> {
         let (name, text) = first_word(text);
         let bytes = unescaped(self.alloc, text)?;
+        Ok(self.bytes.put(name, &bytes)?)
+    }
+
+    /// Puts a text so many times behind the bytes of this name, which are none at first: `NAME COUNT TEXT`.
+    fn name_more(&mut self, text: &str) -> Result<(), Fault> {
+        let (name, rest) = first_word(text);
+        let (count, text) = first_word(rest);
+        let more = unescaped(self.alloc, text)?;
+        let mut bytes = match self.bytes.get(name) {
+            Some(bytes) => bytes.to_vec(self.alloc)?,
+            None => Vec::new(self.alloc),
+        };
+        for _ in 0..number(count)? {
+            bytes.extend_from_slice(&more)?;
+        }
         Ok(self.bytes.put(name, &bytes)?)
     }
 
@@ -85,6 +101,7 @@ impl World {
         let (verb, rest) = first_word(row);
         match verb {
             "bytes" => self.name_bytes(rest)?,
+            "more" => self.name_more(rest)?,
             "front" => self.name_front(rest)?,
             "sealed" => self.name_sealed(rest)?,
             "file" => self.store(rest)?,

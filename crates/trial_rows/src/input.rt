@@ -5,7 +5,7 @@ use std::alloc::Global;
 use std::io::Read;
 use std::process::ExitCode;
 
-/// The status when receiving stopped for want of memory, and went on.
+/// The status when receiving stopped since memory ran out, and went on.
 const WENT_ON: u8 = 3;
 
 /// All bytes of the input, or none where it can't be read. A piece for which there is no memory is taken again.

@@ -47,6 +47,11 @@ impl<'a> Report<'a> {
         self.stops = self.stops.saturating_add(1);
     }
 
+    /// The next row.
+    pub fn see(&mut self, row: &'a str) {
+        self.row = row;
+    }
+
     /// What the row asks: all before its ` =`, behind which the answer stands.
     pub fn ask(&mut self, row: &'a str) -> Result<&'a str, Fault> {
         self.row = row;

@@ -115,3 +115,32 @@ pub fn history(alloc: Global, text: &str) -> Result<Vec<Event>, Fault>
     }
     Ok(events)
 }
+
+/// The event with this number of an alphabet that one agent types, on the one before.
+pub fn typed(alloc: Global, agent: Name, seq: u32) -> Result<Event, Fault> {
+    let mut parents = Parents::new(alloc)?;
+    if let Some(before) = seq.checked_sub(1) {
+        parents.push(Id { agent, seq: before })?;
+    }
+    let ch = char::from(b'a' + (seq % 26) as u8);
+    Ok(Event {
+        id: Id { agent, seq },
+        parents,
+        op: Op::Ins { at: seq, ch },
+    })
+}
+
+/// The bytes of a text, in which `%` and two digits stand for a byte.
+pub fn unescaped(alloc: Global, text: &str) -> Result<Vec<u8>, Fault> {
+    let mut bytes = Vec::new(alloc);
+    let mut parts = text.split('%');
+    if let Some(first) = parts.next() {
+        bytes.extend_from_slice(first.as_bytes())?;
+    }
+    for part in parts {
+        let (digits, rest) = part.split_at_checked(2).ok_or(Fault::Unreadable)?;
+        bytes.push(u8::from_str_radix(digits, 16)?)?;
+        bytes.extend_from_slice(rest.as_bytes())?;
+    }
+    Ok(bytes)
+}

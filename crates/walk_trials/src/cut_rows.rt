@@ -1,15 +1,17 @@
 //! Rows of walks from a critical cut, over a base.
 
-ghost use Rattle.std.specs.Prelude.{◌≡◌, ◌<◌, ◌^◌, [], length, take, IfOk, OnOk};
+ghost use Rattle.std.specs.Prelude.{◌≡◌, [], length, take, IfOk, OnOk};
 ghost use Rattle.ew_model.specs.Texts as model;
 ghost use Rattle.ew_model.specs.Verdicts as verdicts;
 ghost use Rattle.advance_retreat.specs.Standing.{StandsFor};
 
 use event_graph::Graph;
+use ew_model::NoMem;
 use ew_model::event::Event;
+use ew_model::limits::Limits;
 use ew_model::steps::Steps;
 use ew_model::verdict::Verdict;
-use plain_history::{first_bad, text_of};
+use replica::{LoadFault, Replica};
 use std::alloc::Global;
 use std::fmt::Write;
 use std::sync::ledger::Ledger;
@@ -91,7 +93,7 @@ fn walked<L: Ledger>(
     requires { gathered.now.graph ≡ gathered.now.events.items }
 {
     let below = below(&gathered.events, cut)?;
-    let mut state = base_of(alloc, below)?;
+    let mut state = base_of(alloc, below, steps)?;
     if from < cut || !gathered.graph.is_cut(cut) {
         return Err(Fault::Unreadable);
     }
@@ -119,18 +121,43 @@ fn below(events: &[Event], cut: u32) -> Result<&[Event], Fault>
     Ok(&events[..cut])
 }
 
+fn copies_of(alloc: Global, events: &[Event]) -> Result<Vec<Event>, NoMem>
+    ensures { IfOk result (λ copies. copies.items ≡ events.now) }
+{
+    let mut copies = Vec::new(alloc);
+    for e in events {
+        copies.push(e.copy()?)?;
+    }
+    Ok(copies)
+}
+
+/// A replica of events, of which each is good.
+#[tactic(auto, using(crate::proofs::Loaded::loaded_good, crate::proofs::Loaded::loaded_held))]
+fn loaded<L: Ledger>(
+    alloc: Global,
+    events: Vec<Event>,
+    steps: &mut Steps<L>,
+) -> Result<Replica, Fault>
+    ensures good { IfOk result (λ r. verdicts.IsGood events.items) }
+    ensures held { IfOk result (λ r. r.held ≡ events.items) }
+{
+    let limits = Limits::program();
+    if events.len() > limits.events() as usize {
+        return Err(Fault::Unreadable);
+    }
+    match Replica::from_events(alloc, events, limits, steps) {
+        Ok(replica) => Ok(replica),
+        Err(LoadFault::OutOfMemory) => Err(Fault::OutOfMemory),
+        Err(LoadFault::BadEvent { .. }) => Err(Fault::Unreadable),
+    }
+}
+
 /// A state of the text of good events, as a base.
-fn base_of(alloc: Global, events: &[Event]) -> Result<State, Fault>
-    requires { length events.now < 2 ^ 32 }
+fn base_of<L: Ledger>(alloc: Global, events: &[Event], steps: &mut Steps<L>) -> Result<State, Fault>
     ensures good { IfOk result (λ s. verdicts.IsGood events.now) }
     ensures base { IfOk result (λ s. StandsFor s (length (model.text_of events.now)) [] []) }
 {
-    let bad = first_bad(alloc, events)?;
-    if bad.is_some() {
-        return Err(Fault::Unreadable);
-    }
-    match u32::try_from(text_of(alloc, events)?.len()) {
-        Ok(len) => Ok(State::base(alloc, len)?),
-        Err(_) => Err(Fault::Unreadable),
-    }
+    let copies = copies_of(alloc, events)?;
+    let replica = loaded(alloc, copies, steps)?;
+    Ok(State::base(alloc, replica.len())?)
 }

@@ -19,9 +19,12 @@ use trial_rows::report::Report;
 use trial_rows::show;
 use trial_rows::words::{first_word, history, number};
 
-/// Each row is a walk over the good events of a history: from which position on operations are wanted, and the events.
+/// Each row is a walk over the good events of a history: from which position on operations are wanted, and the events. It answers the
+/// operations, and where the walk stopped; and where the words are `with its state`, how many characters are prepared and in the text
+/// then, and in how many runs.
 pub fn run<'a, L: Ledger>(
     alloc: Global,
+    words: &str,
     rows: &'a str,
     report: &mut Report<'a>,
     steps: &mut Steps<L>,
@@ -30,7 +33,8 @@ pub fn run<'a, L: Ledger>(
         let asked = report.ask(row)?;
         let (from, rest) = first_word(asked);
         let graph = graph_of(alloc, rest)?;
-        let answer = walked(alloc, &graph, number(from)?, steps)?;
+        let tells_state = words == "with its state";
+        let answer = walked(alloc, &graph, number(from)?, tells_state, steps)?;
         report.compare(answer.as_str())?;
     }
     Ok(())
@@ -89,11 +93,11 @@ fn graph_of(alloc: Global, rest: &str) -> Result<Graph, Fault> {
     Ok(graph)
 }
 
-/// The operations, and where the walk stopped.
 fn walked<L: Ledger>(
     alloc: Global,
     graph: &Graph,
     from: u32,
+    tells_state: bool,
     steps: &mut Steps<L>,
 ) -> Result<String, Fault> {
     let mut state = State::base(alloc, 0)?;
@@ -102,6 +106,11 @@ fn walked<L: Ledger>(
     if let Some((position, len)) = walk.stopped {
         show::space(&mut out)?;
         write!(out, "stopped {position} past {len}")?;
+    }
+    if tells_state {
+        show::space(&mut out)?;
+        let (prepared, text) = (state.prepared_len(), state.effect_len());
+        write!(out, "prepared {prepared} text {text} runs {}", state.runs())?;
     }
     Ok(out)
 }

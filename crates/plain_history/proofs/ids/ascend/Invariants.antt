@@ -1,6 +1,0 @@
-use Rattle.std.proofs.Common.{◌≡◌, drop}
-use Rattle.ew_model.specs.Ids.{ids_ascend}
-use Rattle.plain_history.proofs.ids.ascend.Given as goal
-
-abbrev pub invariant-loop-i : goal.invariant-loop-i
-invariant-loop-i l = ids_ascend l.ids ≡ ids_ascend (drop l.i l.ids)

@@ -1,8 +1,0 @@
-use Rattle.std.proofs.Common.{◌≡◌, take}
-use Rattle.ew_model.specs.Ids.{id_eq}
-use Rattle.ew_model.specs.Tree.{entries_over}
-use Rattle.plain_history.specs.Entries.{entries_behind}
-use Rattle.plain_history.proofs.tree.Tree.entries_over.Given as goal
-
-abbrev pub invariant-loop-note : goal.invariant-loop-note
-invariant-loop-note l = entries_behind l.entries.items ≡ entries_over id_eq 0 (take l.note-index l.note-items) l.names

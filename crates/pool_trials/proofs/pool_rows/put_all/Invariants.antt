@@ -1,7 +1,0 @@
-use Rattle.std.proofs.Common.{List}
-use Rattle.ew_model.specs.declared.event.Event.{Event}
-use Rattle.waiting_pool.specs.Knowing.{IsBehind}
-use Rattle.pool_trials.proofs.pool_rows.put_all.Given as goal
-
-abbrev pub invariant-loop-e : goal.invariant-loop-e
-invariant-loop-e l = (held : List Event) → IsBehind held l.initial.pool → IsBehind held l.pool

@@ -1,5 +1,0 @@
-use Rattle.waiting_pool.specs.Knowing.{IsBehind}
-use Rattle.pool_trials.proofs.pool_rows.run.Given as goal
-
-abbrev pub invariant-loop-row : goal.invariant-loop-row
-invariant-loop-row l = IsBehind l.graph l.pool

@@ -1,3 +1,0 @@
-mod Allowed
-mod LineCalls
-mod Lines

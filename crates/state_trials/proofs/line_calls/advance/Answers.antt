@@ -1,7 +1,0 @@
-use Rattle.state_trials.proofs.LineCalls.{advanced}
-use Rattle.state_trials.proofs.line_calls.advance.Goals as goal
-
-pub returns : goal.returns
-returns g c =
-    let last = c.in_ok-lv.ensures in
-    advanced c.args.state.now c.args.calls.now c.bring_back.new.self c.in_ok-lv.lv c.requires last.last c.advance.new.self last.prepared c.in_ok-advance.ensures.ok

@@ -1,0 +1,5 @@
+mod Held
+mod LineCalls
+mod Lines
+pub mod Loaded
+mod Totals
