@@ -96,6 +96,7 @@ one_event_back e left h =
 pub record AreSent (bytes : List ℕ) (events : List Event) (left : List ℕ) : Type 0 where
   pub takes : Takes bytes (events_body events) left
   pub each : AllByRecursion IsSendable events
+  pub few : length events < 2 ^ 32
 
 pub events_some : (bytes : List ℕ) (y : List Event × List ℕ) → AreBytes bytes → all_events bytes ≡ Some y → AreSent bytes y.0 y.1
 unfolding all_events
@@ -105,7 +106,7 @@ events_some bytes y fits e =
     let r = list_some read_events next_event event_bytes (Any IsSendable) events_step events_last (λ xs bs z f h. one_event_some bs z f h) g.0.0 [] g.0.1 y count.0.fits g.2 in
     let all = Takes-then bytes (four_bytes g.0.0) g.0.1 (flat_map event_bytes r.more) y.1 count.0 r.takes in
     let counted : Takes bytes (events_body r.more) y.1 = subst (λ n. Takes bytes (four_bytes n ++ flat_map event_bytes r.more) y.1) (sym r.count) all in
-    subst (λ events. AreSent bytes events y.1) (sym r.joined) (record { takes = counted; each = all_read IsSendable [] r.more r.behind })
+    subst (λ events. AreSent bytes events y.1) (sym r.joined) (record { takes = counted; each = all_read IsSendable [] r.more r.behind; few = omega (arith, count.1, r.count) })
 
 pub events_back : (events : List Event) (left : List ℕ) → length events < 2 ^ 32 → AllByRecursion IsSendable events → all_events (events_body events ++ left) ≡ Some (events, left)
 unfolding all_events
@@ -217,11 +218,11 @@ pub record IsContent (kind : Kind) (bytes : List ℕ) (f : Frame) (left : List �
   pub room : CanBeSpelled f
   pub byte : kind_of f ≡ kind_byte kind
 
-split_event : (events : List Event) → AllByRecursion IsSendable events → AreSound events × AllByRecursion (λ (e : Event). length e.parents ≤ 255) events
+pub split_event : (events : List Event) → AllByRecursion IsSendable events → AreSound events × AllByRecursion (λ (e : Event). length e.parents ≤ 255) events
 split_event [] h = (tt, tt)
 split_event (e ∷ events) h = let others = split_event events h.1 in ((h.0.0, others.0), (h.0.1, others.1))
 
-joined_event : (events : List Event) → AreSound events → AllByRecursion (λ (e : Event). length e.parents ≤ 255) events → AllByRecursion IsSendable events
+pub joined_event : (events : List Event) → AreSound events → AllByRecursion (λ (e : Event). length e.parents ≤ 255) events → AllByRecursion IsSendable events
 joined_event [] s h = tt
 joined_event (e ∷ events) s h = ((s.0, h.0), joined_event events s.1 h.1)
 

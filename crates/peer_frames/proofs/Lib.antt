@@ -8,3 +8,5 @@ pub mod ShortNames
 pub mod Cuts
 pub mod Answering
 pub mod Written
+pub mod SpelledEvents
+pub mod Journals

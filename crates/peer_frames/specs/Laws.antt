@@ -1,9 +1,11 @@
 -- What holds of frames and of their cutting.
-use Rattle.std.specs.Prelude.{◌≡◌, ℕ, ◌≤◌, Bool, true, false, List, [], ◌++◌, length, flat_map}
+use Rattle.std.specs.Prelude.{◌≡◌, ℕ, ◌≤◌, Bool, true, false, List, [], ◌++◌, length, flat_map, Option}
 use Rattle.std.specs.List.{AllByRecursion}
 use Rattle.ew_model.specs.Limits.{LimitNumbers}
 use Rattle.ew_model.specs.FileLaws.{AreBytes}
+use Rattle.ew_model.specs.declared.event.Event.{Event}
 use Rattle.peer_words.specs.declared.frame.Frame.{Frame}
+use Rattle.peer_words.specs.Batches.{AreBatches}
 use Rattle.peer_words.specs.Spelling.{kind_of, body_of, frame_bytes, HasSpelling, IsSoundFrame}
 use Rattle.peer_words.specs.Cutting.{Front, Finds, AreFrames, most_body}
 use Rattle.peer_words.specs.Cutting.Front.{Whole, Partial, BadKind, TooLong, BadBody}
@@ -69,3 +71,8 @@ pub record IsTaken (limits : LimitNumbers) (f : Frame) : Type 0 where
 abbrev pub FramesComeBack : Type 0
 FramesComeBack = (limits : LimitNumbers) (frames : List Frame) → AllByRecursion (IsTaken limits) frames
     → AreFrames limits (flat_map frame_bytes frames) frames Partial
+
+-- Bytes hold one list of batches, and one bad place or none.
+abbrev pub BatchesAreOne : Type 0
+BatchesAreOne = (most : ℕ) (bytes : List ℕ) (batches others : List (List Event)) (bad other : Option ℕ)
+    → AreBatches most bytes batches bad → AreBatches most bytes others other → (batches ≡ others) × (bad ≡ other)

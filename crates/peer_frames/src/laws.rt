@@ -1,6 +1,6 @@
 //! What holds of frames, and of readers that are given bytes in any pieces.
 
-ghost use Rattle.peer_frames.specs.Laws.{NoFrameBeginsAnother, FrontsAreFound, FrontsAreOne, FaultsStay, CutsAreOne, CutsAreFound, ChunkingIsNotSeen, ChunkingsAgree, FramesComeBack};
+ghost use Rattle.peer_frames.specs.Laws.{NoFrameBeginsAnother, FrontsAreFound, FrontsAreOne, FaultsStay, CutsAreOne, CutsAreFound, ChunkingIsNotSeen, ChunkingsAgree, FramesComeBack, BatchesAreOne};
 
 /// No frame's spelling is a proper prefix of another's, and no two frames are spelled the same.
 pub fn law_prefix()
@@ -33,4 +33,9 @@ pub fn law_chunking()
 /// The bytes of a list of frames are cut into exactly these frames.
 pub fn law_round_trip()
     ensures { FramesComeBack }
+{}
+
+/// No bytes hold two lists of batches, or have two ends.
+pub fn law_batches()
+    ensures { BatchesAreOne }
 {}

@@ -1,4 +1,5 @@
 pub mod Answering
+pub mod Batches
 pub mod Cutting
 pub mod Draws
 pub mod Machine
