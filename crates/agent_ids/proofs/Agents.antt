@@ -11,7 +11,7 @@ use Rattle.ew_model.specs.declared.id.Id.{Id}
 use Rattle.ew_model.specs.Ids.{name_eq}
 use Rattle.ew_model.proofs.GapLaws.{eq_from}
 use Rattle.ew_model.proofs.ListTests.{same_truth}
-use Rattle.history_words.specs.Agents.{with_name, agents_of, count_of}
+use Rattle.history_definitions.specs.Agents.{with_name, agents_of, count_of}
 
 -- The definitions' test of names is the one by which names are keys.
 pub same_name : (a b : List ℕ) → name_eq a b ≡ pointwise nat_eq a b

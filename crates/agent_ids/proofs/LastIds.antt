@@ -9,7 +9,7 @@ use Rattle.std.proofs.lemmas.Option.{same_Some, slice_get_within, slice_get-get_
 use Rattle.ew_model.specs.declared.id.Id.{Id}
 use Rattle.ew_model.specs.Ids.{name_eq}
 use Rattle.ew_model.proofs.ListParts.{is_some-position}
-use Rattle.history_words.specs.Agents.{agents_of, count_of, AreNumbered}
+use Rattle.history_definitions.specs.Agents.{agents_of, count_of, AreNumbered}
 use Rattle.agent_ids.specs.declared.runs.IdRun.{IdRun}
 use Rattle.agent_ids.specs.IdRuns.{id_with, last_in, ids_in, AreRuns, with_more}
 use Rattle.agent_ids.specs.Table.{positions_of, IsNumberOfLast, IsTable}

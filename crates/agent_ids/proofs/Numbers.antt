@@ -6,7 +6,7 @@ use Rattle.ew_model.specs.declared.id.Id.{Id}
 use Rattle.ew_model.specs.Ids.{name_eq, id_eq}
 use Rattle.ew_model.proofs.IdLaws.{is_same_id}
 use Rattle.ew_model.proofs.TextLaws.{position-cons}
-use Rattle.history_words.specs.Agents.{count_of, AreNumbered}
+use Rattle.history_definitions.specs.Agents.{count_of, AreNumbered}
 use Rattle.agent_ids.specs.Table.{positions_from, positions_of}
 use Rattle.agent_ids.proofs.Agents.{names_alike, one_name, count_push}
 

@@ -15,7 +15,7 @@ use Rattle.ew_model.specs.declared.id.Id.{Id}
 use Rattle.ew_model.specs.Ids.{name_eq}
 use Rattle.ew_model.proofs.ListParts.{is_some-position}
 use Rattle.ew_model.proofs.TextLaws.{position-cons}
-use Rattle.history_words.specs.Agents.{with_name, agents_of, count_of}
+use Rattle.history_definitions.specs.Agents.{with_name, agents_of, count_of}
 use Rattle.agent_ids.specs.IdRuns.{id_with, ids_from}
 use Rattle.agent_ids.specs.Table.{positions_from, positions_of, AreAgents}
 use Rattle.agent_ids.proofs.Agents.{names_tested, names_alike, one_name, agents_push, agents_few, count_cons, is_agent, AreDistinct, agents_distinct}

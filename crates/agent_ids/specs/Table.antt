@@ -2,7 +2,7 @@
 use Rattle.std.specs.Prelude.{◌≡◌, ℕ, suc, ◌<◌, ◌^◌, List, [], ◌∷◌, map, length, if◌then◌else◌, Some, slice_get}
 use Rattle.ew_model.specs.declared.id.Id.{Id}
 use Rattle.ew_model.specs.Ids.{name_eq}
-use Rattle.history_words.specs.Agents.{agents_of, AreNumbered}
+use Rattle.history_definitions.specs.Agents.{agents_of, AreNumbered}
 use Rattle.agent_ids.specs.IdRuns.{last_in}
 
 -- the positions of the agent's ids, the first of all ids having this position

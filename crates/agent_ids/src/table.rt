@@ -7,7 +7,7 @@ ghost use Rattle.std.specs.Vec.{vec_len};
 ghost use Rattle.indexmap.specs.IndexSet.{contains};
 ghost use Rattle.ew_model.specs.declared.id.Id.{Id};
 ghost use Rattle.ew_model.specs.Ids.{name_eq, id_eq};
-ghost use Rattle.history_words.specs.Agents.{agents_of, count_of, AreNumbered};
+ghost use Rattle.history_definitions.specs.Agents.{agents_of, count_of, AreNumbered};
 ghost use Rattle.agent_ids.specs.IdRuns.{id_runs, id_with, ids_from, last_in};
 ghost use Rattle.agent_ids.specs.Table.{AreAgents, IsNumberOfLast, positions_of};
 

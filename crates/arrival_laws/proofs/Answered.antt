@@ -19,7 +19,7 @@ use Rattle.ew_model.proofs.ListTests.{any_from}
 use Rattle.ew_model.proofs.MergeSteps.{same_event}
 use Rattle.ew_model.proofs.RoundSteps.{grown_next}
 use Rattle.ew_model.proofs.SetLaws.{among_joined, joined_left, joined_right}
-use Rattle.history_words.specs.Tallies.{accepted_in, is_repeat, refused_by, refused_in, repeats_in}
+use Rattle.history_definitions.specs.Tallies.{accepted_in, is_repeat, refused_by, refused_in, repeats_in}
 use Rattle.arrival_laws.specs.Repeats.{HeldEventsAreRepeats, without_held}
 use Rattle.arrival_laws.proofs.Pairs.{in_pairs}
 use Rattle.arrival_laws.proofs.Repeats.{none_left_out}

@@ -10,7 +10,7 @@ use Rattle.ew_model.specs.Arrival.{Desk, Answer, Judgement, Outcome, next_judgem
 use Rattle.ew_model.specs.Verdicts.{Ruling}
 use Rattle.ew_model.specs.Verdicts.Ruling.{Unknown}
 use Rattle.ew_model.proofs.RoundLaws.{then}
-use Rattle.history_words.specs.Tallies.{is_repeat, repeats_in}
+use Rattle.history_definitions.specs.Tallies.{is_repeat, repeats_in}
 use Rattle.arrival_laws.specs.Accounts.{is_told_to_wait, answered_at_last, HasOneLastAnswer, EachHasOneLastAnswer}
 use Rattle.arrival_laws.proofs.Turns.{TakesComing, TakesWaiting, takes_one, told_alone}
 

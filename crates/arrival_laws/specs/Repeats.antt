@@ -6,7 +6,7 @@ use Rattle.ew_model.specs.Arrival.{arrive}
 use Rattle.ew_model.specs.ArrivalLaw.{NoneReady, OneEach}
 use Rattle.ew_model.specs.Limits.{LimitNumbers}
 use Rattle.ew_model.specs.Rounds.{most_touches}
-use Rattle.history_words.specs.Tallies.{accepted_in, refused_in, repeats_in}
+use Rattle.history_definitions.specs.Tallies.{accepted_in, refused_in, repeats_in}
 
 -- the events whose ids aren't held, in order
 abbrev pub without_held : List Event → List Event → List Event

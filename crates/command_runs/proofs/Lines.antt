@@ -18,7 +18,7 @@ use Rattle.command_table.specs.Refusals.{no_file, input_too_long}
 use Rattle.command_table.specs.Scripts.{Reading, Means, MeansNet}
 use Rattle.command_table.specs.Sessions.{Session, closed_by}
 use Rattle.command_table.specs.Table.{Text, Command, create, edit, show, merge, make, net, Line, does, serves, Reply, refuses, ReadingOf, MeansTo, reply_to, create_reply, make_reply, merge_reply, show_reply, over_both, over_events, opened_as, open_file}
-use Rattle.peer_words.specs.Making.{made}
+use Rattle.peer_definitions.specs.Making.{made}
 use Rattle.opened_files.specs.declared.reply.Reply as code
 use Rattle.opened_files.specs.declared.reply.Reply.TheVariants as reply_is
 use Rattle.opened_files.specs.Views.{IsTakenReply, LoadsAll, LoadsDone, LostBy, ReadsNone, ShelfCauses, reply_status, reply_view}

@@ -6,8 +6,8 @@ use Rattle.replica.specs.declared.fault.EditFault.{EditFault}
 use Rattle.replica.specs.declared.fault.EditFault.TheVariants as fault
 use Rattle.command_table.specs.Table.{make_reply, prints, stop_reply}
 use Rattle.generator.specs.Answers.{Prints, TellsStop}
-use Rattle.peer_words.specs.Making.{Made}
-use Rattle.peer_words.specs.Making.Made.{Going, Stopped}
+use Rattle.peer_definitions.specs.Making.{Made}
+use Rattle.peer_definitions.specs.Making.Made.{Going, Stopped}
 use Rattle.opened_files.specs.declared.reply.Reply as code
 use Rattle.opened_files.specs.Views.{reply_view}
 use Rattle.command_runs.specs.Making.{TellsStopped}

@@ -5,13 +5,13 @@ use Rattle.ew_model.specs.declared.id.Id.{Id}
 use Rattle.ew_model.specs.Edits.{EditRefusal}
 use Rattle.ew_model.specs.Edits.EditRefusal.{OutOfRange, TooManyHeads, Full}
 use Rattle.ew_model.specs.Limits.{LimitNumbers}
-use Rattle.peer_words.specs.Machine as machine
-use Rattle.peer_words.specs.Machine.{empty_network}
-use Rattle.peer_words.specs.Machine.Refusal.{NoPeer, PeerTwice, NoPacket, NoEdit}
-use Rattle.peer_words.specs.Making.{Made, made}
-use Rattle.peer_words.specs.Making.Made.{Going, Stopped}
-use Rattle.peer_words.specs.Runs.{RunOutcome, net_run}
-use Rattle.peer_words.specs.Runs.RunOutcome.{Ran, Broke}
+use Rattle.peer_definitions.specs.Machine as machine
+use Rattle.peer_definitions.specs.Machine.{empty_network}
+use Rattle.peer_definitions.specs.Machine.Refusal.{NoPeer, PeerTwice, NoPacket, NoEdit}
+use Rattle.peer_definitions.specs.Making.{Made, made}
+use Rattle.peer_definitions.specs.Making.Made.{Going, Stopped}
+use Rattle.peer_definitions.specs.Runs.{RunOutcome, net_run}
+use Rattle.peer_definitions.specs.Runs.RunOutcome.{Ran, Broke}
 use Rattle.command_table.specs.Outcomes.{stored_by}
 use Rattle.command_table.specs.Possible.{MayComeTo, MayNet, MayReplyTo}
 use Rattle.command_table.specs.Reads.{may_store}

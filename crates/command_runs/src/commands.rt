@@ -11,11 +11,11 @@ ghost use Rattle.opened_files.specs.Touches.{TouchesAtMost, file_touches, listin
 ghost use Rattle.opened_files.specs.Views.{IsTakenReply, LostBy, MissesBy, ShelfCauses, reply_view, reply_status};
 ghost use Rattle.ew_model.specs.Limits.{most_file_bytes};
 ghost use Rattle.ew_outside.specs.Counts.{Asks, Rose, next};
-ghost use Rattle.command_words.specs.Words.{listing_view};
+ghost use Rattle.command_reader.specs.Words.{listing_view};
 ghost use Rattle.command_runs.specs.Listings.{Shows};
 
+use command_reader::words::Listing;
 use command_texts::refusal::Refusal;
-use command_words::words::Listing;
 use event_file::encode;
 use ew_model::NoMem;
 use ew_model::id::Id;

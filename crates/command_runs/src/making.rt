@@ -1,8 +1,8 @@
 //! The command that makes a history.
 ghost use Rattle.std.specs.Prelude.{◌≡◌, ◌≤◌, ◌+◌, IfErr, IfOk};
 ghost use Rattle.command_table.specs.Table.{make_reply};
-ghost use Rattle.peer_words.specs.Making.{made};
-ghost use Rattle.peer_words.specs.Touches.{made_touches};
+ghost use Rattle.peer_definitions.specs.Making.{made};
+ghost use Rattle.peer_definitions.specs.Touches.{made_touches};
 ghost use Rattle.ew_outside.specs.declared.fault.Fault.TheVariants.{OutOfMemory};
 ghost use Rattle.opened_files.specs.Views.{IsTakenReply, reply_view};
 ghost use Rattle.command_runs.specs.Making.{TellsStopped};

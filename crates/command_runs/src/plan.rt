@@ -10,13 +10,13 @@ ghost use Rattle.line_plans.specs.Sources as line;
 ghost use Rattle.serve_plans.specs.Plans.{Causes, KeepsStreams};
 ghost use Rattle.command_runs.specs.LineTouches.{LineTakes};
 ghost use Rattle.command_runs.specs.Lines.{Heard, IsReplyOf, MakesBy, MayPlan, MissesFor, PlansAlone, PlansKnown, PlansSome, ReadsAll, ReadsFor, SendsNone};
-ghost use Rattle.command_words.specs.Words.{command_view, line_view};
+ghost use Rattle.command_reader.specs.Words.{command_view, line_view};
 ghost use Rattle.ew_outside.specs.Counts.{AsksAtMost, RisesOnceAtMost};
 
 use crate::commands::{create, show};
 use crate::making::make_history;
+use command_reader::words::{Line, Taken};
 use command_texts::refusal::Refusal;
-use command_words::words::{Line, Taken};
 use ew_model::limits::Limits;
 use ew_model::steps::Steps;
 use ew_outside::{Fault, Shelf, Sink, Source};

@@ -4,12 +4,12 @@ ghost use Rattle.std.specs.Option.{option_map};
 ghost use Rattle.command_table.specs.Headline.{IsRun, IsRunOf};
 ghost use Rattle.command_table.specs.Seen.{seen};
 ghost use Rattle.command_table.specs.Table.{line_of};
-ghost use Rattle.command_words.specs.Words.{line_view};
+ghost use Rattle.command_reader.specs.Words.{line_view};
 ghost use Rattle.command_runs.specs.LineTouches.{LineTakes};
 
 use crate::ending::{carry_out, tell};
 use crate::plan::plan;
-use command_words::words::{Line, read_words};
+use command_reader::words::{Line, read_words};
 use ew_model::limits::Limits;
 use ew_model::steps::Steps;
 use ew_outside::{Fault, Shelf, Sink, Source};

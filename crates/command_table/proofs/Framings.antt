@@ -1,8 +1,8 @@
 -- Frames in front of bytes.
 use Rattle.std.proofs.Common.{◌≡◌, ℕ, false, List, [], ◌∷◌, subst}
 use Rattle.ew_model.specs.Limits.{LimitNumbers}
-use Rattle.peer_words.specs.declared.frame.Frame.{Frame}
-use Rattle.peer_words.specs.Cutting.{Front, Finds, AreFrames, is_whole}
+use Rattle.peer_definitions.specs.declared.frame.Frame.{Frame}
+use Rattle.peer_definitions.specs.Cutting.{Front, Finds, AreFrames, is_whole}
 use Rattle.command_table.specs.Framings.{BeginWith}
 
 -- frames in front of bytes that begin with no further one are all that the bytes are cut into

@@ -15,8 +15,8 @@ use Rattle.ew_model.specs.Scripts.{id_text, version_text}
 use Rattle.ew_model.specs.Sound.{IsSoundId}
 use Rattle.ew_model.proofs.Decimals.{digits_value_is}
 use Rattle.ew_model.proofs.LineLaws.{Lacks}
-use Rattle.history_words.specs.Versions.{IsVersion}
-use Rattle.history_words.proofs.IdTexts.{name_lacks, id_lacks_comma, id_cut, version_once}
+use Rattle.history_definitions.specs.Versions.{IsVersion}
+use Rattle.history_definitions.proofs.IdTexts.{name_lacks, id_lacks_comma, id_cut, version_once}
 use Rattle.command_table.specs.VersionWords.{is_sound_id, is_version, id_within, ids_within, version_in}
 
 -- a list that lacks a byte has it at no place

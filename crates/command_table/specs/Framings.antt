@@ -1,9 +1,9 @@
 -- The frames of an input, of which no more than the limit is read.
 use Rattle.std.specs.Prelude.{◌≡◌, ℕ, false, List, [], ◌∷◌, take}
 use Rattle.ew_model.specs.Limits.{LimitNumbers}
-use Rattle.peer_words.specs.declared.frame.Frame.{Frame}
-use Rattle.peer_words.specs.Cutting.{Front, Finds, is_whole}
-use Rattle.peer_words.specs.Cutting.Front.{Whole}
+use Rattle.peer_definitions.specs.declared.frame.Frame.{Frame}
+use Rattle.peer_definitions.specs.Cutting.{Front, Finds, is_whole}
+use Rattle.peer_definitions.specs.Cutting.Front.{Whole}
 
 -- the bytes begin with these whole frames, and these bytes come after them
 abbrev pub BeginWith : LimitNumbers → List ℕ → List Frame → List ℕ → Type 0

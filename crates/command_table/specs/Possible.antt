@@ -2,7 +2,7 @@
 use Rattle.std.specs.Prelude.{◌≡◌, ◌≤◌, ◌⊎◌, ⊤, ℕ, List, length, Option, None, Some}
 use Rattle.ew_model.specs.FileLaws.{AreBytes}
 use Rattle.ew_model.specs.Limits.{LimitNumbers, most_file_bytes}
-use Rattle.peer_words.specs.Making.{made}
+use Rattle.peer_definitions.specs.Making.{made}
 use Rattle.command_table.specs.Loads.{File, whole}
 use Rattle.command_table.specs.Scripts.{Reading, Means, NetReading, MeansNet}
 use Rattle.command_table.specs.Refusals.{not_taken, input_too_long}

@@ -4,8 +4,8 @@ use Rattle.ew_model.specs.declared.event.Event.{Event}
 use Rattle.ew_model.specs.Limits.{LimitNumbers}
 use Rattle.ew_model.specs.Edits.{Edit, EditRefusal, events_of_edit, edit_refusal}
 use Rattle.ew_model.specs.Scripts.{Numbered, IsScript, IsFirstBadLine}
-use Rattle.peer_words.specs.declared.net_step.NetStep.{NetStep}
-use Rattle.peer_words.specs.NetScripts.{IsNetScript, IsFirstBadNetLine, numbered_steps}
+use Rattle.peer_definitions.specs.declared.net_step.NetStep.{NetStep}
+use Rattle.peer_definitions.specs.NetScripts.{IsNetScript, IsFirstBadNetLine, numbered_steps}
 
 -- what an input was read as: the edits of a script, or the number of its first bad line
 pub data Reading : Type 0 where

@@ -6,14 +6,14 @@ use Rattle.ew_model.specs.File.{file_of}
 use Rattle.ew_model.specs.Kept.{ReplicaState}
 use Rattle.ew_model.specs.Limits.{LimitNumbers}
 use Rattle.ew_outside.specs.Files.{Files}
-use Rattle.peer_words.specs.declared.frame.Frame.{Frame}
-use Rattle.peer_words.specs.declared.frame.Frame.TheVariants as frame
-use Rattle.peer_words.specs.Cutting.{Front, AreFrames}
-use Rattle.peer_words.specs.Cutting.Front.{Whole, Partial, BadKind, TooLong, BadBody}
-use Rattle.peer_words.specs.Spelling.{frame_bytes}
-use Rattle.peer_words.specs.Answering.{Answered, answer_to}
-use Rattle.peer_words.specs.declared.end.End.{End}
-use Rattle.peer_words.specs.declared.end.End.TheVariants as end
+use Rattle.peer_definitions.specs.declared.frame.Frame.{Frame}
+use Rattle.peer_definitions.specs.declared.frame.Frame.TheVariants as frame
+use Rattle.peer_definitions.specs.Cutting.{Front, AreFrames}
+use Rattle.peer_definitions.specs.Cutting.Front.{Whole, Partial, BadKind, TooLong, BadBody}
+use Rattle.peer_definitions.specs.Spelling.{frame_bytes}
+use Rattle.peer_definitions.specs.Answering.{Answered, answer_to}
+use Rattle.peer_definitions.specs.declared.end.End.{End}
+use Rattle.peer_definitions.specs.declared.end.End.TheVariants as end
 use Rattle.command_table.specs.Framings.{Framing}
 use Rattle.ew_outside.specs.Outputs.{Sends}
 use Rattle.command_table.specs.Refusals.{clash, input_too_long, frame_cut, bad_kind, frame_too_long, bad_body}

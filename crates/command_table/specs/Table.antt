@@ -23,20 +23,20 @@ use Rattle.ew_model.specs.File.{file_of}
 use Rattle.ew_model.specs.FileFaults.{FileFinding, file_finding}
 use Rattle.ew_model.specs.FileFaults.FileFinding.{IsFile, Short, BadMagic, BadVersion, BadDigest, BadRecord, TooMany}
 use Rattle.ew_outside.specs.Files.{Files}
-use Rattle.history_words.specs.Summary.{summary_of}
-use Rattle.peer_words.specs.declared.frame.Frame.TheVariants.{Have}
-use Rattle.peer_words.specs.Spelling.{frame_bytes}
-use Rattle.peer_words.specs.Answering.{is_clash}
-use Rattle.history_words.specs.Listings.{check_text, heads_text, log_text}
-use Rattle.history_words.specs.Replays.{replay_text}
-use Rattle.history_words.specs.Tallies.{accepted_in, repeats_in, refused_in}
-use Rattle.peer_words.specs.Runs.{RunOutcome, net_run}
-use Rattle.peer_words.specs.Runs.RunOutcome.{Ran, Broke}
-use Rattle.peer_words.specs.Machine as machine
-use Rattle.peer_words.specs.Machine.{empty_network}
-use Rattle.peer_words.specs.Machine.Refusal.{NoPeer, PeerTwice, NoPacket, NoEdit}
-use Rattle.peer_words.specs.Making.{Made, made, printed}
-use Rattle.peer_words.specs.Making.Made.{Going, Stopped}
+use Rattle.history_definitions.specs.Summary.{summary_of}
+use Rattle.peer_definitions.specs.declared.frame.Frame.TheVariants.{Have}
+use Rattle.peer_definitions.specs.Spelling.{frame_bytes}
+use Rattle.peer_definitions.specs.Answering.{is_clash}
+use Rattle.history_definitions.specs.Listings.{check_text, heads_text, log_text}
+use Rattle.history_definitions.specs.Replays.{replay_text}
+use Rattle.history_definitions.specs.Tallies.{accepted_in, repeats_in, refused_in}
+use Rattle.peer_definitions.specs.Runs.{RunOutcome, net_run}
+use Rattle.peer_definitions.specs.Runs.RunOutcome.{Ran, Broke}
+use Rattle.peer_definitions.specs.Machine as machine
+use Rattle.peer_definitions.specs.Machine.{empty_network}
+use Rattle.peer_definitions.specs.Machine.Refusal.{NoPeer, PeerTwice, NoPacket, NoEdit}
+use Rattle.peer_definitions.specs.Making.{Made, made, printed}
+use Rattle.peer_definitions.specs.Making.Made.{Going, Stopped}
 use Rattle.command_table.specs.Cli.{egw_app, most_made, most_seed}
 use Rattle.command_table.specs.Loads.{File, missing, too_long, whole, whole_of}
 use Rattle.command_table.specs.VersionWords.{version_in}

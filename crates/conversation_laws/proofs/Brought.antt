@@ -18,16 +18,16 @@ use Rattle.ew_model.proofs.SetLaws.{among_joined, among_filter}
 use Rattle.ew_model.proofs.SortingLaws.{all_at, all_filter, all_from}
 use Rattle.ew_model.proofs.WritableLaws.{good_is_writable}
 use Rattle.ew_outside.specs.Files.{Files}
-use Rattle.history_words.specs.Missing.{missing}
-use Rattle.history_words.specs.Summary.{summary_of}
-use Rattle.peer_words.specs.declared.frame.Frame.{Frame}
-use Rattle.peer_words.specs.declared.frame.Frame.TheVariants.{Have, Events, Done, Bye}
+use Rattle.history_definitions.specs.Missing.{missing}
+use Rattle.history_definitions.specs.Summary.{summary_of}
+use Rattle.peer_definitions.specs.declared.frame.Frame.{Frame}
+use Rattle.peer_definitions.specs.declared.frame.Frame.TheVariants.{Have, Events, Done, Bye}
 use Rattle.peer_frames.specs.Laws.{IsTaken}
-use Rattle.peer_words.specs.Spelling.{frame_bytes}
+use Rattle.peer_definitions.specs.Spelling.{frame_bytes}
 use Rattle.peer_exchange.proofs.Ascending.{summary_sound}
-use Rattle.peer_words.specs.Answering.{event_frames}
+use Rattle.peer_definitions.specs.Answering.{event_frames}
 use Rattle.peer_exchange.specs.Laws.{unheld}
-use Rattle.peer_words.specs.Pieces.{frame_room, pieces}
+use Rattle.peer_definitions.specs.Pieces.{frame_room, pieces}
 use Rattle.peer_exchange.proofs.Lengths.{bye_taken, missing_few, question_taken, sent_taken}
 use Rattle.peer_exchange.proofs.MissingLaw.{missing_are_unheld}
 use Rattle.peer_exchange.proofs.PieceLaws.{pieces_whole, some_room}

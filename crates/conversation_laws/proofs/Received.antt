@@ -19,12 +19,12 @@ use Rattle.ew_model.proofs.KeptLaws.{no_repeat}
 use Rattle.ew_model.proofs.MergeSteps.{first_judged, none_judged}
 use Rattle.ew_model.proofs.RoundLaws.{then}
 use Rattle.ew_model.proofs.RulingLaws.{next_right}
-use Rattle.history_words.specs.Tallies.{refused_in}
-use Rattle.peer_words.specs.declared.frame.Frame.{Frame}
-use Rattle.peer_words.specs.declared.frame.Frame.TheVariants.{Events, Done, Bye}
-use Rattle.peer_words.specs.Answering.{Answered, first_clash, told_of}
-use Rattle.peer_words.specs.declared.end.End.{End}
-use Rattle.peer_words.specs.declared.end.End.TheVariants as end
+use Rattle.history_definitions.specs.Tallies.{refused_in}
+use Rattle.peer_definitions.specs.declared.frame.Frame.{Frame}
+use Rattle.peer_definitions.specs.declared.frame.Frame.TheVariants.{Events, Done, Bye}
+use Rattle.peer_definitions.specs.Answering.{Answered, first_clash, told_of}
+use Rattle.peer_definitions.specs.declared.end.End.{End}
+use Rattle.peer_definitions.specs.declared.end.End.TheVariants as end
 use Rattle.command_table.specs.Sessions.{Exchange, bytes_of, exchanged, opened_state, then_exchanged}
 use Rattle.conversation_laws.proofs.GoodBehind.{good_parted}
 

@@ -2,9 +2,9 @@
 use Rattle.std.proofs.Common.{◌≡◌, ℕ, ◌≤◌, List, [], ◌∷◌, length, refl, sym, ◌∙◌, subst, take_all}
 use Rattle.std.specs.List.{AllByRecursion}
 use Rattle.ew_model.specs.Limits.{LimitNumbers}
-use Rattle.peer_words.specs.declared.frame.Frame.{Frame}
-use Rattle.peer_words.specs.Cutting.{Tells}
-use Rattle.peer_words.specs.Cutting.Front.{Whole, Partial}
+use Rattle.peer_definitions.specs.declared.frame.Frame.{Frame}
+use Rattle.peer_definitions.specs.Cutting.{Tells}
+use Rattle.peer_definitions.specs.Cutting.Front.{Whole, Partial}
 use Rattle.peer_frames.specs.Laws.{IsTaken}
 use Rattle.peer_frames.proofs.Cuts.{frames_come_back}
 use Rattle.peer_frames.proofs.Heads.{head_spelled}

@@ -5,8 +5,8 @@ use Rattle.ew_model.specs.ArrivalLaw.{OneEach}
 use Rattle.ew_model.specs.Limits.{LimitNumbers, AreLimits}
 use Rattle.ew_model.specs.Sets.{SameElements}
 use Rattle.ew_outside.specs.Files.{Files}
-use Rattle.peer_words.specs.declared.frame.Frame.TheVariants.{Bye}
-use Rattle.peer_words.specs.Spelling.{frame_bytes}
+use Rattle.peer_definitions.specs.declared.frame.Frame.TheVariants.{Bye}
+use Rattle.peer_definitions.specs.Spelling.{frame_bytes}
 use Rattle.peer_exchange.specs.Laws.{unheld}
 use Rattle.command_table.specs.Framings.{Framing, IsFramingOf}
 use Rattle.table_laws.specs.MergeLaws.{HoldsBytes, command_answer}

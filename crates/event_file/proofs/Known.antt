@@ -13,7 +13,7 @@ use Rattle.ew_model.proofs.FileLists.{some_is, none_is_some, none_in_front, get-
 use Rattle.ew_model.proofs.FileRecords.{names_equal, name_exact}
 use Rattle.event_file.specs.declared.short_id.ShortId.{ShortId}
 use Rattle.event_file.specs.Known.{known_by, id_by, known, AreWithin}
-use Rattle.history_words.specs.Chains.{last_id}
+use Rattle.history_definitions.specs.Chains.{last_id}
 
 -- the id at a place
 pub known_at : (agents : List (List ℕ)) (ids : List ShortId) (i : ℕ) (x : ShortId) → slice_get ids i ≡ Some x → slice_get (ids_of (known agents ids)) i ≡ Some (id_by agents x)

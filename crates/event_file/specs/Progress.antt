@@ -9,7 +9,7 @@ use Rattle.ew_model.specs.Ancestors.{ids_of, is_held}
 use Rattle.ew_model.specs.Distinct.{AreDistinct}
 use Rattle.ew_model.specs.File.{agents_of}
 use Rattle.ew_model.specs.FileFaults.{open_agents, byte, number, read_record}
-use Rattle.history_words.specs.Chains.{next_id, event_behind, last_id}
+use Rattle.history_definitions.specs.Chains.{next_id, event_behind, last_id}
 use Rattle.event_file.specs.declared.short_id.ShortId.{ShortId}
 use Rattle.event_file.specs.Known.{known_by, id_by}
 

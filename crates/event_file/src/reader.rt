@@ -30,7 +30,7 @@ pub struct EventReader<'a> {
 }
 
 impl<'a> Model for EventReader<'a> {
-    ghost use Rattle.history_words.specs.Chains.{last_id};
+    ghost use Rattle.history_definitions.specs.Chains.{last_id};
     ghost use Rattle.event_file.specs.Rest.{Rest, rest_found};
 
     ghost Value = { Rest };

@@ -10,7 +10,7 @@ use Rattle.ew_model.specs.Ancestors.{ids_of}
 use Rattle.ew_model.specs.Ids.{name_eq}
 use Rattle.ew_model.proofs.ListParts.{take_next}
 use Rattle.agent_ids.proofs.Agents.{names_alike}
-use Rattle.history_words.specs.Missing.{count_in, missing}
+use Rattle.history_definitions.specs.Missing.{count_in, missing}
 
 -- what differs from all keys differs from that at a place
 apart_at : {X : Type 0} (es : List (List ℕ × X)) (place : ℕ) (e : List ℕ × X) (k : List ℕ) → AllByRecursion (λ y. name_eq k y ≡ false) (keys_of es) → slice_get es place ≡ Some e → name_eq k e.0 ≡ false

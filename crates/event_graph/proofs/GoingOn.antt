@@ -21,10 +21,10 @@ use Rattle.ew_model.proofs.CoverLaws.{ids_alike, event_of, held_by}
 use Rattle.ew_model.proofs.GoodLaws.{no_parent}
 use Rattle.ew_model.proofs.GraphVersions.{taken_named}
 use Rattle.ew_model.proofs.IdLaws.{is_same_id}
-use Rattle.history_words.specs.Agents.{count_of, AreNumbered}
+use Rattle.history_definitions.specs.Agents.{count_of, AreNumbered}
 use Rattle.agent_ids.specs.IdRuns.{last_in}
 use Rattle.agent_ids.proofs.LastIds.{last_split, next_number}
-use Rattle.history_words.specs.Chains.{event_behind, next_id, last_id}
+use Rattle.history_definitions.specs.Chains.{event_behind, next_id, last_id}
 use Rattle.event_graph.specs.Finding.{found_in}
 use Rattle.event_graph.specs.GoingOn.{GoesOn}
 use Rattle.event_graph.specs.Joining.{IsGoodBehind, event_on}

@@ -19,7 +19,7 @@ use Rattle.ew_model.specs.declared.event.Event.{Event}
 use Rattle.ew_model.specs.Positions.{positions_in, parent_positions}
 use Rattle.ew_model.specs.PositionLaws.{AgreesByPositions}
 use Rattle.agent_ids.specs.IdRuns.{last_in}
-use Rattle.history_words.specs.Chains.{last_id}
+use Rattle.history_definitions.specs.Chains.{last_id}
 use Rattle.critical.specs.KeptCuts.{KeptCuts}
 use Rattle.event_runs.specs.BareEvents.{BareEvent, bare, ops_in, parents_in}
 use Rattle.event_graph.specs.Keeping.{IsKeptOf}

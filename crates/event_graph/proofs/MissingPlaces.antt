@@ -6,7 +6,7 @@ use Rattle.std.proofs.lemmas.List.Elements.{All-nil, All-push}
 use Rattle.ew_model.specs.declared.id.Id.{Id}
 use Rattle.ew_model.specs.declared.event.Event.{Event}
 use Rattle.ew_model.specs.Ancestors.{ids_of}
-use Rattle.history_words.specs.Missing.{count_in, missing}
+use Rattle.history_definitions.specs.Missing.{count_in, missing}
 use Rattle.event_graph.specs.Subgraphs.{events_at}
 use Rattle.event_graph.proofs.Counted.{event_there, missing_none, missing_one}
 use Rattle.event_graph.proofs.Places.{slice_within}

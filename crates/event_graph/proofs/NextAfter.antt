@@ -6,7 +6,7 @@ use Rattle.ew_model.specs.declared.event.Event.{Event}
 use Rattle.ew_model.specs.Ancestors.{heads}
 use Rattle.ew_model.specs.Positions.{positions_in}
 use Rattle.ew_model.specs.Sound.{IsSoundOp, AreSound}
-use Rattle.history_words.specs.Chains.{event_behind, next_id, last_id}
+use Rattle.history_definitions.specs.Chains.{event_behind, next_id, last_id}
 use Rattle.event_graph.specs.Afters.{IsNextAfter}
 use Rattle.event_graph.specs.Keeping.{IsAdmitted}
 use Rattle.event_graph.specs.declared.parts.After.TheVariants.{Last}

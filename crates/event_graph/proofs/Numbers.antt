@@ -8,7 +8,7 @@ use Rattle.ew_model.specs.Ids.{id_eq, is_among}
 use Rattle.ew_model.specs.Ancestors.{ids_of, is_held, ancestors}
 use Rattle.ew_model.specs.Verdicts.{has_number_below, follows_its_agent}
 use Rattle.ew_model.proofs.EntryLaws.{ancestors_held}
-use Rattle.history_words.specs.Agents.{count_of, AreNumbered}
+use Rattle.history_definitions.specs.Agents.{count_of, AreNumbered}
 use Rattle.agent_ids.specs.Table.{positions_of}
 use Rattle.std.proofs.lemmas.List.{map-append}
 use Rattle.agent_ids.proofs.Numbers.{position_at, numbered_push}

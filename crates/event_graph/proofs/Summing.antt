@@ -20,9 +20,9 @@ use Rattle.ew_model.proofs.ListTests.{any_from}
 use Rattle.ew_model.proofs.SortingLaws.{NoTie, NoTies, all_from, sort_among}
 use Rattle.ew_model.proofs.SortedLists.{sorted_is_sort_by}
 use Rattle.ew_model.proofs.SetLaws.{among_map}
-use Rattle.history_words.specs.Agents.{agents_of, count_of}
+use Rattle.history_definitions.specs.Agents.{agents_of, count_of}
 use Rattle.agent_ids.proofs.Agents.{count_cons, is_agent, AreDistinct, agents_distinct}
-use Rattle.history_words.specs.Summary.{summary_of}
+use Rattle.history_definitions.specs.Summary.{summary_of}
 use Rattle.ew_model.proofs.RecordLaws.{map_same}
 
 -- an agent has as many events as ids

@@ -7,7 +7,7 @@ use Rattle.ew_model.specs.Ancestors.{ids_of, heads}
 use Rattle.ew_model.specs.Positions.{positions_in}
 use Rattle.ew_model.specs.Sound.{IsSound}
 use Rattle.agent_ids.specs.IdRuns.{last_in}
-use Rattle.history_words.specs.Chains.{next_id}
+use Rattle.history_definitions.specs.Chains.{next_id}
 use Rattle.event_graph.specs.Joining.{IsGoodBehind}
 use Rattle.event_graph.specs.declared.parts.After.{After}
 use Rattle.event_graph.specs.declared.parts.After.TheVariants.{Last, Heads, Other}

@@ -2,7 +2,7 @@
 use Rattle.std.specs.Prelude.{◌≡◌, List, [], ◌∷◌, Some}
 use Rattle.ew_model.specs.declared.id.Id.{Id}
 use Rattle.ew_model.specs.declared.event.Event.{Event}
-use Rattle.history_words.specs.Chains.{last_id, next_id}
+use Rattle.history_definitions.specs.Chains.{last_id, next_id}
 
 -- the event is the next one of the last event's agent, and that event is its one parent
 abbrev pub GoesOn : List Event → Event → Type 0

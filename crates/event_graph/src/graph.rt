@@ -17,13 +17,13 @@ ghost use Rattle.frontier.specs.Chains.{IsChain};
 ghost use Rattle.ancestors.specs.Floors.{HasAllBelow};
 ghost use Rattle.ancestors.specs.Spans as spans;
 ghost use Rattle.event_runs.specs.Runs.{IsRunStart};
-ghost use Rattle.history_words.specs.Chains.{event_behind, last_id};
+ghost use Rattle.history_definitions.specs.Chains.{event_behind, last_id};
 ghost use Rattle.event_graph.specs.Afters.{IsNextAfter};
 ghost use Rattle.event_graph.specs.Keeping.{IsAdmitted, bare_events};
 ghost use Rattle.event_graph.specs.Finding.{found_in};
 ghost use Rattle.event_graph.specs.Joining.{IsGoodBehind, event_on};
 ghost use Rattle.event_graph.specs.Rows.{row_in};
-ghost use Rattle.history_words.specs.Summary.{summary_of};
+ghost use Rattle.history_definitions.specs.Summary.{summary_of};
 
 use crate::facts::Facts;
 use crate::ids::{agents, ascend, counts, ids_at, is_among};

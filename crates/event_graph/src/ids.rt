@@ -3,7 +3,7 @@
 ghost use Rattle.std.specs.Prelude.{◌≡◌, ◌<◌, IfOk, length, map};
 ghost use Rattle.std.specs.List.{All};
 ghost use Rattle.ew_model.specs.Ids.{is_among, ids_ascend};
-ghost use Rattle.history_words.specs.Agents.{agents_of, count_of};
+ghost use Rattle.history_definitions.specs.Agents.{agents_of, count_of};
 ghost use Rattle.event_graph.specs.Keeping.{id_of};
 
 use agent_ids::AgentTable;

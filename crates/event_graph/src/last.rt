@@ -3,7 +3,7 @@
 ghost use Rattle.std.specs.Prelude.{◌≡◌, ◌↔◌, ◌+◌, ◌<◌, ◌^◌, [], ◌∷◌, ◌++◌, length, Some, IfSome, IsTrue, OnOk, OnErr};
 ghost use Rattle.ew_model.specs.declared.id.Id.{Id};
 ghost use Rattle.ew_model.specs.Positions.{positions_in};
-ghost use Rattle.history_words.specs.Chains.{event_behind, next_id, last_id};
+ghost use Rattle.history_definitions.specs.Chains.{event_behind, next_id, last_id};
 ghost use Rattle.event_graph.specs.GoingOn.{GoesOn};
 
 use crate::graph::Graph;

@@ -4,7 +4,7 @@ ghost use Rattle.std.specs.Prelude.{◌≡◌, ◌<◌, IfOk, length, nat_lt};
 ghost use Rattle.std.specs.List.{All, IsDistinct};
 ghost use Rattle.std.specs.Map.{keys_of};
 ghost use Rattle.ew_model.specs.Ids.{name_eq};
-ghost use Rattle.history_words.specs.Missing.{count_in, missing};
+ghost use Rattle.history_definitions.specs.Missing.{count_in, missing};
 ghost use Rattle.event_graph.specs.Subgraphs.{events_at};
 
 use crate::graph::Graph;
@@ -82,7 +82,7 @@ struct Counted {
 
 impl Model for Counted {
     ghost use Rattle.std.specs.Prelude.{◌≡◌, ℕ, List, IfSome};
-    ghost use Rattle.history_words.specs.Missing.{count_in};
+    ghost use Rattle.history_definitions.specs.Missing.{count_in};
 
     ghost Value = { List (List ℕ × ℕ) };
 

@@ -4,7 +4,7 @@ ghost use Rattle.std.specs.Prelude.{◌≡◌, ◌+◌, ◌<◌, ◌^◌, List, 
 ghost use Rattle.std.specs.List.{All};
 ghost use Rattle.ew_model.specs.declared.id.Id.{Id};
 ghost use Rattle.ew_model.specs.Positions.{AreParents, IsHistoryOfParents, frontier_of, is_reduced_at};
-ghost use Rattle.history_words.specs.Agents.{count_of};
+ghost use Rattle.history_definitions.specs.Agents.{count_of};
 ghost use Rattle.critical.specs.KeptCuts.{kept_for};
 ghost use Rattle.event_graph.specs.Afters.{StandsOn, id_after};
 ghost use Rattle.event_graph.specs.declared.parts.After.TheVariants.{Last};

@@ -4,8 +4,8 @@ use Rattle.std.specs.Prelude.{IfSome}
 use Rattle.std.proofs.lemmas.List.{length-append}
 use Rattle.ew_model.specs.declared.event.Event.{Event}
 use Rattle.ew_model.specs.File.{four_bytes}
-use Rattle.peer_words.specs.Spelling.{events_body}
-use Rattle.peer_words.specs.Batches.{IsBatch, journal_events}
+use Rattle.peer_definitions.specs.Spelling.{events_body}
+use Rattle.peer_definitions.specs.Batches.{IsBatch, journal_events}
 use Rattle.peer_frames.proofs.Journals.{one_journal}
 use Rattle.event_journal.specs.Disk.{written, LeavesJust, StaysWithin}
 use Rattle.event_journal.specs.Journal.{JournalSeen, IsKept, IsKeptOn, Holds, HoldsOneMoreAtMost}

@@ -6,8 +6,8 @@ use Rattle.std.proofs.lemmas.Nat.{le_bytes_4, from_le_bytes-to_le_bytes_4}
 use Rattle.ew_model.specs.declared.event.Event.{Event}
 use Rattle.ew_model.specs.File.{four_bytes}
 use Rattle.ew_model.proofs.FileLists.{some_is}
-use Rattle.peer_words.specs.Spelling.{events_body}
-use Rattle.peer_words.specs.Batches.{IsEventsBody, batch_bytes, journal_bytes, BeginWith}
+use Rattle.peer_definitions.specs.Spelling.{events_body}
+use Rattle.peer_definitions.specs.Batches.{IsEventsBody, batch_bytes, journal_bytes, BeginWith}
 use Rattle.peer_frames.proofs.SpelledEvents.{body_back}
 use Rattle.event_journal.specs.Reading.{IsFirst}
 

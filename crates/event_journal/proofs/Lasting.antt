@@ -1,7 +1,7 @@
 -- No acknowledged batch is lost.
 use Rattle.std.proofs.Common.{◌≡◌, inl, inr, ⊎_elim, ℕ, List, [], ◌∷◌, ◌++◌, None, refl, sym, ap, subst, ◌∙◌, append_assoc, append-nil}
 use Rattle.ew_model.specs.declared.event.Event.{Event}
-use Rattle.peer_words.specs.Batches.{journal_events}
+use Rattle.peer_definitions.specs.Batches.{journal_events}
 use Rattle.peer_frames.proofs.Journals.{one_journal}
 use Rattle.event_journal.specs.Journal.{Holds, HoldsEvents}
 use Rattle.event_journal.specs.LastingLaw.{Step, LeadTo, AreOf, Lasts}

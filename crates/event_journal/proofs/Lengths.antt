@@ -10,7 +10,7 @@ use Rattle.ew_model.specs.declared.event.Op.TheVariants.{Ins, Del}
 use Rattle.ew_model.specs.declared.event.Event.{Event}
 use Rattle.ew_model.specs.File.{four_bytes, name_bytes, op_bytes}
 use Rattle.ew_model.specs.Sound.{IsSoundId, IsSound, AreSound}
-use Rattle.peer_words.specs.Spelling.{id_bytes, event_bytes, events_body}
+use Rattle.peer_definitions.specs.Spelling.{id_bytes, event_bytes, events_body}
 use Rattle.peer_frames.proofs.ShortNames.{name_short}
 
 four_long : (n : ℕ) → length (four_bytes n) ≡ 4

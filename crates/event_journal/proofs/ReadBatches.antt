@@ -4,10 +4,10 @@ use Rattle.std.proofs.lemmas.List.{length-append, length-drop, drop-drop, take_a
 use Rattle.ew_model.specs.declared.event.Event.{Event}
 use Rattle.ew_model.specs.Limits.{LimitNumbers}
 use Rattle.ew_model.specs.File.{four_bytes}
-use Rattle.peer_words.specs.Spelling.{event_bytes, events_body}
-use Rattle.peer_words.specs.Batches.{batch_bytes, journal_bytes, journal_events, BeginWith}
+use Rattle.peer_definitions.specs.Spelling.{event_bytes, events_body}
+use Rattle.peer_definitions.specs.Batches.{batch_bytes, journal_bytes, journal_events, BeginWith}
 use Rattle.peer_frames.proofs.Written.{all_pushed}
-use Rattle.peer_words.specs.Batches as words
+use Rattle.peer_definitions.specs.Batches as words
 use Rattle.event_journal.specs.Journal.{HoldsTooMany}
 use Rattle.event_journal.specs.Reading.{IsFirst, IsRead}
 use Rattle.event_journal.proofs.Torn.{bytes_pushed, events_pushed, batch_long}

@@ -4,8 +4,8 @@ use Rattle.std.specs.List.{AllByRecursion}
 use Rattle.std.proofs.lemmas.List.{take_at, drop_at, drop_more, length-append}
 use Rattle.ew_model.specs.declared.event.Event.{Event}
 use Rattle.ew_model.specs.File.{four_bytes}
-use Rattle.peer_words.specs.Spelling.{events_body}
-use Rattle.peer_words.specs.Batches.{IsBatch, batch_bytes, journal_bytes, journal_events}
+use Rattle.peer_definitions.specs.Spelling.{events_body}
+use Rattle.peer_definitions.specs.Batches.{IsBatch, batch_bytes, journal_bytes, journal_events}
 use Rattle.peer_frames.proofs.Written.{all_pushed}
 use Rattle.event_journal.specs.Disk.{written, IsTorn}
 use Rattle.event_journal.specs.Journal.{RestsAt, Holds, HoldsOneMoreAtMost, HoldSame}

@@ -2,7 +2,7 @@
 use Rattle.std.specs.Prelude.{◌≡◌, ◌<◌, ◌≤◌, ◌⊎◌, ℕ, Bool, List, [], ◌∷◌, ◌++◌, length, Option, None, Some, IfSome, Result, Ok, Err}
 use Rattle.ew_model.specs.declared.event.Event.{Event}
 use Rattle.ew_model.specs.Limits.{LimitNumbers}
-use Rattle.peer_words.specs.Batches.{journal_bytes, journal_events, BeginWith, IsClosed, AreBatches}
+use Rattle.peer_definitions.specs.Batches.{journal_bytes, journal_events, BeginWith, IsClosed, AreBatches}
 use Rattle.ew_outside.specs.Counts.{Rises}
 use Rattle.event_journal.specs.Disk.{LeavesJust}
 use Rattle.event_journal.specs.declared.fault.OpenFault.{OpenFault}

@@ -1,7 +1,7 @@
 -- That no acknowledged batch is ever lost, over every list of openings, appends and crashes.
 use Rattle.std.specs.Prelude.{◌≡◌, ◌⊎◌, ℕ, List, [], ◌∷◌, ◌++◌}
 use Rattle.ew_model.specs.declared.event.Event.{Event}
-use Rattle.peer_words.specs.Batches.{journal_events}
+use Rattle.peer_definitions.specs.Batches.{journal_events}
 use Rattle.event_journal.specs.Journal.{Holds, HoldSame, HoldsOneMoreAtMost, HoldsEvents}
 
 -- What happens to a journal's disk: an opening, whatever it answers, and also one that a crash cuts short; an append that is answered Ok;

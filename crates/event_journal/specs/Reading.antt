@@ -3,7 +3,7 @@ use Rattle.std.specs.Prelude.{◌≡◌, ◌≤◌, ℕ, List, [], ◌∷◌, le
 use Rattle.ew_model.specs.declared.event.Event.{Event}
 use Rattle.ew_model.specs.Limits.{LimitNumbers}
 use Rattle.ew_outside.specs.Counts.{Rises}
-use Rattle.peer_words.specs.Batches.{BeginWith, batch_bytes, journal_bytes, journal_events, IsClosed, IsBroken}
+use Rattle.peer_definitions.specs.Batches.{BeginWith, batch_bytes, journal_bytes, journal_events, IsClosed, IsBroken}
 use Rattle.event_journal.specs.Journal.{HoldsTooMany}
 use Rattle.event_journal.specs.declared.fault.OpenFault.{OpenFault}
 use Rattle.event_journal.specs.declared.fault.OpenFault.TheVariants.{Failed, BadBatch, TooMany, OutOfMemory}

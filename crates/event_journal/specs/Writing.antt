@@ -2,7 +2,7 @@
 use Rattle.std.specs.Prelude.{◌+◌, ◌⊎◌, ℕ, List, [], ◌∷◌, ◌++◌, length}
 use Rattle.ew_model.specs.declared.event.Event.{Event}
 use Rattle.ew_model.specs.File.{four_bytes}
-use Rattle.peer_words.specs.Spelling.{events_body}
+use Rattle.peer_definitions.specs.Spelling.{events_body}
 use Rattle.event_journal.specs.Disk.{written, IsTorn}
 
 -- the bytes with a piece behind the closed gate

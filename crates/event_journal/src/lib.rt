@@ -1,6 +1,6 @@
 //! A journal of events that outlives a crash at any moment: a `Journal` adds batches of events to a `Disk`, each acknowledged once it
 //! is synced, and reads them back when it is opened. `specs/Disk.antt` says what a disk does and what a crash may leave of it,
-//! `specs/Journal.antt` what a journal is; `peer_words`' `Batches` says which batches bytes hold.
+//! `specs/Journal.antt` what a journal is; `peer_definitions`' `Batches` says which batches bytes hold.
 #![tactic(auto)]
 
 mod disk;

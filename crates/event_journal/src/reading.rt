@@ -2,7 +2,7 @@
 
 ghost use Rattle.std.specs.Prelude.{◌≡◌, ◌<◌, ◌≤◌, ℕ, List, [], ◌∷◌, ◌++◌, length, OnOk, IfOk, IfErr, MatchOption};
 ghost use Rattle.ew_model.specs.declared.event.Event.{Event};
-ghost use Rattle.peer_words.specs.Batches.{BeginWith, batch_bytes};
+ghost use Rattle.peer_definitions.specs.Batches.{BeginWith, batch_bytes};
 ghost use Rattle.event_journal.specs.Disk.{StaysWithin};
 ghost use Rattle.event_journal.specs.Reading.{IsWhole, IsFirst, IsReading, FailsOnly};
 

@@ -18,9 +18,9 @@ use Rattle.ew_model.proofs.EditLaws.{edits_are_good}
 use Rattle.ew_model.proofs.EditNumbers.{count_of-push}
 use Rattle.ew_model.proofs.IdLaws.{names_equal}
 use Rattle.ew_model.proofs.SetLaws.{among_joined, joined_left, joined_right}
-use Rattle.peer_words.specs.Draws.{Drawn, draw_of, drawn_edit, next_state}
-use Rattle.peer_words.specs.Making.{Making, agent_of, edited, edited_peer, peer_at}
-use Rattle.peer_words.specs.Making.Made.{Going}
+use Rattle.peer_definitions.specs.Draws.{Drawn, draw_of, drawn_edit, next_state}
+use Rattle.peer_definitions.specs.Making.{Making, agent_of, edited, edited_peer, peer_at}
+use Rattle.peer_definitions.specs.Making.Made.{Going}
 use Rattle.generator.proofs.AgentHeads.{three_heads}
 use Rattle.generator.proofs.Drawing.{drawn_by, removes}
 use Rattle.generator.proofs.Editing.{one_event}

@@ -12,7 +12,7 @@ use Rattle.ew_model.specs.Verdicts.{IsGood}
 use Rattle.ew_model.proofs.CoverLaws.{event_of, held_by}
 use Rattle.ew_model.proofs.EditNumbers.{numbered, runs_on}
 use Rattle.ew_model.proofs.IdLaws.{is_same_id}
-use Rattle.peer_words.specs.Making.{agent_of}
+use Rattle.peer_definitions.specs.Making.{agent_of}
 
 -- the numbers that are held are those below the count
 pub below_count : (history : List Event) (x : Id) → IsGood history → is_held history x ≡ true → x.seq < count_of history x.agent

@@ -19,7 +19,7 @@ use Rattle.ew_model.proofs.PathOrder.{id_total}
 use Rattle.ew_model.proofs.SetLaws.{among_filter, among_map, joined_left, joined_right}
 use Rattle.ew_model.proofs.SortingLaws.{ties_filter}
 use Rattle.agreement.proofs.Apart.{apart_untied, no_more}
-use Rattle.peer_words.specs.Making.{agent_of}
+use Rattle.peer_definitions.specs.Making.{agent_of}
 use Rattle.generator.proofs.AgentCounts.{IsOfThree, below_count, from_count}
 
 -- a list parted at one of its events

@@ -9,7 +9,7 @@ use Rattle.ew_model.proofs.ListTests.{any_from, passes, pass_all, same_truth}
 use Rattle.ew_model.proofs.MergeSteps.{same_event}
 use Rattle.ew_model.proofs.SameEvents.{event_among}
 use Rattle.ew_model.specs.Kept.{ReplicaState}
-use Rattle.peer_words.specs.Making.{neighbours_agree, peer_at, same_events}
+use Rattle.peer_definitions.specs.Making.{neighbours_agree, peer_at, same_events}
 
 all_there : (xs ys : List Event) → ((z : Event) → Among z xs → Among z ys) → list_all (λ (x : Event). list_any (event_eq x) ys) xs ≡ true
 all_there xs ys there = pass_all (λ (x : Event). list_any (event_eq x) ys) xs (λ x m. any_from (event_eq x) ys x (there x m) (same_event x))

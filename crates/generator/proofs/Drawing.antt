@@ -6,7 +6,7 @@ use Rattle.ew_model.specs.declared.event.Op.{Op}
 use Rattle.ew_model.specs.declared.event.Op.TheVariants as op
 use Rattle.ew_model.specs.Edits.{ops_of}
 use Rattle.ew_model.specs.Edits.Edit.{Insert, Delete}
-use Rattle.peer_words.specs.Draws.{Drawn, draw_of, drawn_edit, letter, next_state}
+use Rattle.peer_definitions.specs.Draws.{Drawn, draw_of, drawn_edit, letter, next_state}
 
 pub wrapped : (x : ℕ) → ((x * 6364136223846793005) % 2 ^ 64 + 1442695040888963407) % 2 ^ 64 ≡ next_state x
 unfolding next_state

@@ -23,9 +23,9 @@ use Rattle.replica.specs.Answers.{EditsBy}
 use Rattle.replica.specs.declared.fault.EditFault.{EditFault}
 use Rattle.replica.specs.declared.fault.EditFault.TheVariants as fault
 use Rattle.generator.specs.Answers.{TellsStop}
-use Rattle.peer_words.specs.Draws.{Drawn, draw_of, drawn_edit, next_state}
-use Rattle.peer_words.specs.Making.{Made, Making, agent_of, drawn_step, edited, edited_peer, peer_at}
-use Rattle.peer_words.specs.Making.Made.{Going, Stopped}
+use Rattle.peer_definitions.specs.Draws.{Drawn, draw_of, drawn_edit, next_state}
+use Rattle.peer_definitions.specs.Making.{Made, Making, agent_of, drawn_step, edited, edited_peer, peer_at}
+use Rattle.peer_definitions.specs.Making.Made.{Going, Stopped}
 use Rattle.generator.specs.Owning.{ArePeers, IsOwned, NamesOwned}
 use Rattle.generator.proofs.Drawing.{one_op}
 use Rattle.generator.proofs.Growing.{held_more}

@@ -7,9 +7,9 @@ use Rattle.ew_model.specs.Limits.{LimitNumbers}
 use Rattle.ew_model.specs.Sets.{Among}
 use Rattle.ew_model.specs.Texts.{text_of}
 use Rattle.ew_model.specs.Verdicts.{IsGood}
-use Rattle.peer_words.specs.Draws.{draw_of, drawn_edit, next_state}
-use Rattle.peer_words.specs.Making.{Making, after_step, agent_of, agreement_line, drawn_step, edited_peer, gives, history_lines, made, made_steps, neighbours_agree, newcomer, next_step, peer_at, rounded_off, rounded_peers, same_events}
-use Rattle.peer_words.specs.Making.Made.{Going}
+use Rattle.peer_definitions.specs.Draws.{draw_of, drawn_edit, next_state}
+use Rattle.peer_definitions.specs.Making.{Making, after_step, agent_of, agreement_line, drawn_step, edited_peer, gives, history_lines, made, made_steps, neighbours_agree, newcomer, next_step, peer_at, rounded_off, rounded_peers, same_events}
+use Rattle.peer_definitions.specs.Making.Made.{Going}
 use Rattle.generator.proofs.Accepted.{edit_goes, edit_keeps}
 use Rattle.generator.proofs.Agreement.{agree_of_three, tells_same}
 use Rattle.generator.proofs.Makers.{AreMakers, IsAtHome, IsGiven, IsMaker, gift_made}

@@ -18,7 +18,7 @@ use Rattle.ew_model.proofs.IdLaws.{is_same_id, names_equal}
 use Rattle.ew_model.proofs.KeptLaws.{judgements_keep}
 use Rattle.ew_model.proofs.MergeSteps.{IsTakenIn}
 use Rattle.ew_model.proofs.SubgraphLaws.{one_event}
-use Rattle.peer_words.specs.Making.{agent_of, gives, peer_at, received_by}
+use Rattle.peer_definitions.specs.Making.{agent_of, gives, peer_at, received_by}
 use Rattle.generator.proofs.AgentCounts.{IsOfThree, count_less, count_within, length_by_agents}
 use Rattle.generator.proofs.Editing.{agents_apart}
 use Rattle.generator.proofs.Owned.{elsewhere, equal_or_not, here, within}

@@ -8,8 +8,8 @@ use Rattle.ew_model.specs.Ancestors.{is_held}
 use Rattle.ew_model.specs.Ids.{name_eq}
 use Rattle.ew_model.specs.Kept.{IsKept, ReplicaState}
 use Rattle.arrival_laws.specs.Repeats.{without_held}
-use Rattle.history_words.specs.Missing.{missing}
-use Rattle.history_words.specs.Summary.{summary_of}
+use Rattle.history_definitions.specs.Missing.{missing}
+use Rattle.history_definitions.specs.Summary.{summary_of}
 use Rattle.peer_exchange.proofs.Ascending.{ascending_distinct, summary_up}
 use Rattle.peer_exchange.proofs.MissingLaw.{missing_by_ids}
 

@@ -10,19 +10,19 @@ use Rattle.ew_model.specs.Kept.{ReplicaState}
 use Rattle.ew_model.specs.Limits.{AreLimits, LimitNumbers}
 use Rattle.ew_model.specs.Texts.{text_of}
 use Rattle.arrival_laws.proofs.Parts.{nothing_arrives, parts_are_the_whole}
-use Rattle.peer_words.specs.declared.net_step.NetStep.TheVariants as step
-use Rattle.peer_words.specs.Answering.{answer_to, event_frames}
-use Rattle.peer_words.specs.Pieces.{frame_room, pieces}
+use Rattle.peer_definitions.specs.declared.net_step.NetStep.TheVariants as step
+use Rattle.peer_definitions.specs.Answering.{answer_to, event_frames}
+use Rattle.peer_definitions.specs.Pieces.{frame_room, pieces}
 use Rattle.peer_exchange.proofs.PieceLaws.{frames_are_full}
-use Rattle.peer_words.specs.declared.frame.Frame.{Frame}
-use Rattle.peer_words.specs.declared.frame.Frame.TheVariants.{Events}
-use Rattle.peer_words.specs.Draws.{Drawn, draw_of, drawn_edit, next_state}
-use Rattle.peer_words.specs.Machine.{Network, Packet, deliver_step, delivery_of, edit_outcome, edit_step, net_step, print_before, put_replica, with_packet, with_peer, with_replies}
-use Rattle.peer_words.specs.Machine.Refusal.{NoPacket}
-use Rattle.peer_words.specs.Machine.StepOutcome.{Refused}
-use Rattle.peer_words.specs.Making.{Making, agent_of, drawn_step, edited, edited_peer, gives, peer_at, received_by}
-use Rattle.peer_words.specs.Making.Made.{Going}
-use Rattle.peer_words.specs.Runs.{after_steps, network_left}
+use Rattle.peer_definitions.specs.declared.frame.Frame.{Frame}
+use Rattle.peer_definitions.specs.declared.frame.Frame.TheVariants.{Events}
+use Rattle.peer_definitions.specs.Draws.{Drawn, draw_of, drawn_edit, next_state}
+use Rattle.peer_definitions.specs.Machine.{Network, Packet, deliver_step, delivery_of, edit_outcome, edit_step, net_step, print_before, put_replica, with_packet, with_peer, with_replies}
+use Rattle.peer_definitions.specs.Machine.Refusal.{NoPacket}
+use Rattle.peer_definitions.specs.Machine.StepOutcome.{Refused}
+use Rattle.peer_definitions.specs.Making.{Making, agent_of, drawn_step, edited, edited_peer, gives, peer_at, received_by}
+use Rattle.peer_definitions.specs.Making.Made.{Going}
+use Rattle.peer_definitions.specs.Runs.{after_steps, network_left}
 use Rattle.std.proofs.lemmas.Nat.{mod_below}
 use Rattle.generator.specs.Laws.{EditsAreSteps, GiftsArePushes, edit_by, net_of}
 use Rattle.generator.proofs.NetPeers.{named_peer, put_among, with_named}

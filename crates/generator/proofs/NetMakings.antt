@@ -15,14 +15,14 @@ use Rattle.ew_model.specs.Limits.{AreLimits, LimitNumbers}
 use Rattle.ew_model.specs.Names.{is_name}
 use Rattle.ew_model.specs.Texts.{text_of}
 use Rattle.ew_model.proofs.EntryLaws.{all_joined}
-use Rattle.peer_words.specs.declared.net_step.NetStep.{NetStep}
-use Rattle.peer_words.specs.declared.net_step.NetStep.TheVariants as step
-use Rattle.peer_words.specs.NetScripts.{IsSoundStep}
-use Rattle.peer_words.specs.Draws.{Drawn, draw_of, drawn_edit, letter, next_state}
-use Rattle.peer_words.specs.Machine.{Network, Packet, empty_network, net_step}
-use Rattle.peer_words.specs.Making.{Made, Making, after_step, agent_of, drawn_step, edited, edited_peer, gives, made, made_steps, newcomer, next_step, peer_at, received_by, rounded_off, rounded_peers}
-use Rattle.peer_words.specs.Making.Made.{Going, Stopped}
-use Rattle.peer_words.specs.Runs.{after_steps, network_left}
+use Rattle.peer_definitions.specs.declared.net_step.NetStep.{NetStep}
+use Rattle.peer_definitions.specs.declared.net_step.NetStep.TheVariants as step
+use Rattle.peer_definitions.specs.NetScripts.{IsSoundStep}
+use Rattle.peer_definitions.specs.Draws.{Drawn, draw_of, drawn_edit, letter, next_state}
+use Rattle.peer_definitions.specs.Machine.{Network, Packet, empty_network, net_step}
+use Rattle.peer_definitions.specs.Making.{Made, Making, after_step, agent_of, drawn_step, edited, edited_peer, gives, made, made_steps, newcomer, next_step, peer_at, received_by, rounded_off, rounded_peers}
+use Rattle.peer_definitions.specs.Making.Made.{Going, Stopped}
+use Rattle.peer_definitions.specs.Runs.{after_steps, network_left}
 use Rattle.ew_model.specs.Edits.{EditRefusal, edit_refusal}
 use Rattle.ew_model.specs.Arrival.{arrive}
 use Rattle.generator.specs.Laws.{AreMadeInNet, MakingsAreNets, edit_by, is_edit_or_gift, net_of, peers_come}

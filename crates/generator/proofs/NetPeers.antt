@@ -3,10 +3,10 @@ use Rattle.std.proofs.Common.{◌≡◌, ℕ, zero, suc, ◌<◌, List, [], ◌�
 use Rattle.std.specs.Option.{option_map_or}
 use Rattle.ew_model.specs.Kept.{ReplicaState}
 use Rattle.ew_model.specs.Limits.{LimitNumbers}
-use Rattle.peer_words.specs.Machine.{Packet, Peer, StepOutcome, peer_among, put_replica, with_peer}
-use Rattle.peer_words.specs.Machine.Refusal.{NoPeer}
-use Rattle.peer_words.specs.Machine.StepOutcome.{Refused}
-use Rattle.peer_words.specs.Making.{agent_of, peer_at}
+use Rattle.peer_definitions.specs.Machine.{Packet, Peer, StepOutcome, peer_among, put_replica, with_peer}
+use Rattle.peer_definitions.specs.Machine.Refusal.{NoPeer}
+use Rattle.peer_definitions.specs.Machine.StepOutcome.{Refused}
+use Rattle.peer_definitions.specs.Making.{agent_of, peer_at}
 use Rattle.generator.specs.Laws.{named_from, net_of}
 
 -- the peer of a number in a net

@@ -7,8 +7,8 @@ use Rattle.ew_model.specs.Limits.{LimitNumbers}
 use Rattle.replica.specs.declared.fault.EditFault.{EditFault}
 use Rattle.replica.specs.declared.fault.EditFault.TheVariants as fault
 use Rattle.generator.specs.Answers.{TellsStop}
-use Rattle.peer_words.specs.Making.{Made, Making, after_step, drawn_step, gives, made, made_steps, newcomer, next_step, peer_at, rounded_off, rounded_peers}
-use Rattle.peer_words.specs.Making.Made.{Going, Stopped}
+use Rattle.peer_definitions.specs.Making.{Made, Making, after_step, drawn_step, gives, made, made_steps, newcomer, next_step, peer_at, rounded_off, rounded_peers}
+use Rattle.peer_definitions.specs.Making.Made.{Going, Stopped}
 use Rattle.generator.specs.Owning.{ArePeers, HasOwned}
 use Rattle.generator.proofs.Editing.{no_memory}
 

@@ -8,9 +8,9 @@ use Rattle.ew_model.specs.Limits.{LimitNumbers}
 use Rattle.ew_model.specs.Rounds.{most_touches}
 use Rattle.arrival_laws.specs.Repeats.{without_held}
 use Rattle.arrival_laws.proofs.Repeats.{held_events_change_nothing}
-use Rattle.peer_words.specs.Making.{Made, drawn_step, gives, peer_at}
-use Rattle.peer_words.specs.Making.Made.{Going}
-use Rattle.peer_words.specs.Touches.{end_touches, gift_touches, made_touches, rounding_touches, step_touches, steps_touches, turn_touches}
+use Rattle.peer_definitions.specs.Making.{Made, drawn_step, gives, peer_at}
+use Rattle.peer_definitions.specs.Making.Made.{Going}
+use Rattle.peer_definitions.specs.Touches.{end_touches, gift_touches, made_touches, rounding_touches, step_touches, steps_touches, turn_touches}
 use Rattle.generator.specs.Owning.{ArePeers}
 use Rattle.generator.proofs.Steps.{HaveMade, made_between, made_turn}
 

@@ -4,8 +4,8 @@ use Rattle.std.specs.Global.{Vec}
 use Rattle.replica.specs.Answers.{refusal_of}
 use Rattle.replica.specs.declared.fault.EditFault.{EditFault}
 use Rattle.replica.specs.declared.fault.EditFault.TheVariants.{OutOfMemory}
-use Rattle.peer_words.specs.Making.{Made, printed}
-use Rattle.peer_words.specs.Making.Made.{Going, Stopped}
+use Rattle.peer_definitions.specs.Making.{Made, printed}
+use Rattle.peer_definitions.specs.Making.Made.{Going, Stopped}
 
 -- an edit was refused, for the reason that the fault tells; want of memory tells none
 abbrev pub TellsStop : Made → EditFault → Type 0

@@ -5,13 +5,13 @@ use Rattle.ew_model.specs.Edits.{Edit}
 use Rattle.ew_model.specs.Edits.Edit.{Insert, Delete}
 use Rattle.ew_model.specs.Kept.{ReplicaState}
 use Rattle.ew_model.specs.Limits.{AreLimits, LimitNumbers}
-use Rattle.peer_words.specs.declared.net_step.NetStep.{NetStep}
-use Rattle.peer_words.specs.declared.net_step.NetStep.TheVariants as step
-use Rattle.peer_words.specs.NetScripts.{IsSoundStep}
-use Rattle.peer_words.specs.Machine.{Network, Packet, Peer, empty_network, net_step}
-use Rattle.peer_words.specs.Making.{Making, agent_of, drawn_step, gives, history_lines, made, peer_at, printed}
-use Rattle.peer_words.specs.Making.Made.{Going}
-use Rattle.peer_words.specs.Runs.{after_steps, network_left}
+use Rattle.peer_definitions.specs.declared.net_step.NetStep.{NetStep}
+use Rattle.peer_definitions.specs.declared.net_step.NetStep.TheVariants as step
+use Rattle.peer_definitions.specs.NetScripts.{IsSoundStep}
+use Rattle.peer_definitions.specs.Machine.{Network, Packet, Peer, empty_network, net_step}
+use Rattle.peer_definitions.specs.Making.{Making, agent_of, drawn_step, gives, history_lines, made, peer_at, printed}
+use Rattle.peer_definitions.specs.Making.Made.{Going}
+use Rattle.peer_definitions.specs.Runs.{after_steps, network_left}
 
 -- Where no more edits are made than a history may have events, none is refused, and what is printed ends with `agree yes`.
 abbrev pub MadePeersAgree : Type 0

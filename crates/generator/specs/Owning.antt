@@ -8,7 +8,7 @@ use Rattle.ew_model.specs.Ancestors.{is_held}
 use Rattle.ew_model.specs.ArrivalLaw.{NoneReady}
 use Rattle.ew_model.specs.Ids.{name_eq}
 use Rattle.ew_model.specs.Kept.{ReplicaState}
-use Rattle.peer_words.specs.Making.{agent_of, peer_at}
+use Rattle.peer_definitions.specs.Making.{agent_of, peer_at}
 
 -- an id of a peer's agent is held by that peer
 abbrev pub IsOwned : List ReplicaState → Id → Type 0

@@ -1,7 +1,7 @@
 //! Drawn numbers.
 
 ghost use Rattle.std.specs.Prelude.{◌≡◌, ◌<◌, ◌^◌};
-ghost use Rattle.peer_words.specs.Draws.{draw_of, next_state};
+ghost use Rattle.peer_definitions.specs.Draws.{draw_of, next_state};
 
 const FACTOR: u64 = 6364136223846793005;
 

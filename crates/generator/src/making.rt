@@ -2,10 +2,10 @@
 
 ghost use Rattle.std.specs.Prelude.{◌≡◌, ◌≤◌, ◌+◌, ◌%◌, OnOk};
 ghost use Rattle.generator.specs.Answers.{Makes};
-ghost use Rattle.peer_words.specs.Making as model;
-ghost use Rattle.peer_words.specs.Making.{gives, rounded_peers};
+ghost use Rattle.peer_definitions.specs.Making as model;
+ghost use Rattle.peer_definitions.specs.Making.{gives, rounded_peers};
 ghost use Rattle.generator.specs.Owning.{ArePeers};
-ghost use Rattle.peer_words.specs.Touches.{gift_touches, made_touches, rounding_touches};
+ghost use Rattle.peer_definitions.specs.Touches.{gift_touches, made_touches, rounding_touches};
 
 use crate::draws::Draws;
 use crate::peers::Peers;

@@ -7,12 +7,12 @@ ghost use Rattle.ew_model.specs.Texts.{text_of};
 ghost use Rattle.arrival_laws.specs.Repeats.{without_held};
 ghost use Rattle.replica.specs.Answers.{EditsBy};
 ghost use Rattle.generator.specs.Answers.{TellsStop};
-ghost use Rattle.peer_words.specs.Draws.{drawn_edit, letter};
-ghost use Rattle.peer_words.specs.Making as model;
-ghost use Rattle.peer_words.specs.Making.{neighbours_agree, drawn_step, gives, newcomer, peer_at};
-ghost use Rattle.peer_words.specs.Making.Made.{Going};
+ghost use Rattle.peer_definitions.specs.Draws.{drawn_edit, letter};
+ghost use Rattle.peer_definitions.specs.Making as model;
+ghost use Rattle.peer_definitions.specs.Making.{neighbours_agree, drawn_step, gives, newcomer, peer_at};
+ghost use Rattle.peer_definitions.specs.Making.Made.{Going};
 ghost use Rattle.generator.specs.Owning.{ArePeers};
-ghost use Rattle.peer_words.specs.Touches.{gift_touches};
+ghost use Rattle.peer_definitions.specs.Touches.{gift_touches};
 
 use crate::draws::Draws;
 use ew_model::NoMem;

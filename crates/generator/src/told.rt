@@ -2,7 +2,7 @@
 
 ghost use Rattle.std.specs.Prelude.{◌≡◌, IfOk};
 ghost use Rattle.ew_model.specs.Texts.{text_of};
-ghost use Rattle.peer_words.specs.Making.{digest_line, history_lines, printed};
+ghost use Rattle.peer_definitions.specs.Making.{digest_line, history_lines, printed};
 ghost use Rattle.generator.specs.Owning.{ArePeers};
 
 use crate::peers::Peers;
@@ -29,7 +29,7 @@ pub fn told(alloc: Global, peers: &Peers) -> Result<Vec<u8>, NoMem>
 }
 
 /// The numbers of a history, and the digest of its text.
-#[tactic(auto, unfolding(peer_words::specs::Making::history_lines))]
+#[tactic(auto, unfolding(peer_definitions::specs::Making::history_lines))]
 fn history_lines(alloc: Global, replica: &Replica) -> Result<Vec<u8>, NoMem>
     ensures { IfOk result (λ text. text.items ≡ history_lines replica.now.held) }
 {

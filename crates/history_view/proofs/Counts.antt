@@ -13,8 +13,8 @@ use Rattle.ew_model.specs.Graph.{passing_to}
 use Rattle.ew_model.specs.Ids.{id_cmp}
 use Rattle.ew_model.specs.Sorting.{sort_by}
 use Rattle.ew_model.proofs.SortingLaws.{length-sort}
-use Rattle.history_words.specs.Agents as table
-use Rattle.history_words.specs.Summary.{summary_of}
+use Rattle.history_definitions.specs.Agents as table
+use Rattle.history_definitions.specs.Summary.{summary_of}
 use Rattle.ew_model.proofs.FileEvents.{few_agents}
 use Rattle.replica.proofs.HeadLaws.{few_heads}
 

@@ -9,8 +9,8 @@ use Rattle.ew_model.specs.Sound.{IsSound, IsSoundOp}
 use Rattle.ew_model.proofs.Decimals.{decimal_lacks, decimal_once}
 use Rattle.ew_model.proofs.EscapedText.{escaped_same}
 use Rattle.ew_model.proofs.LineLaws.{cut_once, never_cut}
-use Rattle.history_words.proofs.IdTexts.{id_lacks_space, id_once, version_once, version_lacks_space}
-use Rattle.history_words.specs.Listings.{event_line, log_text, op_words}
+use Rattle.history_definitions.proofs.IdTexts.{id_lacks_space, id_once, version_once, version_lacks_space}
+use Rattle.history_definitions.specs.Listings.{event_line, log_text, op_words}
 use Rattle.history_view.specs.LogLaw.{LogsDiffer}
 
 pub same_heads : {a b : ℕ} {xs ys : List ℕ} → a ∷ xs ≡ b ∷ ys → a ≡ b

@@ -1,7 +1,7 @@
 -- A log, one line after another.
 use Rattle.std.proofs.Common.{◌≡◌, ℕ, zero, suc, ◌+◌, List, [], ◌∷◌, ◌++◌, take, Some, None, slice_get, sym, ap, ◌∙◌, append_assoc, append-nil, add-one}
 use Rattle.ew_model.specs.declared.event.Event.{Event}
-use Rattle.history_words.specs.Listings.{event_line, log_text}
+use Rattle.history_definitions.specs.Listings.{event_line, log_text}
 
 none_is_some : (e : Event) → None ≡ Some e → ⊥
 none_is_some e same = cc

@@ -4,7 +4,7 @@ use Rattle.ew_model.specs.declared.event.Op.{Op}
 use Rattle.ew_model.specs.declared.event.Op.TheVariants.{Ins, Del}
 use Rattle.ew_model.specs.declared.event.Event.{Event}
 use Rattle.ew_model.specs.Scripts.{id_text, spaced, version_text}
-use Rattle.history_words.specs.Listings.{event_line, op_words}
+use Rattle.history_definitions.specs.Listings.{event_line, op_words}
 
 -- three words, joined word by word
 three_words : (i v o : List ℕ) → i ++ 32 ∷ (v ++ 32 ∷ o) ≡ i ++ codes " " ++ v ++ codes " " ++ o

@@ -10,7 +10,7 @@ use Rattle.ew_model.specs.TextLaws.{AllFit, own_change}
 use Rattle.ew_model.proofs.FitLaw.{operations_fit}
 use Rattle.ew_model.proofs.GoodLaws.{operations_make_text}
 use Rattle.ew_model.proofs.TextLengths.{length_changed, length_operations}
-use Rattle.history_words.specs.Replays.{change_words, change_line, change_lines}
+use Rattle.history_definitions.specs.Replays.{change_words, change_line, change_lines}
 use Rattle.history_view.specs.ReplayLaw.{HasSmallIndex, ReplaysMakeText}
 use Rattle.history_view.proofs.LogReading.{op_once, same_heads}
 

@@ -7,7 +7,7 @@ use Rattle.ew_model.specs.declared.text_op.TextOp.TheVariants.{Ins, Del, Nothing
 use Rattle.ew_model.specs.Operations.{operations, changed_by_all}
 use Rattle.ew_model.specs.Texts.{text_of}
 use Rattle.ew_model.specs.Verdicts.{IsGood}
-use Rattle.history_words.specs.Replays.{change_lines, replay_text}
+use Rattle.history_definitions.specs.Replays.{change_lines, replay_text}
 
 -- an index of 32 bits
 abbrev pub HasSmallIndex : TextOp → Type 0

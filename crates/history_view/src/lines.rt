@@ -2,15 +2,15 @@
 
 ghost use Rattle.std.specs.Prelude.{◌≡◌, [], ◌++◌, ◌∷◌, OnOk, OnErr, codes, decimal};
 ghost use Rattle.ew_model.specs.Scripts.{escaped_char, id_text, spaced, version_text};
-ghost use Rattle.history_words.specs.Listings.{event_line, id_line, number_line, op_words};
-ghost use Rattle.history_words.specs.Replays.{change_line, change_words};
+ghost use Rattle.history_definitions.specs.Listings.{event_line, id_line, number_line, op_words};
+ghost use Rattle.history_definitions.specs.Replays.{change_line, change_words};
 
-use event_words::print::{print_char, print_id, print_version};
 use ew_model::NoMem;
 use ew_model::event::{Event, Op};
 use ew_model::id::Id;
 use ew_model::text_op::TextOp;
 use itoa::Buffer;
+use script_reader::print::{print_char, print_id, print_version};
 
 /// Writes the line of an event: its id, its parents, its operation.
 pub fn push_event(out: &mut Vec<u8>, event: &Event) -> Result<(), NoMem>

@@ -4,7 +4,7 @@ ghost use Rattle.std.specs.Prelude.{◌≡◌, ◌≤◌, ◌++◌, IfOk, OnOk, 
 ghost use Rattle.ew_model.specs.Ancestors.{heads};
 ghost use Rattle.ew_model.specs.Cuts.{cuts_of};
 ghost use Rattle.ew_model.specs.File.{agents_of};
-ghost use Rattle.history_words.specs.Listings as model;
+ghost use Rattle.history_definitions.specs.Listings as model;
 
 use crate::lines::{push_event, push_id, push_number};
 use event_graph::{Graph, Near};

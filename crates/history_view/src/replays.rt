@@ -2,7 +2,7 @@
 
 ghost use Rattle.std.specs.Prelude.{◌≡◌, ◌+◌, ◌≤◌, IfOk};
 ghost use Rattle.ew_model.specs.Touches.{touches};
-ghost use Rattle.history_words.specs.Replays as model;
+ghost use Rattle.history_definitions.specs.Replays as model;
 
 use crate::lines::push_change;
 use ew_model::NoMem;

@@ -5,10 +5,10 @@ use Rattle.std.specs.declared.alloc.AllocError.{AllocError}
 use Rattle.ew_model.specs.Limits.{LimitNumbers}
 use Rattle.ew_model.specs.Scripts.{Numbered, LinesMean, lines_of}
 use Rattle.ew_model.proofs.LineLaws.{all_readable, first_unreadable_once, lines_mean_once}
-use Rattle.peer_words.specs.declared.net_step.NetStep.{NetStep}
-use Rattle.peer_words.specs.NetScripts.{IsNetScript, IsFirstBadNetLine, MeansStep, numbered_steps}
-use Rattle.peer_words.specs.Runs.{net_run}
-use Rattle.peer_words.specs.Machine.{empty_network}
+use Rattle.peer_definitions.specs.declared.net_step.NetStep.{NetStep}
+use Rattle.peer_definitions.specs.NetScripts.{IsNetScript, IsFirstBadNetLine, MeansStep, numbered_steps}
+use Rattle.peer_definitions.specs.Runs.{net_run}
+use Rattle.peer_definitions.specs.Machine.{empty_network}
 use Rattle.command_table.specs.Scripts.{NetReading, net_script, bad_net_line, MeansNet}
 use Rattle.command_table.specs.Table.{refuses, net_run_reply, net_script_reply}
 use Rattle.command_table.specs.Refusals.{unreadable}

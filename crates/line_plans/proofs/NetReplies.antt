@@ -3,13 +3,13 @@ use Rattle.std.proofs.Common.{◌≡◌, ◌≤◌, ◌∙◌, inr, ℕ, List, l
 use Rattle.std.specs.declared.alloc.AllocError.{AllocError}
 use Rattle.ew_model.specs.FileLaws.{AreBytes}
 use Rattle.ew_model.specs.Limits.{LimitNumbers}
-use Rattle.peer_words.specs.declared.net_step.NetStep.{NetStep}
+use Rattle.peer_definitions.specs.declared.net_step.NetStep.{NetStep}
 use Rattle.net_core.specs.declared.fault.NetFault.{NetFault}
 use Rattle.net_core.specs.declared.fault.NetFault.TheVariants as fault
 use Rattle.net_core.specs.Answers.{RunsTo, refusal_told}
-use Rattle.peer_words.specs.Runs.{net_run}
-use Rattle.peer_words.specs.Runs.RunOutcome.{Broke}
-use Rattle.peer_words.specs.Machine.{Refusal, empty_network}
+use Rattle.peer_definitions.specs.Runs.{net_run}
+use Rattle.peer_definitions.specs.Runs.RunOutcome.{Broke}
+use Rattle.peer_definitions.specs.Machine.{Refusal, empty_network}
 use Rattle.command_table.specs.Possible.{MayNet}
 use Rattle.command_table.specs.Table.{net_refusal, net_run_reply}
 use Rattle.opened_files.specs.declared.reply.Reply as code

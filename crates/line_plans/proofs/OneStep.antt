@@ -10,10 +10,10 @@ use Rattle.ew_model.proofs.Decimals.{digits_value_is}
 use Rattle.ew_model.proofs.EscapedText.{escaped_once}
 use Rattle.ew_model.proofs.LineLaws.{Lacks}
 use Rattle.ew_model.proofs.ScriptReading.{decimal_lacks_space}
-use Rattle.history_words.proofs.IdTexts.{name_lacks}
-use Rattle.peer_words.specs.declared.net_step.NetStep.{NetStep}
-use Rattle.peer_words.specs.declared.net_step.NetStep.TheVariants.{Peer, Ins, Del, Push, Send, Ask, Deliver, Restart, Show, Agree}
-use Rattle.peer_words.specs.NetScripts.{IsSoundStep, MeansStep, net_line}
+use Rattle.history_definitions.proofs.IdTexts.{name_lacks}
+use Rattle.peer_definitions.specs.declared.net_step.NetStep.{NetStep}
+use Rattle.peer_definitions.specs.declared.net_step.NetStep.TheVariants.{Peer, Ins, Del, Push, Send, Ask, Deliver, Restart, Show, Agree}
+use Rattle.peer_definitions.specs.NetScripts.{IsSoundStep, MeansStep, net_line}
 
 -- what stands before the first space, and what behind it
 abbrev first : List ℕ → List ℕ

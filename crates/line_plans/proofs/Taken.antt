@@ -14,8 +14,8 @@ use Rattle.arrival_laws.specs.Repeats.{AreAnsweredAlike, LeaveTheSame, without_h
 use Rattle.arrival_laws.proofs.Answered.{each_swapped, held_events_are_repeats}
 use Rattle.arrival_laws.proofs.LastAnswers.{few_repeats}
 use Rattle.arrival_laws.proofs.Repeats.{held_events_change_nothing}
-use Rattle.history_words.specs.Missing.{missing}
-use Rattle.history_words.specs.Summary.{summary_of}
+use Rattle.history_definitions.specs.Missing.{missing}
+use Rattle.history_definitions.specs.Summary.{summary_of}
 use Rattle.generator.proofs.Missing.{lacking, no_more}
 use Rattle.replica.specs.declared.took.Took.{Took}
 use Rattle.replica.specs.Receiving.{Receives}

@@ -1,7 +1,7 @@
 //! The command that edits a file by a script.
 ghost use Rattle.std.specs.Prelude.{◌≡◌, ◌≢◌, ◌<◌, ◌+◌, ◌^◌, [], length, IfOk, IfSome};
 ghost use Rattle.ew_model.specs.FileLaws.{AreBytes};
-ghost use Rattle.event_words.specs.Meaning.{edit_meant, numbered_edits};
+ghost use Rattle.script_reader.specs.Meaning.{edit_meant, numbered_edits};
 ghost use Rattle.replica.specs.Answers.{EditsBy};
 ghost use Rattle.line_plans.specs.Edits.{EditsTo, LineRefuses, MayScript, PlansInput, PlansScript, edits_reply};
 ghost use Rattle.command_table.specs.Reads.{IfRefused, LeavesInput, TakesAtMost};
@@ -18,8 +18,6 @@ ghost use Rattle.ew_model.specs.Limits.{most_file_bytes};
 use crate::input::{Input, read_input};
 use command_texts::refusal::Refusal;
 use command_texts::texts::made_text;
-use event_words::edit::Edit;
-use event_words::script::{ScriptFault, read_script};
 use ew_model::limits::Limits;
 use ew_model::name::Name;
 use ew_model::steps::Steps;
@@ -28,6 +26,8 @@ use opened_files::open::{Found, open};
 use opened_files::reply::Reply;
 use opened_files::store::store_reply;
 use replica::{EditFault, Replica};
+use script_reader::edit::Edit;
+use script_reader::script::{ScriptFault, read_script};
 use std::alloc::{AllocError, Global};
 use std::sync::ledger::Ledger;
 

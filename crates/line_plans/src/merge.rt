@@ -11,7 +11,7 @@ ghost use Rattle.command_table.specs.Table as table;
 ghost use Rattle.ew_model.specs.Limits.{most_file_bytes};
 ghost use Rattle.ew_model.specs.Rounds.{most_touches};
 ghost use Rattle.opened_files.specs.Touches.{TouchesAtMost, file_touches, merge_touches, touches_over};
-ghost use Rattle.peer_words.specs.Answering as answering;
+ghost use Rattle.peer_definitions.specs.Answering as answering;
 ghost use Rattle.opened_files.specs.Views.{IsTakenReply, LoadsDone, LostBy, MissesBy, ShelfCauses, reply_view, reply_status};
 ghost use Rattle.command_table.specs.Reads.{CountsLoads, LoadsFront};
 ghost use Rattle.ew_outside.specs.Counts.{Asks, AsksAtMost, next};

@@ -7,23 +7,23 @@ ghost use Rattle.command_table.specs.Table as table;
 ghost use Rattle.command_table.specs.Table.{net_run_reply};
 ghost use Rattle.ew_outside.specs.Counts.{RisesOnceAtMost};
 ghost use Rattle.line_plans.specs.Sources.{ReadsAll, SourceCauses};
-ghost use Rattle.peer_words.specs.Runs.{net_run};
-ghost use Rattle.peer_words.specs.Machine.{empty_network};
+ghost use Rattle.peer_definitions.specs.Runs.{net_run};
+ghost use Rattle.peer_definitions.specs.Machine.{empty_network};
 ghost use Rattle.line_plans.specs.Nets.{StepRefuses, MayNetScript, PlansNetInput, PlansNetScript};
 ghost use Rattle.opened_files.specs.Views.{IsTakenReply, reply_view};
 
 use crate::edit::refuse_line;
 use crate::input::{Input, read_input};
 use command_texts::refusal::Refusal;
-use event_words::net::script::read_net;
-use event_words::net::step::NetStep;
-use event_words::script::ScriptFault;
 use ew_model::limits::Limits;
 use ew_model::steps::Steps;
 use ew_outside::{Fault, Source};
 use net_core::{NetFault, run_script};
 use opened_files::reply::Reply;
 use replica::EditFault;
+use script_reader::net::script::read_net;
+use script_reader::net::step::NetStep;
+use script_reader::script::ScriptFault;
 use std::alloc::{AllocError, Global};
 use std::sync::ledger::Ledger;
 

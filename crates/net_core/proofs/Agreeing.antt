@@ -14,7 +14,7 @@ use Rattle.ew_model.proofs.MergeSteps.{same_event}
 use Rattle.ew_model.proofs.OperationLaws.{got}
 use Rattle.ew_model.proofs.SameEvents.{event_among}
 use Rattle.ew_model.proofs.SortingLaws.{all_at}
-use Rattle.peer_words.specs.Machine.{Peer, all_agree, are_held_by}
+use Rattle.peer_definitions.specs.Machine.{Peer, all_agree, are_held_by}
 
 -- the test of lists is their inclusion
 held_by : (xs ys : List Event) → are_held_by xs ys ≡ true → (e : Event) → Among e xs → Among e ys

@@ -12,16 +12,16 @@ use Rattle.ew_model.proofs.ListParts.{element_there}
 use Rattle.ew_model.proofs.SameEvents.{event_among}
 use Rattle.ew_model.proofs.SetLaws.{among_filter, among_joined, filter_among}
 use Rattle.ew_model.proofs.SortingLaws.{all_at, all_from}
-use Rattle.history_words.specs.Missing.{missing}
-use Rattle.history_words.specs.Summary.{summary_of}
-use Rattle.peer_words.specs.declared.net_step.NetStep.TheVariants as step
-use Rattle.peer_words.specs.Answering.{event_frames, question}
+use Rattle.history_definitions.specs.Missing.{missing}
+use Rattle.history_definitions.specs.Summary.{summary_of}
+use Rattle.peer_definitions.specs.declared.net_step.NetStep.TheVariants as step
+use Rattle.peer_definitions.specs.Answering.{event_frames, question}
 use Rattle.peer_exchange.specs.Laws.{unheld}
 use Rattle.peer_exchange.proofs.MissingLaw.{missing_are_unheld}
-use Rattle.peer_words.specs.declared.frame.Frame.TheVariants as frame
+use Rattle.peer_definitions.specs.declared.frame.Frame.TheVariants as frame
 use Rattle.net_core.specs.Keeping.{IsHome}
 use Rattle.net_core.specs.Laws.{AnswersArrive, network_left}
-use Rattle.peer_words.specs.Machine.{Network, Packet, Peer, peer_of, with_packet, with_peer}
+use Rattle.peer_definitions.specs.Machine.{Network, Packet, Peer, peer_of, with_packet, with_peer}
 use Rattle.net_core.proofs.Editing.{replica_of}
 use Rattle.net_core.proofs.Following.{Follows, IsGrown, peer_did, step_follows, steps_follow, then_follows}
 use Rattle.net_core.proofs.Homes.{one_home}

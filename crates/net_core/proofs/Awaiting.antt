@@ -15,7 +15,7 @@ use Rattle.ew_model.proofs.ListTests.{any_from, found_by}
 use Rattle.ew_model.proofs.RulingLaws.{good_parents}
 use Rattle.ew_model.proofs.SortingLaws.{all_at}
 use Rattle.net_core.specs.Keeping.{IsHome, IsReplica}
-use Rattle.peer_words.specs.Machine.{Peer, peer_among}
+use Rattle.peer_definitions.specs.Machine.{Peer, peer_among}
 use Rattle.net_core.proofs.Puts.{peer_there}
 
 neither_held : (b : Bool) → not b ≡ true → b ≡ true → ⊥

@@ -6,14 +6,14 @@ use Rattle.std.proofs.lemmas.List.{length-append}
 use Rattle.ew_model.specs.Edits as edits
 use Rattle.ew_model.specs.Edits.{Edit, EditRefusal, edit_refusal}
 use Rattle.ew_model.specs.Kept.{ReplicaState}
-use Rattle.peer_words.specs.declared.net_step.NetStep.{NetStep}
-use Rattle.peer_words.specs.declared.net_step.NetStep.TheVariants as step
-use Rattle.peer_words.specs.Answering.{event_frames, question}
-use Rattle.peer_words.specs.declared.frame.Frame.{Frame}
+use Rattle.peer_definitions.specs.declared.net_step.NetStep.{NetStep}
+use Rattle.peer_definitions.specs.declared.net_step.NetStep.TheVariants as step
+use Rattle.peer_definitions.specs.Answering.{event_frames, question}
+use Rattle.peer_definitions.specs.declared.frame.Frame.{Frame}
 use Rattle.net_core.specs.Laws.{network_left}
-use Rattle.peer_words.specs.Machine.{Network, Packet, Peer, deliver_step, delivery_of, edit_outcome, net_step, peer_of, peer_step, piece_of, print_before, put_replica, restart_outcome, with_packet, with_peer, with_replies}
-use Rattle.peer_words.specs.Machine.Refusal.{NoPacket}
-use Rattle.peer_words.specs.Machine.StepOutcome.{Refused}
+use Rattle.peer_definitions.specs.Machine.{Network, Packet, Peer, deliver_step, delivery_of, edit_outcome, net_step, peer_of, peer_step, piece_of, print_before, put_replica, restart_outcome, with_packet, with_peer, with_replies}
+use Rattle.peer_definitions.specs.Machine.Refusal.{NoPacket}
+use Rattle.peer_definitions.specs.Machine.StepOutcome.{Refused}
 use Rattle.net_core.proofs.Following.{peer_did}
 
 module _ (network new : Network) where

@@ -8,18 +8,18 @@ use Rattle.std.proofs.lemmas.Bool.{cases_Bool, cond-true, cond-false}
 use Rattle.ew_model.specs.Kept.{ReplicaState}
 use Rattle.ew_model.specs.Limits.{LimitNumbers}
 use Rattle.ew_model.proofs.SortingLaws.{all_at}
-use Rattle.peer_words.specs.declared.net_step.NetStep.TheVariants as step
+use Rattle.peer_definitions.specs.declared.net_step.NetStep.TheVariants as step
 use Rattle.peer_frames.specs.Laws.{IsTaken}
-use Rattle.peer_words.specs.declared.frame.Frame.{Frame}
+use Rattle.peer_definitions.specs.declared.frame.Frame.{Frame}
 use Rattle.net_core.specs.declared.fault.NetFault.{NetFault}
 use Rattle.net_core.specs.declared.fault.NetFault.TheVariants as fault
 use Rattle.net_core.specs.Answers.{IsLeftAt, IsLeftIn, StepsTo, refusal_told, told_bytes}
 use Rattle.net_core.specs.Handing.{IsNotHanded}
 use Rattle.net_core.specs.Keeping.{IsPacket, IsReached}
 use Rattle.net_core.specs.Laws.{NoneClashes}
-use Rattle.peer_words.specs.Machine.{Network, Packet, Peer, deliver_step, delivery_of, net_step, peer_of, print_before, put_replica, with_packet, with_replies}
-use Rattle.peer_words.specs.Machine.Refusal.{NoPacket, NoPeer}
-use Rattle.peer_words.specs.Machine.StepOutcome.{Refused, Stepped}
+use Rattle.peer_definitions.specs.Machine.{Network, Packet, Peer, deliver_step, delivery_of, net_step, peer_of, print_before, put_replica, with_packet, with_replies}
+use Rattle.peer_definitions.specs.Machine.Refusal.{NoPacket, NoPeer}
+use Rattle.peer_definitions.specs.Machine.StepOutcome.{Refused, Stepped}
 use Rattle.net_core.proofs.Editing.{replica_of}
 use Rattle.ew_model.proofs.OperationLaws.{got}
 use Rattle.net_core.proofs.Packets.{deliver_is, delivered_homely, frames_apart, frames_taken, left_all, left_homely, left_none, left_some, no_packet, replies_are, with_some}

@@ -15,19 +15,19 @@ use Rattle.ew_model.proofs.EntryLaws.{all_joined}
 use Rattle.ew_model.proofs.LimitsKept.{arrivals_keep, judgements_keep_limits}
 use Rattle.ew_model.proofs.SortingLaws.{all_at, all_filter, all_from}
 use Rattle.event_graph.proofs.Tails.{all_first}
-use Rattle.history_words.specs.Missing.{count_in, missing}
-use Rattle.history_words.specs.Tallies.{refused_in}
+use Rattle.history_definitions.specs.Missing.{count_in, missing}
+use Rattle.history_definitions.specs.Tallies.{refused_in}
 use Rattle.peer_exchange.specs.Replies.{IsLeftBy}
-use Rattle.peer_words.specs.Answering.{answer_to, event_frames, first_clash, frame_for, took_of}
-use Rattle.peer_words.specs.Pieces.{frame_room, pieces_from}
+use Rattle.peer_definitions.specs.Answering.{answer_to, event_frames, first_clash, frame_for, took_of}
+use Rattle.peer_definitions.specs.Pieces.{frame_room, pieces_from}
 use Rattle.peer_exchange.proofs.Lengths.{all_drop, few_after}
-use Rattle.peer_words.specs.declared.frame.Frame.{Frame}
-use Rattle.peer_words.specs.declared.frame.Frame.TheVariants.{Have, Events, Done, Took, Clash, Bye}
-use Rattle.peer_words.specs.declared.frame.Frame.TheVariants as frame
+use Rattle.peer_definitions.specs.declared.frame.Frame.{Frame}
+use Rattle.peer_definitions.specs.declared.frame.Frame.TheVariants.{Have, Events, Done, Took, Clash, Bye}
+use Rattle.peer_definitions.specs.declared.frame.Frame.TheVariants as frame
 use Rattle.net_core.specs.Answers.{IsLeftIn}
 use Rattle.net_core.specs.Keeping.{IsHome, IsReplica}
 use Rattle.net_core.specs.Laws.{IsRoomRefusal, NoneClashes, answers_in, answers_to, is_clash}
-use Rattle.peer_words.specs.Machine.{Peer, delivery_of}
+use Rattle.peer_definitions.specs.Machine.{Peer, delivery_of}
 use Rattle.net_core.proofs.Arrivals.{AreTurns, arrival, turns}
 use Rattle.net_core.proofs.Arriving.{IsFrom}
 use Rattle.net_core.proofs.Homes.{one_home, was_home}

@@ -6,15 +6,15 @@ use Rattle.ew_model.specs.declared.event.Event.{Event}
 use Rattle.ew_model.specs.Arrival.{Answer, arrive}
 use Rattle.ew_model.specs.Cuts.{latest_cut}
 use Rattle.ew_model.specs.Kept.{ReplicaState}
-use Rattle.history_words.specs.Missing.{missing}
-use Rattle.peer_words.specs.Answering.{answer_to, frame_for, took_of}
-use Rattle.peer_words.specs.Pieces.{frame_room, pieces_from}
-use Rattle.peer_words.specs.declared.frame.Frame.{Frame}
-use Rattle.peer_words.specs.declared.frame.Frame.TheVariants.{Have, Events, Done, Took, Clash, Bye}
-use Rattle.peer_words.specs.declared.frame.Frame.TheVariants as frame
+use Rattle.history_definitions.specs.Missing.{missing}
+use Rattle.peer_definitions.specs.Answering.{answer_to, frame_for, took_of}
+use Rattle.peer_definitions.specs.Pieces.{frame_room, pieces_from}
+use Rattle.peer_definitions.specs.declared.frame.Frame.{Frame}
+use Rattle.peer_definitions.specs.declared.frame.Frame.TheVariants.{Have, Events, Done, Took, Clash, Bye}
+use Rattle.peer_definitions.specs.declared.frame.Frame.TheVariants as frame
 use Rattle.net_core.specs.Bytes.{reply_lines}
 use Rattle.net_core.specs.Laws.{NoneClashes, is_clash}
-use Rattle.peer_words.specs.Machine.{Peer, frame_line}
+use Rattle.peer_definitions.specs.Machine.{Peer, frame_line}
 use Rattle.net_core.proofs.Deliveries.{all_before}
 use Rattle.net_core.proofs.Told.{no_first_clash}
 

@@ -6,7 +6,7 @@ use Rattle.std.specs.Prelude.{Err, Ok, Result, codes, decimal}
 use Rattle.ew_model.specs.Edits.{Edit, edit_refusal}
 use Rattle.ew_model.specs.Edits as model
 use Rattle.ew_model.specs.Kept.{ReplicaState}
-use Rattle.peer_words.specs.declared.net_step.NetStep.{NetStep}
+use Rattle.peer_definitions.specs.declared.net_step.NetStep.{NetStep}
 use Rattle.replica.specs.Answers.{EditsBy}
 use Rattle.replica.specs.declared.fault.EditFault.{EditFault}
 use Rattle.replica.specs.declared.fault.EditFault.TheVariants as edit
@@ -14,9 +14,9 @@ use Rattle.net_core.specs.declared.fault.NetFault.{NetFault}
 use Rattle.net_core.specs.declared.fault.NetFault.TheVariants as fault
 use Rattle.net_core.specs.Answers.{IsLeftAt, StepsTo, fault_of, handed_over, told_bytes}
 use Rattle.net_core.specs.Keeping.{IsReached}
-use Rattle.peer_words.specs.Machine.{Network, Peer, edit_outcome, edit_step, net_step, peer_of, printed_line}
-use Rattle.peer_words.specs.Machine.Refusal.{NoEdit}
-use Rattle.peer_words.specs.Machine.StepOutcome.{Stepped}
+use Rattle.peer_definitions.specs.Machine.{Network, Peer, edit_outcome, edit_step, net_step, peer_of, printed_line}
+use Rattle.peer_definitions.specs.Machine.Refusal.{NoEdit}
+use Rattle.peer_definitions.specs.Machine.StepOutcome.{Stepped}
 use Rattle.net_core.proofs.Editing.{edited_homely, edited_state, edited_step, named_so}
 use Rattle.net_core.proofs.Reaching.{homely}
 use Rattle.net_core.proofs.Steps.{at_peer, refused}

@@ -13,8 +13,8 @@ use Rattle.ew_model.proofs.IdLaws.{name_exact, names_equal}
 use Rattle.ew_model.proofs.SetLaws.{joined_left, joined_right}
 use Rattle.ew_model.proofs.SortingLaws.{all_at, all_from}
 use Rattle.net_core.specs.Keeping.{IsHome, IsReplica}
-use Rattle.peer_words.specs.Machine.{Network, Peer, edit_outcome, edit_step, peer_among, peer_of, printed_line, put_replica, restart_outcome, with_peer}
-use Rattle.peer_words.specs.Machine.StepOutcome.{Stepped}
+use Rattle.peer_definitions.specs.Machine.{Network, Peer, edit_outcome, edit_step, peer_among, peer_of, printed_line, put_replica, restart_outcome, with_peer}
+use Rattle.peer_definitions.specs.Machine.StepOutcome.{Stepped}
 use Rattle.net_core.proofs.Awaiting.{none_awaited}
 use Rattle.ew_model.proofs.EntryLaws.{all_joined}
 use Rattle.net_core.proofs.Deliveries.{Went}

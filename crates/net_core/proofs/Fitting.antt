@@ -20,25 +20,25 @@ use Rattle.ew_model.proofs.EntryLaws.{all_joined}
 use Rattle.ew_model.proofs.LimitsKept.{arrivals_keep}
 use Rattle.ew_model.proofs.SortingLaws.{all_at}
 use Rattle.event_graph.proofs.Tails.{all_first}
-use Rattle.history_words.specs.Missing.{missing}
-use Rattle.history_words.specs.Tallies.{accepted_in, is_repeat, refused_in, repeats_in}
-use Rattle.peer_words.specs.NetScripts.{IsSoundStep}
-use Rattle.peer_words.specs.declared.net_step.NetStep.{NetStep}
-use Rattle.peer_words.specs.declared.net_step.NetStep.TheVariants as step
+use Rattle.history_definitions.specs.Missing.{missing}
+use Rattle.history_definitions.specs.Tallies.{accepted_in, is_repeat, refused_in, repeats_in}
+use Rattle.peer_definitions.specs.NetScripts.{IsSoundStep}
+use Rattle.peer_definitions.specs.declared.net_step.NetStep.{NetStep}
+use Rattle.peer_definitions.specs.declared.net_step.NetStep.TheVariants as step
 use Rattle.peer_exchange.proofs.Ascending.{summary_sound}
 use Rattle.peer_exchange.proofs.Lengths.{all_drop, bye_taken, missing_few, missing_sound, question_taken, sent_taken, took_taken}
 use Rattle.peer_exchange.proofs.Refused.{refused_each}
-use Rattle.peer_words.specs.Answering.{answer_to, event_frames, frame_for, question, took_of}
+use Rattle.peer_definitions.specs.Answering.{answer_to, event_frames, frame_for, question, took_of}
 use Rattle.peer_frames.specs.Laws.{IsTaken}
-use Rattle.peer_words.specs.Spelling.{event_bytes, events_body, id_bytes}
+use Rattle.peer_definitions.specs.Spelling.{event_bytes, events_body, id_bytes}
 use Rattle.ew_model.specs.File.{four_bytes, op_bytes}
-use Rattle.peer_words.specs.declared.frame.Frame.{Frame}
-use Rattle.peer_words.specs.declared.frame.Frame.TheVariants.{Have, Events, Done, Took, Clash, Bye}
+use Rattle.peer_definitions.specs.declared.frame.Frame.{Frame}
+use Rattle.peer_definitions.specs.declared.frame.Frame.TheVariants.{Have, Events, Done, Took, Clash, Bye}
 use Rattle.net_core.specs.Keeping.{IsHome, IsReached, IsReplica}
 use Rattle.net_core.specs.Laws.{NetsAreReached, after_steps, network_left}
-use Rattle.peer_words.specs.Machine.{Network, Packet, Peer, deliver_step, delivery_of, edit_outcome, empty_network, net_step, peer_of, peer_step, piece_of, print_before, put_replica, restart_outcome, with_packet, with_peer, with_replies}
-use Rattle.peer_words.specs.Machine.Refusal.{NoPacket}
-use Rattle.peer_words.specs.Machine.StepOutcome.{Refused}
+use Rattle.peer_definitions.specs.Machine.{Network, Packet, Peer, deliver_step, delivery_of, edit_outcome, empty_network, net_step, peer_of, peer_step, piece_of, print_before, put_replica, restart_outcome, with_packet, with_peer, with_replies}
+use Rattle.peer_definitions.specs.Machine.Refusal.{NoPacket}
+use Rattle.peer_definitions.specs.Machine.StepOutcome.{Refused}
 use Rattle.net_core.proofs.Counting.{adds_one}
 use Rattle.net_core.proofs.Deliveries.{all_before, few_parents, no_clashes, room_in, went, went_all}
 use Rattle.net_core.proofs.Editing.{named_so, replica_of}

@@ -13,16 +13,16 @@ use Rattle.ew_model.proofs.IdLaws.{name_exact}
 use Rattle.ew_model.proofs.SetLaws.{joined_left}
 use Rattle.ew_model.proofs.SortingLaws.{all_at}
 use Rattle.event_graph.proofs.Tails.{all_first}
-use Rattle.peer_words.specs.declared.net_step.NetStep.{NetStep}
-use Rattle.peer_words.specs.declared.net_step.NetStep.TheVariants as step
+use Rattle.peer_definitions.specs.declared.net_step.NetStep.{NetStep}
+use Rattle.peer_definitions.specs.declared.net_step.NetStep.TheVariants as step
 use Rattle.peer_exchange.proofs.Lengths.{all_drop}
-use Rattle.peer_words.specs.Answering.{event_frames, question}
-use Rattle.peer_words.specs.declared.frame.Frame.{Frame}
+use Rattle.peer_definitions.specs.Answering.{event_frames, question}
+use Rattle.peer_definitions.specs.declared.frame.Frame.{Frame}
 use Rattle.net_core.specs.Keeping.{IsHome, IsReplica}
 use Rattle.net_core.specs.Laws.{after_steps, network_left}
-use Rattle.peer_words.specs.Machine.{Network, Packet, Peer, StepOutcome, deliver_step, delivery_of, edit_outcome, net_step, peer_of, peer_step, piece_of, print_before, put_replica, restart_outcome, with_packet, with_peer, with_replies}
-use Rattle.peer_words.specs.Machine.Refusal.{NoPeer, NoPacket}
-use Rattle.peer_words.specs.Machine.StepOutcome.{Refused}
+use Rattle.peer_definitions.specs.Machine.{Network, Packet, Peer, StepOutcome, deliver_step, delivery_of, edit_outcome, net_step, peer_of, peer_step, piece_of, print_before, put_replica, restart_outcome, with_packet, with_peer, with_replies}
+use Rattle.peer_definitions.specs.Machine.Refusal.{NoPeer, NoPacket}
+use Rattle.peer_definitions.specs.Machine.StepOutcome.{Refused}
 use Rattle.net_core.proofs.Deliveries.{Went, homes_in_frames, went_all}
 use Rattle.net_core.proofs.Editing.{edited_homely, edited_state, named_so, replica_of, restarted, restarted_homely, went_homely}
 use Rattle.ew_model.proofs.OperationLaws.{got}

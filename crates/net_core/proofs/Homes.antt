@@ -11,7 +11,7 @@ use Rattle.ew_model.proofs.IdLaws.{is_same_id}
 use Rattle.ew_model.proofs.SortingLaws.{all_at}
 use Rattle.ew_model.proofs.SubgraphLaws.{one_event}
 use Rattle.net_core.specs.Keeping.{IsHome, IsReplica}
-use Rattle.peer_words.specs.Machine.{Peer, peer_among}
+use Rattle.peer_definitions.specs.Machine.{Peer, peer_among}
 use Rattle.net_core.proofs.Elsewhere.{WasGood, was_good}
 use Rattle.net_core.proofs.Puts.{peer_there}
 

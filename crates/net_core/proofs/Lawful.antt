@@ -9,14 +9,14 @@ use Rattle.ew_model.specs.Sets.{Among}
 use Rattle.ew_model.proofs.GoodLaws.{equal_sets_agree}
 use Rattle.ew_model.proofs.IdLaws.{names_equal}
 use Rattle.ew_model.proofs.SortingLaws.{all_at, all_from}
-use Rattle.history_words.specs.Missing.{missing}
-use Rattle.peer_words.specs.declared.net_step.NetStep.TheVariants as step
-use Rattle.peer_words.specs.Answering.{event_frames}
-use Rattle.peer_words.specs.declared.frame.Frame.{Frame}
-use Rattle.peer_words.specs.declared.frame.Frame.TheVariants as frame
+use Rattle.history_definitions.specs.Missing.{missing}
+use Rattle.peer_definitions.specs.declared.net_step.NetStep.TheVariants as step
+use Rattle.peer_definitions.specs.Answering.{event_frames}
+use Rattle.peer_definitions.specs.declared.frame.Frame.{Frame}
+use Rattle.peer_definitions.specs.declared.frame.Frame.TheVariants as frame
 use Rattle.net_core.specs.Keeping.{IsHome, IsReached, IsReplica}
 use Rattle.net_core.specs.Laws.{Agree, AgreementIsTold, HeldAll, OnlyFullRefuses, PushesArrive, answers_in, network_left}
-use Rattle.peer_words.specs.Machine.{Network, Packet, Peer, agree_line, all_agree, delivery_of, net_step, packet_step, peer_among, peer_of, print_before, printed_line, put_replica, with_packet, with_peer, with_replies}
+use Rattle.peer_definitions.specs.Machine.{Network, Packet, Peer, agree_line, all_agree, delivery_of, net_step, packet_step, peer_among, peer_of, print_before, printed_line, put_replica, with_packet, with_peer, with_replies}
 use Rattle.net_core.proofs.Agreeing.{agree_by_one, all_as_one}
 use Rattle.net_core.proofs.Deliveries.{room_in_all}
 use Rattle.net_core.proofs.Editing.{replica_of}

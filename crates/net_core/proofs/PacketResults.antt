@@ -5,12 +5,12 @@ use Rattle.ew_model.specs.Kept.{ReplicaState}
 use Rattle.ew_model.specs.Limits.{LimitNumbers}
 use Rattle.event_graph.proofs.Tails.{all_first}
 use Rattle.peer_exchange.proofs.Lengths.{all_drop}
-use Rattle.peer_words.specs.Answering.{event_frames}
+use Rattle.peer_definitions.specs.Answering.{event_frames}
 use Rattle.peer_frames.specs.Laws.{IsTaken}
-use Rattle.peer_words.specs.declared.frame.Frame.{Frame}
+use Rattle.peer_definitions.specs.declared.frame.Frame.{Frame}
 use Rattle.net_core.specs.Keeping.{IsHome, IsPacket, IsReached, IsReplica}
-use Rattle.peer_words.specs.Machine.{Network, Peer, packet_step, peer_of, piece_of, print_before, with_packet}
-use Rattle.peer_words.specs.Machine.StepOutcome.{Stepped}
+use Rattle.peer_definitions.specs.Machine.{Network, Peer, packet_step, peer_of, piece_of, print_before, with_packet}
+use Rattle.peer_definitions.specs.Machine.StepOutcome.{Stepped}
 use Rattle.net_core.proofs.Deliveries.{homes_in_frames}
 use Rattle.net_core.proofs.Editing.{replica_of}
 use Rattle.net_core.proofs.Packets.{sent_between}

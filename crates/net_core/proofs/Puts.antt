@@ -10,7 +10,7 @@ use Rattle.ew_model.specs.Sets.{Among}
 use Rattle.ew_model.proofs.IdLaws.{name_exact, names_equal}
 use Rattle.ew_model.proofs.OperationLaws.{got}
 use Rattle.net_core.specs.Keeping.{AreNamedApart, IsHome}
-use Rattle.peer_words.specs.Machine.{Peer, peer_among}
+use Rattle.peer_definitions.specs.Machine.{Peer, peer_among}
 
 -- the peer with the replica in place of its own, where it has the name
 abbrev pub put_in : List ℕ → ReplicaState → Peer → Peer

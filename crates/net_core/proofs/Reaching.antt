@@ -12,10 +12,10 @@ use Rattle.ew_model.specs.Sets.{Among}
 use Rattle.ew_model.specs.Verdicts.{IsGood}
 use Rattle.ew_model.proofs.EntryLaws.{all_joined}
 use Rattle.ew_model.proofs.IdLaws.{names_equal}
-use Rattle.peer_words.specs.declared.frame.Frame.{Frame}
+use Rattle.peer_definitions.specs.declared.frame.Frame.{Frame}
 use Rattle.peer_frames.specs.Laws.{IsTaken}
 use Rattle.net_core.specs.Keeping.{AreNamedApart, IsFrame, IsHome, IsPacket, IsReached, IsReplica, events_in}
-use Rattle.peer_words.specs.Machine.{Network, Packet, Peer, peer_among}
+use Rattle.peer_definitions.specs.Machine.{Network, Packet, Peer, peer_among}
 use Rattle.net_core.proofs.Puts.{found_put, put_apart, put_elsewhere, put_here, put_in, still_home}
 
 -- what each element passes on

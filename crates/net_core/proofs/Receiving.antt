@@ -4,13 +4,13 @@ use Rattle.std.specs.List.{AllByRecursion}
 use Rattle.ew_model.specs.Arrival.{Answer}
 use Rattle.ew_model.specs.Kept.{ReplicaState}
 use Rattle.peer_exchange.specs.Replies.{IsLeftBy}
-use Rattle.peer_words.specs.Answering.{answer_to}
-use Rattle.peer_words.specs.declared.frame.Frame.{Frame}
-use Rattle.peer_words.specs.declared.frame.Frame.TheVariants.{Have, Events, Done, Took, Clash, Bye}
+use Rattle.peer_definitions.specs.Answering.{answer_to}
+use Rattle.peer_definitions.specs.declared.frame.Frame.{Frame}
+use Rattle.peer_definitions.specs.declared.frame.Frame.TheVariants.{Have, Events, Done, Took, Clash, Bye}
 use Rattle.net_core.specs.Answers.{IsLeftIn}
 use Rattle.net_core.specs.Bytes.{reply_line, reply_lines}
 use Rattle.net_core.specs.Laws.{NoneClashes, answers_in, answers_to, is_clash}
-use Rattle.peer_words.specs.Machine.{Peer, delivery_of, frame_line}
+use Rattle.peer_definitions.specs.Machine.{Peer, delivery_of, frame_line}
 use Rattle.net_core.proofs.Deliveries.{all_before}
 
 -- no element is left

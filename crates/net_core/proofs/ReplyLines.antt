@@ -1,6 +1,6 @@
 -- A name and five counts behind what was printed are one line.
 use Rattle.std.proofs.Common.{◌≡◌, ℕ, List, [], ◌∷◌, ◌++◌, sym, ap, ◌∙◌, append_assoc, append-nil}
-use Rattle.peer_words.specs.Machine.{printed_line}
+use Rattle.peer_definitions.specs.Machine.{printed_line}
 
 -- a word and a number, and what stands behind them
 counted : (x word number rest : List ℕ) → (x ++ 32 ∷ (word ++ 32 ∷ number)) ++ rest ≡ x ++ 32 ∷ (word ++ 32 ∷ (number ++ rest))

@@ -4,15 +4,15 @@ use Rattle.std.specs.Prelude.{Err}
 use Rattle.std.proofs.lemmas.List.{take-append-drop, take_more}
 use Rattle.ew_model.specs.Limits.{LimitNumbers}
 use Rattle.ew_model.proofs.ListParts.{drop_turn}
-use Rattle.peer_words.specs.declared.net_step.NetStep.{NetStep}
+use Rattle.peer_definitions.specs.declared.net_step.NetStep.{NetStep}
 use Rattle.net_core.specs.declared.fault.NetFault.{NetFault}
 use Rattle.net_core.specs.declared.fault.NetFault.TheVariants as fault
 use Rattle.net_core.specs.Answers.{RunsTo, StepsTo, refusal_told}
-use Rattle.peer_words.specs.Runs.{net_run}
-use Rattle.peer_words.specs.Runs.RunOutcome.{Broke}
+use Rattle.peer_definitions.specs.Runs.{net_run}
+use Rattle.peer_definitions.specs.Runs.RunOutcome.{Broke}
 use Rattle.net_core.specs.Laws.{network_left}
-use Rattle.peer_words.specs.Machine.{Network, Refusal, empty_network, net_step}
-use Rattle.peer_words.specs.Machine.StepOutcome.{Stepped, Refused}
+use Rattle.peer_definitions.specs.Machine.{Network, Refusal, empty_network, net_step}
+use Rattle.peer_definitions.specs.Machine.StepOutcome.{Stepped, Refused}
 use Rattle.net_core.proofs.Counting.{adds_one}
 use Rattle.net_core.proofs.Running.{HasRun, breaks, goes_on, has_run}
 

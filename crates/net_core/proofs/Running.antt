@@ -1,10 +1,10 @@
 -- Steps one after another: what the first ones print comes before what the others print.
 use Rattle.std.proofs.Common.{◌≡◌, ℕ, List, [], ◌∷◌, ◌++◌, refl, sym, ap, ◌∙◌, append_assoc, append-nil}
-use Rattle.peer_words.specs.declared.net_step.NetStep.{NetStep}
-use Rattle.peer_words.specs.Runs.{RunOutcome, go_on, more_printed, net_run}
-use Rattle.peer_words.specs.Runs.RunOutcome.{Ran, Broke}
-use Rattle.peer_words.specs.Machine.{Network, Refusal, net_step}
-use Rattle.peer_words.specs.Machine.StepOutcome.{Stepped, Refused}
+use Rattle.peer_definitions.specs.declared.net_step.NetStep.{NetStep}
+use Rattle.peer_definitions.specs.Runs.{RunOutcome, go_on, more_printed, net_run}
+use Rattle.peer_definitions.specs.Runs.RunOutcome.{Ran, Broke}
+use Rattle.peer_definitions.specs.Machine.{Network, Refusal, net_step}
+use Rattle.peer_definitions.specs.Machine.StepOutcome.{Stepped, Refused}
 
 -- a step that isn't refused, and then others
 pub run_next : (network next : Network) (line : ℕ) (s : NetStep) (printed : List ℕ) (steps : List (ℕ × NetStep)) → net_step network s ≡ Stepped next printed

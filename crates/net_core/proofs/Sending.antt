@@ -21,14 +21,14 @@ use Rattle.ew_model.proofs.SortingLaws.{all_at}
 use Rattle.event_graph.proofs.Tails.{all_first}
 use Rattle.peer_exchange.proofs.Lengths.{all_drop}
 use Rattle.peer_exchange.proofs.PieceLaws.{some_room}
-use Rattle.peer_words.specs.Answering.{answer_to, event_frames}
+use Rattle.peer_definitions.specs.Answering.{answer_to, event_frames}
 use Rattle.peer_exchange.specs.Laws.{unheld}
-use Rattle.peer_words.specs.Pieces.{frame_room, pieces_from}
-use Rattle.peer_words.specs.declared.frame.Frame.{Frame}
-use Rattle.peer_words.specs.declared.frame.Frame.TheVariants as frame
+use Rattle.peer_definitions.specs.Pieces.{frame_room, pieces_from}
+use Rattle.peer_definitions.specs.declared.frame.Frame.{Frame}
+use Rattle.peer_definitions.specs.declared.frame.Frame.TheVariants as frame
 use Rattle.net_core.specs.Keeping.{IsHome, IsReplica}
 use Rattle.net_core.specs.Laws.{HeldAll, answers_in, answers_to, is_graph_full}
-use Rattle.peer_words.specs.Machine.{Peer, delivery_of}
+use Rattle.peer_definitions.specs.Machine.{Peer, delivery_of}
 use Rattle.net_core.proofs.CatchingUp.{AreOrdered, all_caught}
 use Rattle.net_core.proofs.Deliveries.{all_before, from_desk, went, went_all}
 use Rattle.net_core.proofs.Homes.{one_home, was_home}

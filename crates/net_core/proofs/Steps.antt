@@ -8,16 +8,16 @@ use Rattle.ew_model.specs.Kept.{ReplicaState}
 use Rattle.ew_model.specs.Scripts.{escaped_text}
 use Rattle.ew_model.specs.Texts.{text_of}
 use Rattle.ew_model.proofs.ListParts.{element_there}
-use Rattle.peer_words.specs.declared.net_step.NetStep.{NetStep}
-use Rattle.peer_words.specs.declared.net_step.NetStep.TheVariants as step
-use Rattle.peer_words.specs.Answering.{event_frames, question}
-use Rattle.peer_words.specs.declared.frame.Frame.{Frame}
+use Rattle.peer_definitions.specs.declared.net_step.NetStep.{NetStep}
+use Rattle.peer_definitions.specs.declared.net_step.NetStep.TheVariants as step
+use Rattle.peer_definitions.specs.Answering.{event_frames, question}
+use Rattle.peer_definitions.specs.declared.frame.Frame.{Frame}
 use Rattle.net_core.specs.declared.fault.NetFault.{NetFault}
 use Rattle.net_core.specs.declared.fault.NetFault.TheVariants as fault
 use Rattle.net_core.specs.Answers.{StepsTo, refusal_told}
-use Rattle.peer_words.specs.Machine.{Network, Peer, Refusal, StepOutcome, agree_line, edit_step, net_step, packet_step, peer_of, peer_step, piece_of, printed_line, restart_outcome, with_packet, with_peer}
-use Rattle.peer_words.specs.Machine.Refusal.{NoPeer, PeerTwice}
-use Rattle.peer_words.specs.Machine.StepOutcome.{Stepped, Refused}
+use Rattle.peer_definitions.specs.Machine.{Network, Peer, Refusal, StepOutcome, agree_line, edit_step, net_step, packet_step, peer_of, peer_step, piece_of, printed_line, restart_outcome, with_packet, with_peer}
+use Rattle.peer_definitions.specs.Machine.Refusal.{NoPeer, PeerTwice}
+use Rattle.peer_definitions.specs.Machine.StepOutcome.{Stepped, Refused}
 
 -- the peer at the place that was found
 pub peer_at : (network : Network) (name : List ℕ) (i : ℕ) → i < length network.peers → peer_of network name ≡ slice_get network.peers i

@@ -11,9 +11,9 @@ use Rattle.ew_model.specs.Verdicts as verdicts
 use Rattle.ew_model.specs.Verdicts.{Ruling}
 use Rattle.ew_model.specs.Verdicts.Ruling.{Repeat, SelfParent, TooManyParents, ParentsUnsorted, Unknown, PoolFull, NotReduced, Skipped, GraphFull, OutOfRange, Good}
 use Rattle.ew_model.proofs.RoundLaws.{then}
-use Rattle.history_words.specs.Tallies.{refused_by, refused_in}
-use Rattle.peer_words.specs.Answering as exchange
-use Rattle.peer_words.specs.Answering.{first_clash}
+use Rattle.history_definitions.specs.Tallies.{refused_by, refused_in}
+use Rattle.peer_definitions.specs.Answering as exchange
+use Rattle.peer_definitions.specs.Answering.{first_clash}
 use Rattle.net_core.specs.Laws.{is_clash}
 
 -- nothing told is a clash

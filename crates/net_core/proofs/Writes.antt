@@ -4,14 +4,14 @@ use Rattle.std.specs.Global.{Vec}
 use Rattle.std.specs.List.{slice_get}
 use Rattle.std.specs.Prelude.{Err, Result}
 use Rattle.ew_model.specs.Kept.{ReplicaState}
-use Rattle.peer_words.specs.declared.net_step.NetStep.{NetStep}
+use Rattle.peer_definitions.specs.declared.net_step.NetStep.{NetStep}
 use Rattle.net_core.specs.declared.fault.NetFault.{NetFault}
 use Rattle.net_core.specs.declared.fault.NetFault.TheVariants as fault
 use Rattle.net_core.specs.Answers.{StepsTo, refusal_told, told_bytes}
 use Rattle.net_core.specs.Keeping.{IsReached}
-use Rattle.peer_words.specs.Machine.{Network, Peer, Refusal, net_step, peer_of, put_replica}
-use Rattle.peer_words.specs.Machine.Refusal.{NoPeer}
-use Rattle.peer_words.specs.Machine.StepOutcome.{Refused}
+use Rattle.peer_definitions.specs.Machine.{Network, Peer, Refusal, net_step, peer_of, put_replica}
+use Rattle.peer_definitions.specs.Machine.Refusal.{NoPeer}
+use Rattle.peer_definitions.specs.Machine.StepOutcome.{Refused}
 use Rattle.net_core.proofs.Editing.{named_so, placed}
 use Rattle.net_core.proofs.Packets.{put_same}
 use Rattle.net_core.proofs.Reaching.{IsHomely, fit, homely, reached}

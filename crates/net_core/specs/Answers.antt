@@ -4,20 +4,20 @@ use Rattle.std.specs.Global.{Vec}
 use Rattle.ew_model.specs.Edits.EditRefusal.{OutOfRange, TooManyHeads, Full}
 use Rattle.ew_model.specs.Kept.{ReplicaState}
 use Rattle.ew_model.specs.Limits.{LimitNumbers}
-use Rattle.peer_words.specs.declared.net_step.NetStep.{NetStep}
-use Rattle.peer_words.specs.declared.net_step.NetStep.TheVariants as step
-use Rattle.peer_words.specs.Answering.{answer_to}
+use Rattle.peer_definitions.specs.declared.net_step.NetStep.{NetStep}
+use Rattle.peer_definitions.specs.declared.net_step.NetStep.TheVariants as step
+use Rattle.peer_definitions.specs.Answering.{answer_to}
 use Rattle.peer_exchange.specs.Replies.{IsLeftBy}
-use Rattle.peer_words.specs.declared.frame.Frame.{Frame}
+use Rattle.peer_definitions.specs.declared.frame.Frame.{Frame}
 use Rattle.replica.specs.declared.fault.EditFault.{EditFault}
 use Rattle.replica.specs.declared.fault.EditFault.TheVariants as edit
 use Rattle.net_core.specs.declared.fault.NetFault.{NetFault}
 use Rattle.net_core.specs.declared.fault.NetFault.TheVariants as fault
-use Rattle.peer_words.specs.Machine.{Network, Packet, Peer, Refusal, empty_network, net_step, peer_of, put_replica}
-use Rattle.peer_words.specs.Machine.Refusal.{NoPeer, PeerTwice, NoPacket, NoEdit}
-use Rattle.peer_words.specs.Runs.{net_run}
-use Rattle.peer_words.specs.Runs.RunOutcome.{Ran, Broke}
-use Rattle.peer_words.specs.Machine.StepOutcome.{Stepped, Refused}
+use Rattle.peer_definitions.specs.Machine.{Network, Packet, Peer, Refusal, empty_network, net_step, peer_of, put_replica}
+use Rattle.peer_definitions.specs.Machine.Refusal.{NoPeer, PeerTwice, NoPacket, NoEdit}
+use Rattle.peer_definitions.specs.Runs.{net_run}
+use Rattle.peer_definitions.specs.Runs.RunOutcome.{Ran, Broke}
+use Rattle.peer_definitions.specs.Machine.StepOutcome.{Stepped, Refused}
 
 -- the refusal that a fault tells; none for want of memory
 abbrev pub refusal_told : NetFault → Option Refusal

@@ -1,8 +1,8 @@
 -- Printed bytes: text in UTF-8 byte by byte, and what is told of received events.
 use Rattle.std.specs.Prelude.{ℕ, List, [], ◌∷◌, if◌then◌else◌, ◌==◌, codes, decimal, flat_map}
-use Rattle.peer_words.specs.declared.frame.Frame.{Frame}
-use Rattle.peer_words.specs.declared.frame.Frame.TheVariants.{Took}
-use Rattle.peer_words.specs.Machine.{printed_line}
+use Rattle.peer_definitions.specs.declared.frame.Frame.{Frame}
+use Rattle.peer_definitions.specs.declared.frame.Frame.TheVariants.{Took}
+use Rattle.peer_definitions.specs.Machine.{printed_line}
 
 -- a newline and a backslash are escaped, and any other byte stands for itself
 abbrev pub escaped_byte : ℕ → List ℕ

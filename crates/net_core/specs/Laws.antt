@@ -11,16 +11,16 @@ use Rattle.ew_model.specs.Sets.{Among, SameElements}
 use Rattle.ew_model.specs.Texts.{text_of}
 use Rattle.ew_model.specs.Verdicts.{Ruling}
 use Rattle.ew_model.specs.Verdicts.Ruling.{Clash, GraphFull}
-use Rattle.history_words.specs.Tallies.{refused_by}
-use Rattle.peer_words.specs.declared.net_step.NetStep.{NetStep}
-use Rattle.peer_words.specs.declared.net_step.NetStep.TheVariants as step
-use Rattle.peer_words.specs.NetScripts.{IsSoundStep}
-use Rattle.peer_words.specs.Answering.{answer_to}
-use Rattle.peer_words.specs.declared.frame.Frame.{Frame}
-use Rattle.peer_words.specs.declared.frame.Frame.TheVariants.{Events}
+use Rattle.history_definitions.specs.Tallies.{refused_by}
+use Rattle.peer_definitions.specs.declared.net_step.NetStep.{NetStep}
+use Rattle.peer_definitions.specs.declared.net_step.NetStep.TheVariants as step
+use Rattle.peer_definitions.specs.NetScripts.{IsSoundStep}
+use Rattle.peer_definitions.specs.Answering.{answer_to}
+use Rattle.peer_definitions.specs.declared.frame.Frame.{Frame}
+use Rattle.peer_definitions.specs.declared.frame.Frame.TheVariants.{Events}
 use Rattle.net_core.specs.Keeping.{IsReached}
-use Rattle.peer_words.specs.Machine.{Network, Packet, Peer, agree_line, empty_network, net_step, peer_of, printed_line}
-pub use Rattle.peer_words.specs.Runs.{after_steps, network_left}
+use Rattle.peer_definitions.specs.Machine.{Network, Packet, Peer, agree_line, empty_network, net_step, peer_of, printed_line}
+pub use Rattle.peer_definitions.specs.Runs.{after_steps, network_left}
 
 -- At every moment of every script each peer keeps what a replica keeps, so that no id stands twice, and every event of a peer, a
 -- pool or a packet stands in the history of the peer whose name is its agent.

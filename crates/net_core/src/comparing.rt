@@ -3,7 +3,7 @@
 ghost use Rattle.std.specs.Prelude.{◌≡◌};
 ghost use Rattle.std.specs.Bool.{MatchBool};
 ghost use Rattle.ew_model.specs.Sets.{SameElements};
-ghost use Rattle.peer_words.specs.Machine.{all_agree};
+ghost use Rattle.peer_definitions.specs.Machine.{all_agree};
 
 use crate::peer::Peer;
 

@@ -2,12 +2,12 @@
 
 ghost use Rattle.std.specs.Prelude.{◌≡◌, [], ◌∷◌, ◌++◌, IfOk, OnOk, OnErr};
 ghost use Rattle.std.specs.List.{AllByRecursion};
-ghost use Rattle.peer_words.specs.Answering.{answer_to};
+ghost use Rattle.peer_definitions.specs.Answering.{answer_to};
 ghost use Rattle.peer_frames.specs.Laws.{IsTaken};
 ghost use Rattle.net_core.specs.Answers.{IsLeftIn};
 ghost use Rattle.net_core.specs.Bytes.{reply_line, reply_lines};
 ghost use Rattle.net_core.specs.Laws.{NoneClashes};
-ghost use Rattle.peer_words.specs.Machine.{delivery_of, frame_line};
+ghost use Rattle.peer_definitions.specs.Machine.{delivery_of, frame_line};
 
 use crate::lines::push_count;
 use crate::peer::Peer;

@@ -4,9 +4,9 @@ ghost use Rattle.std.specs.Prelude.{◌≡◌, ◌≤◌, length, IfOk};
 ghost use Rattle.std.specs.List.{AllByRecursion};
 ghost use Rattle.ew_model.specs.declared.event.Event.{Event};
 ghost use Rattle.ew_model.specs.Sound.{AreSound};
-ghost use Rattle.peer_words.specs.Answering.{event_frames};
+ghost use Rattle.peer_definitions.specs.Answering.{event_frames};
 ghost use Rattle.peer_frames.specs.Laws.{IsTaken};
-ghost use Rattle.peer_words.specs.Machine.{piece_of};
+ghost use Rattle.peer_definitions.specs.Machine.{piece_of};
 
 use event_graph::Graph;
 use ew_model::NoMem;

@@ -1,5 +1,5 @@
 //! Many replicas in one process: peers edit, and what they say to each other goes in packets, which may be delivered in any
-//! order, again, or never. `specs/Machine.antt` of `peer_words` says what each step does and prints, or why it is refused.
+//! order, again, or never. `specs/Machine.antt` of `peer_definitions` says what each step does and prints, or why it is refused.
 #![tactic(auto)]
 
 mod comparing;

@@ -3,7 +3,7 @@
 ghost use Rattle.std.specs.Prelude.{◌≡◌, [], ◌++◌, ◌∷◌, if◌then◌else◌, codes, decimal, encode_utf8_all, vec_capacity, IsOk, List, ℕ, IfOk, OnOk};
 ghost use Rattle.ew_model.specs.Scripts.{escaped_text};
 ghost use Rattle.net_core.specs.Bytes.{escaped_byte};
-ghost use Rattle.peer_words.specs.Machine.{printed_line};
+ghost use Rattle.peer_definitions.specs.Machine.{printed_line};
 
 use ew_model::NoMem;
 use ew_model::name::Name;

@@ -2,11 +2,11 @@
 
 ghost use Rattle.std.specs.Prelude.{◌≡◌, ◌<◌, length, slice_get, Some, None, IfOk, IfErr, IsOkAnd, OnErr};
 ghost use Rattle.std.specs.List.{AllByRecursion};
-ghost use Rattle.peer_words.specs.declared.net_step.NetStep.TheVariants as net_step;
+ghost use Rattle.peer_definitions.specs.declared.net_step.NetStep.TheVariants as net_step;
 ghost use Rattle.net_core.specs.Answers.{StepsTo, told_bytes};
 ghost use Rattle.net_core.specs.Keeping.{IsPacket};
-ghost use Rattle.peer_words.specs.Machine.{empty_network, peer_of, print_before, with_packet};
-ghost use Rattle.peer_words.specs.Machine.StepOutcome.{Stepped};
+ghost use Rattle.peer_definitions.specs.Machine.{empty_network, peer_of, print_before, with_packet};
+ghost use Rattle.peer_definitions.specs.Machine.StepOutcome.{Stepped};
 ghost use Rattle.net_core.specs.declared.fault.NetFault.TheVariants as fault;
 
 use crate::comparing::all_agree;
@@ -16,13 +16,13 @@ use crate::lines::{MadeLine, agree_line, peer_line, push_packet_line, restarted_
 use crate::packet::{Packet, packet_at};
 use crate::peer::Peer;
 use crate::places::place_of;
-use event_words::net::step::NetStep;
-use event_words::text::Text;
 use ew_model::NoMem;
 use ew_model::limits::Limits;
 use ew_model::name::Name;
 use ew_model::steps::Steps;
 use peer_frames::Frame;
+use script_reader::net::step::NetStep;
+use script_reader::text::Text;
 use std::alloc::Global;
 use std::marker::Model;
 use std::sync::ledger::Ledger;
@@ -38,7 +38,7 @@ pub struct Net {
 
 impl Model for Net {
     ghost use Rattle.net_core.specs.Keeping.{IsReached};
-    ghost use Rattle.peer_words.specs.Machine.{Network};
+    ghost use Rattle.peer_definitions.specs.Machine.{Network};
 
     ghost Value = { Network };
 

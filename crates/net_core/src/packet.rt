@@ -20,7 +20,7 @@ pub struct Packet {
 }
 
 impl Model for Packet {
-    ghost use Rattle.peer_words.specs.Machine.{Packet};
+    ghost use Rattle.peer_definitions.specs.Machine.{Packet};
 
     ghost Value = { Packet };
 

@@ -6,14 +6,13 @@ ghost use Rattle.ew_model.specs.Edits as model;
 ghost use Rattle.ew_model.specs.Ids.{name_eq};
 ghost use Rattle.ew_model.specs.Kept.{IsKept, is_awaited};
 ghost use Rattle.peer_exchange.specs.Replies.{IsLeftBy, IsReply};
-ghost use Rattle.peer_words.specs.Answering.{answer_to, event_frames, question};
+ghost use Rattle.peer_definitions.specs.Answering.{answer_to, event_frames, question};
 ghost use Rattle.peer_frames.specs.Laws.{IsTaken};
-ghost use Rattle.peer_words.specs.Spelling.{HasSpelling};
+ghost use Rattle.peer_definitions.specs.Spelling.{HasSpelling};
 ghost use Rattle.replica.specs.Answers.{EditsBy};
-ghost use Rattle.peer_words.specs.Machine.{built_again, piece_of};
+ghost use Rattle.peer_definitions.specs.Machine.{built_again, piece_of};
 
 use crate::frames::{in_frames, piece};
-use event_words::text::Text;
 use ew_model::NoMem;
 use ew_model::limits::Limits;
 use ew_model::name::Name;
@@ -21,6 +20,7 @@ use ew_model::steps::Steps;
 use peer_exchange::{Reply, answer, ask};
 use peer_frames::Frame;
 use replica::{EditFault, Replica};
+use script_reader::text::Text;
 use std::alloc::Global;
 use std::marker::Model;
 use std::sync::ledger::Ledger;
@@ -33,7 +33,7 @@ pub struct Peer {
 }
 
 impl Model for Peer {
-    ghost use Rattle.peer_words.specs.Machine.{Peer};
+    ghost use Rattle.peer_definitions.specs.Machine.{Peer};
 
     ghost Value = { Peer };
 

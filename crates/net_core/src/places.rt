@@ -1,7 +1,7 @@
 //! Lists of peers.
 
 ghost use Rattle.std.specs.Prelude.{◌≡◌, ◌<◌, length, slice_get, None, IfSome, IfNone};
-ghost use Rattle.peer_words.specs.Machine.{peer_among};
+ghost use Rattle.peer_definitions.specs.Machine.{peer_among};
 
 use crate::peer::Peer;
 use ew_model::name::Name;

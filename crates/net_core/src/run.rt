@@ -5,9 +5,9 @@ ghost use Rattle.net_core.specs.Answers.{RunsTo, told_bytes};
 
 use crate::fault::NetFault;
 use crate::net::Net;
-use event_words::net::step::NetStep;
 use ew_model::limits::Limits;
 use ew_model::steps::Steps;
+use script_reader::net::step::NetStep;
 use std::alloc::Global;
 use std::sync::ledger::Ledger;
 

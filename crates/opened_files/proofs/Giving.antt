@@ -9,7 +9,7 @@ use Rattle.event_file.specs.declared.fault.FileFault.{FileFault}
 use Rattle.event_file.specs.declared.fault.FileFault.TheVariants.{Short, BadMagic, BadVersion, BadDigest, BadRecord, TooMany, OutOfMemory}
 use Rattle.event_file.specs.Faults.{IsFault}
 use Rattle.event_file.specs.Rest.{GoesOnBy, IsNext, Rest, in_front}
-use Rattle.history_words.specs.Chains.{event_behind}
+use Rattle.history_definitions.specs.Chains.{event_behind}
 use Rattle.replica.specs.Giving.{Given, WereGiven}
 use Rattle.replica.proofs.Fronts.{front_of}
 use Rattle.opened_files.specs.Giving.{HasGivenLast, IsGivenFront}

@@ -9,7 +9,7 @@ use Rattle.ew_model.specs.Limits.{LimitNumbers, most_file_bytes}
 use Rattle.ew_model.specs.Rounds.{most_touches}
 use Rattle.ew_model.specs.Touches.{touches}
 use Rattle.ew_outside.specs.Files.{Files}
-use Rattle.peer_words.specs.Touches.{made_touches}
+use Rattle.peer_definitions.specs.Touches.{made_touches}
 use Rattle.command_table.specs.Loads.{File, missing, too_long, whole, whole_of}
 use Rattle.command_table.specs.Table.{Text, Command, create, edit, show, merge, make, net, Listing, past, replay, Opened, opened, refused, open_file}
 

@@ -25,11 +25,11 @@ use Rattle.ew_model.proofs.IdLaws.{name_exact, names_equal}
 use Rattle.ew_model.proofs.ListTests.{any_from, found_by}
 use Rattle.ew_model.proofs.SetLaws.{among_map}
 use Rattle.ew_model.proofs.SortingLaws.{all_at, all_from, length-sort, sort_among, sort_sorted}
-use Rattle.history_words.specs.Agents.{agents_of}
+use Rattle.history_definitions.specs.Agents.{agents_of}
 use Rattle.agent_ids.proofs.Agents.{agents_few, agents_distinct, is_agent}
-use Rattle.history_words.specs.Summary.{summary_of}
+use Rattle.history_definitions.specs.Summary.{summary_of}
 use Rattle.event_graph.proofs.Summing.{ties, all_some}
-use Rattle.peer_words.specs.Spelling.{AgentCount, IsSoundCount, names_ascend}
+use Rattle.peer_definitions.specs.Spelling.{AgentCount, IsSoundCount, names_ascend}
 
 less : (r : Ordering) → is_lt r ≡ true → r ≡ Less
 less Less h = refl

@@ -14,16 +14,16 @@ use Rattle.ew_model.specs.Sound.{IsSoundId, IsSound, AreSound}
 use Rattle.ew_model.specs.Verdicts.{IsGoodAfter, IsGood}
 use Rattle.ew_model.proofs.GoodLaws.{next_from_good}
 use Rattle.ew_model.proofs.SortingLaws.{all_filter}
-use Rattle.history_words.specs.Missing.{count_in, missing}
-use Rattle.history_words.specs.Summary.{summary_of}
+use Rattle.history_definitions.specs.Missing.{count_in, missing}
+use Rattle.history_definitions.specs.Summary.{summary_of}
 use Rattle.event_graph.proofs.Tails.{all_first}
-use Rattle.peer_words.specs.declared.frame.Frame.{Frame}
-use Rattle.peer_words.specs.declared.frame.Frame.TheVariants.{Have, Events, Done, Took, Clash, Bye}
+use Rattle.peer_definitions.specs.declared.frame.Frame.{Frame}
+use Rattle.peer_definitions.specs.declared.frame.Frame.TheVariants.{Have, Events, Done, Took, Clash, Bye}
 use Rattle.peer_frames.specs.Laws.{IsTaken}
-use Rattle.peer_words.specs.Spelling.{AgentCount, id_bytes, event_bytes, count_bytes, events_body, body_of, names_ascend, IsSoundCount, IsSoundFrame}
+use Rattle.peer_definitions.specs.Spelling.{AgentCount, id_bytes, event_bytes, count_bytes, events_body, body_of, names_ascend, IsSoundCount, IsSoundFrame}
 use Rattle.peer_frames.proofs.ShortNames.{name_short}
-use Rattle.peer_words.specs.Answering.{question, frame_for}
-use Rattle.peer_words.specs.Pieces.{frame_room, pieces_from, pieces}
+use Rattle.peer_definitions.specs.Answering.{question, frame_for}
+use Rattle.peer_definitions.specs.Pieces.{frame_room, pieces_from, pieces}
 use Rattle.peer_exchange.proofs.Ascending.{summary_up, summary_some, summary_few}
 
 pub four_long : (n : ℕ) → length (four_bytes n) ≡ 4

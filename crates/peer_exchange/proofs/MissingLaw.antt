@@ -25,11 +25,11 @@ use Rattle.ew_model.proofs.MergeSteps.{same_event}
 use Rattle.ew_model.proofs.SameEvents.{event_among}
 use Rattle.ew_model.proofs.SetLaws.{joined_left, joined_right}
 use Rattle.ew_model.proofs.SortingLaws.{among_sort}
-use Rattle.history_words.specs.Agents.{agents_of, count_of}
+use Rattle.history_definitions.specs.Agents.{agents_of, count_of}
 use Rattle.agent_ids.proofs.Agents.{count_cons, is_agent}
-use Rattle.history_words.specs.Summary.{summary_of}
+use Rattle.history_definitions.specs.Summary.{summary_of}
 use Rattle.event_graph.proofs.Summing.{same_count}
-use Rattle.history_words.specs.Missing.{count_in, missing}
+use Rattle.history_definitions.specs.Missing.{count_in, missing}
 use Rattle.peer_exchange.specs.Laws.{MissingAreUnheld}
 
 -- an agent of none of the ids has none

@@ -5,9 +5,9 @@ use Rattle.std.proofs.lemmas.Grind.{div_ceil_times}
 use Rattle.std.proofs.lemmas.List.{length-take, length-take-le, length-drop, take-append-drop}
 use Rattle.ew_model.specs.declared.event.Event.{Event}
 use Rattle.ew_model.specs.Limits.{LimitNumbers, AreLimits}
-use Rattle.peer_words.specs.declared.frame.Frame.{Frame}
-use Rattle.peer_words.specs.declared.frame.Frame.TheVariants.{Events}
-use Rattle.peer_words.specs.Pieces.{frame_room, pieces_from, pieces}
+use Rattle.peer_definitions.specs.declared.frame.Frame.{Frame}
+use Rattle.peer_definitions.specs.declared.frame.Frame.TheVariants.{Events}
+use Rattle.peer_definitions.specs.Pieces.{frame_room, pieces_from, pieces}
 use Rattle.peer_exchange.specs.Laws.{AreFull, ArePieces, FramesAreFull}
 
 no_items : {X : Type 0} (xs : List X) → length xs ≤ 0 → xs ≡ []

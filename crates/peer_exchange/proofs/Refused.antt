@@ -9,9 +9,9 @@ use Rattle.ew_model.specs.Arrival.{Answer, Desk, Judgement, judgements, next_jud
 use Rattle.ew_model.specs.File.{four_bytes, name_bytes, op_bytes}
 use Rattle.ew_model.specs.Limits.{LimitNumbers}
 use Rattle.ew_model.proofs.RoundLaws.{then}
-use Rattle.history_words.specs.Tallies.{refusal_in, refused_by, refused_in}
+use Rattle.history_definitions.specs.Tallies.{refusal_in, refused_by, refused_in}
 use Rattle.peer_exchange.proofs.Lengths.{four_long}
-use Rattle.peer_words.specs.Spelling.{id_bytes, event_bytes, events_body}
+use Rattle.peer_definitions.specs.Spelling.{id_bytes, event_bytes, events_body}
 
 -- each judgement gives one answer
 answers_few : (limits : LimitNumbers) (b : Bool) (n : ℕ) (d : Desk) → length (judgements limits b n d).answers ≤ n

@@ -6,9 +6,9 @@ use Rattle.ew_model.specs.ArrivalLaw.{OneEach}
 use Rattle.ew_model.specs.Events.{event_eq}
 use Rattle.ew_model.specs.Limits.{LimitNumbers, AreLimits}
 use Rattle.ew_model.specs.Verdicts.{IsGood}
-use Rattle.history_words.specs.Missing.{missing}
-use Rattle.history_words.specs.Summary.{summary_of}
-use Rattle.peer_words.specs.Pieces.{frame_room, pieces}
+use Rattle.history_definitions.specs.Missing.{missing}
+use Rattle.history_definitions.specs.Summary.{summary_of}
+use Rattle.peer_definitions.specs.Pieces.{frame_room, pieces}
 
 -- the events of a history that the other one doesn't hold, in order
 abbrev pub unheld : List Event → List Event → List Event

@@ -1,12 +1,12 @@
 -- What a reply is, and what a frame leaves.
 use Rattle.std.specs.Prelude.{◌≡◌, ◌⊎◌}
 use Rattle.ew_model.specs.Kept.{ReplicaState}
-use Rattle.peer_words.specs.declared.frame.Frame.{Frame}
-use Rattle.peer_words.specs.declared.frame.Frame.TheVariants.{Events}
+use Rattle.peer_definitions.specs.declared.frame.Frame.{Frame}
+use Rattle.peer_definitions.specs.declared.frame.Frame.TheVariants.{Events}
 use Rattle.replica.specs.declared.took.Stopped.{Stopped}
 use Rattle.replica.specs.Receiving.{StopsBetween}
 use Rattle.peer_exchange.specs.declared.reply.Reply.{Reply}
-use Rattle.peer_words.specs.Answering.{Answered}
+use Rattle.peer_definitions.specs.Answering.{Answered}
 
 -- the reply is what is answered, and the replica stands for what it stands for then
 pub record IsReply (answered : Answered) (new : ReplicaState) (reply : Reply) : Type 0 where

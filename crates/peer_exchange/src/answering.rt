@@ -2,14 +2,14 @@
 
 ghost use Rattle.std.specs.Prelude.{◌≡◌, ◌≤◌, ◌<◌, ◌+◌, ◌^◌, [], ◌∷◌, false, length, option_map, Some, IfOk, OnErr};
 ghost use Rattle.std.specs.List.{All, AllByRecursion};
-ghost use Rattle.history_words.specs.Missing.{missing};
-ghost use Rattle.history_words.specs.Summary.{summary_of};
+ghost use Rattle.history_definitions.specs.Missing.{missing};
+ghost use Rattle.history_definitions.specs.Summary.{summary_of};
 ghost use Rattle.peer_frames.specs.Laws.{IsTaken};
-ghost use Rattle.peer_words.specs.Spelling.{HasSpelling, IsSoundCount, IsSoundFrame};
-ghost use Rattle.peer_words.specs.declared.frame.Frame.TheVariants as frame;
-ghost use Rattle.peer_words.specs.declared.end.End.TheVariants as end;
+ghost use Rattle.peer_definitions.specs.Spelling.{HasSpelling, IsSoundCount, IsSoundFrame};
+ghost use Rattle.peer_definitions.specs.declared.frame.Frame.TheVariants as frame;
+ghost use Rattle.peer_definitions.specs.declared.end.End.TheVariants as end;
 ghost use Rattle.peer_exchange.specs.AnswerTouches.{answer_touches};
-ghost use Rattle.peer_words.specs.Answering.{answer_to, brings_events, question, first_clash, frame_for};
+ghost use Rattle.peer_definitions.specs.Answering.{answer_to, brings_events, question, first_clash, frame_for};
 ghost use Rattle.peer_exchange.specs.Replies.{IsReply, IsLeftBy};
 
 use crate::events::all_frames;
@@ -21,8 +21,8 @@ use ew_model::id::Id;
 use ew_model::name::Name;
 use ew_model::steps::Steps;
 use ew_model::verdict::Refusal;
+use peer_definitions::end::End;
 use peer_frames::{Counts, Frame};
-use peer_words::end::End;
 use replica::{Replica, Took};
 use std::alloc::Global;
 use std::sync::ledger::Ledger;

@@ -2,9 +2,9 @@
 
 ghost use Rattle.std.specs.Prelude.{◌≡◌, ◌<◌, [], ◌∷◌, ◌++◌, map, take, drop, IfOk, OnOk};
 ghost use Rattle.std.specs.Vec.Iter.{into_iter_items};
-ghost use Rattle.peer_words.specs.declared.frame.Frame.TheVariants as frame;
-ghost use Rattle.peer_words.specs.Answering.{event_frames};
-ghost use Rattle.peer_words.specs.Pieces.{frame_room, pieces};
+ghost use Rattle.peer_definitions.specs.declared.frame.Frame.TheVariants as frame;
+ghost use Rattle.peer_definitions.specs.Answering.{event_frames};
+ghost use Rattle.peer_definitions.specs.Pieces.{frame_room, pieces};
 
 use ew_model::NoMem;
 use ew_model::event::Event;

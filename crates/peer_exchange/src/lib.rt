@@ -1,5 +1,5 @@
 //! What two peers say to each other: `ask` makes the question for what a replica lacks, and `answer` the reply to a frame.
-//! `peer_words` says what is answered to each frame (`Answering`).
+//! `peer_definitions` says what is answered to each frame (`Answering`).
 #![tactic(auto)]
 
 mod answering;
@@ -10,5 +10,5 @@ mod sound;
 
 pub use answering::{answer, ask};
 pub use events::event_frames;
-pub use peer_words::end::End;
+pub use peer_definitions::end::End;
 pub use reply::Reply;

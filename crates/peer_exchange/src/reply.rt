@@ -1,7 +1,7 @@
 //! What is answered to a frame.
 
-use peer_words::end::End;
-use peer_words::frame::Frame;
+use peer_definitions::end::End;
+use peer_definitions::frame::Frame;
 
 /// The frames that are sent back, in order, and how the session ends, if it does.
 #[derive(Drop)]

@@ -4,7 +4,7 @@ ghost use Rattle.std.specs.Prelude.{◌≡◌, ◌<◌, ◌^◌, true};
 ghost use Rattle.std.specs.List.{AllByRecursion};
 ghost use Rattle.ew_model.specs.Names.{is_name};
 ghost use Rattle.ew_model.specs.Sound.{IsSoundId};
-ghost use Rattle.peer_words.specs.Spelling.{IsSoundCount};
+ghost use Rattle.peer_definitions.specs.Spelling.{IsSoundCount};
 
 use ew_model::id::Id;
 use ew_model::name::Name;

@@ -4,13 +4,13 @@ use Rattle.std.specs.Prelude.{OnOk, OnErr}
 use Rattle.ew_model.specs.Limits.{LimitNumbers}
 use Rattle.ew_model.specs.FileLaws.{AreBytes}
 use Rattle.peer_frames.specs.declared.kind.Kind.{Kind}
-use Rattle.peer_words.specs.declared.frame.Frame.{Frame}
+use Rattle.peer_definitions.specs.declared.frame.Frame.{Frame}
 use Rattle.peer_frames.specs.declared.fault.FrameFault.{FrameFault}
 use Rattle.peer_frames.specs.declared.fault.FrameFault.TheVariants as faults
-use Rattle.peer_words.specs.Spelling.{IsBody}
-use Rattle.peer_words.specs.Cutting.{head_of, Tells, Finds}
-use Rattle.peer_words.specs.Cutting.Head.{Complete}
-use Rattle.peer_words.specs.Cutting.Front.{Whole, BadBody}
+use Rattle.peer_definitions.specs.Spelling.{IsBody}
+use Rattle.peer_definitions.specs.Cutting.{head_of, Tells, Finds}
+use Rattle.peer_definitions.specs.Cutting.Head.{Complete}
+use Rattle.peer_definitions.specs.Cutting.Front.{Whole, BadBody}
 use Rattle.peer_frames.specs.Answers.{IsRead}
 use Rattle.peer_frames.specs.Reading.{kind_byte, frame_in, Gives}
 use Rattle.peer_frames.proofs.Bodies.{frame_some, frame_back}

@@ -6,7 +6,7 @@ use Rattle.std.specs.Ordering.{is_lt, nat_cmp}
 use Rattle.std.specs.Cmp.Lexicographic.{slice_cmp}
 use Rattle.std.proofs.lemmas.Bool.{and_parts, and_from, ltb-true, lt-ltb}
 use Rattle.std.proofs.lemmas.List.{map-append}
-use Rattle.peer_words.specs.Spelling.{AgentCount, names_ascend, IsSoundCount}
+use Rattle.peer_definitions.specs.Spelling.{AgentCount, names_ascend, IsSoundCount}
 use Rattle.peer_frames.specs.Reading.{may_follow}
 use Rattle.peer_frames.proofs.Lists.{AllBehind}
 use Rattle.ew_model.proofs.FileLists.{some_is}

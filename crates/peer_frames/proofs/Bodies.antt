@@ -12,9 +12,9 @@ use Rattle.ew_model.specs.FileLaws.{AreBytes}
 use Rattle.ew_model.proofs.FileFields.{Takes, Takes-then}
 use Rattle.peer_frames.specs.declared.kind.Kind.{Kind}
 use Rattle.peer_frames.specs.declared.kind.Kind.TheVariants as kinds
-use Rattle.peer_words.specs.declared.frame.Frame.{Frame}
-use Rattle.peer_words.specs.declared.frame.Frame.TheVariants.{Have, Events, Done, Took, Clash, Bye}
-use Rattle.peer_words.specs.Spelling.{AgentCount, names_ascend, id_bytes, event_bytes, count_bytes, counts_body, events_body, kind_of, body_of, CanBeSpelled, HasSpelling, IsSoundFrame, IsBody}
+use Rattle.peer_definitions.specs.declared.frame.Frame.{Frame}
+use Rattle.peer_definitions.specs.declared.frame.Frame.TheVariants.{Have, Events, Done, Took, Clash, Bye}
+use Rattle.peer_definitions.specs.Spelling.{AgentCount, names_ascend, id_bytes, event_bytes, count_bytes, counts_body, events_body, kind_of, body_of, CanBeSpelled, HasSpelling, IsSoundFrame, IsBody}
 use Rattle.peer_frames.specs.Reading.{Reader, done, nothing, go_on, ◌>>=◌, one_byte, one_number, one_name, one_operation, one_id, one_event, one_count, may_follow, read_ids, read_events, read_counts, all_counts, all_events, all_taken, kind_byte, content, all_of, frame_in}
 use Rattle.peer_frames.proofs.Fields.{go_some, byte_some, number_some, number_back, name_some, name_back, op_some, op_back, id_some, id_back}
 use Rattle.peer_frames.proofs.Lists.{AllBehind, AreRead, list_some, list_back}

@@ -7,12 +7,12 @@ use Rattle.ew_model.specs.Limits.{LimitNumbers}
 use Rattle.ew_model.specs.FileLaws.{AreBytes}
 use Rattle.ew_model.proofs.FileFields.{AreBytes-take, AreBytes-drop}
 use Rattle.peer_frames.specs.declared.kind.Kind.{Kind}
-use Rattle.peer_words.specs.declared.frame.Frame.{Frame}
-use Rattle.peer_words.specs.declared.frame.Frame.TheVariants.{Have, Events, Done, Took, Clash, Bye}
-use Rattle.peer_words.specs.Spelling.{kind_of, frame_bytes, HasSpelling, IsSoundFrame, IsBody}
-use Rattle.peer_words.specs.Cutting.{is_kind, Head, head_of, told_length, Front, Tells, Finds, is_whole, AreFrames}
-use Rattle.peer_words.specs.Cutting.Head.{Incomplete, NoKind, OverLimit, Complete}
-use Rattle.peer_words.specs.Cutting.Front.{Whole, Partial, BadKind, TooLong, BadBody}
+use Rattle.peer_definitions.specs.declared.frame.Frame.{Frame}
+use Rattle.peer_definitions.specs.declared.frame.Frame.TheVariants.{Have, Events, Done, Took, Clash, Bye}
+use Rattle.peer_definitions.specs.Spelling.{kind_of, frame_bytes, HasSpelling, IsSoundFrame, IsBody}
+use Rattle.peer_definitions.specs.Cutting.{is_kind, Head, head_of, told_length, Front, Tells, Finds, is_whole, AreFrames}
+use Rattle.peer_definitions.specs.Cutting.Head.{Incomplete, NoKind, OverLimit, Complete}
+use Rattle.peer_definitions.specs.Cutting.Front.{Whole, Partial, BadKind, TooLong, BadBody}
 use Rattle.peer_frames.specs.Calls.{Call, left_by, AreAnswers, fed, frames_in}
 use Rattle.peer_frames.specs.Calls.Call.{Feed, Next}
 use Rattle.peer_frames.specs.Reading.{kind_byte, frame_in}

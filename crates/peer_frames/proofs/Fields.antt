@@ -9,7 +9,7 @@ use Rattle.ew_model.specs.File.{four_bytes, name_bytes, op_bytes}
 use Rattle.ew_model.specs.FileFaults.{byte, number, read_name, read_op}
 use Rattle.ew_model.specs.FileLaws.{AreBytes}
 use Rattle.ew_model.proofs.FileFields.{Takes, Takes-then, byte_takes, number_takes, number_again, name_takes, name_again, op_takes, op_again}
-use Rattle.peer_words.specs.Spelling.{id_bytes}
+use Rattle.peer_definitions.specs.Spelling.{id_bytes}
 use Rattle.peer_frames.specs.Reading.{Reader, done, go_on, one_byte, one_number, one_name, one_operation, one_id}
 use Rattle.ew_model.proofs.FileLists.{some_is}
 

@@ -6,11 +6,11 @@ use Rattle.std.proofs.lemmas.List.{take-append-le, drop-append-le, take_at, drop
 use Rattle.std.proofs.lemmas.Nat.{from_le_bytes-to_le_bytes_4}
 use Rattle.ew_model.specs.Limits.{LimitNumbers}
 use Rattle.ew_model.specs.File.{four_bytes}
-use Rattle.peer_words.specs.declared.frame.Frame.{Frame}
-use Rattle.peer_words.specs.declared.frame.Frame.TheVariants.{Have, Events, Done, Took, Clash, Bye}
-use Rattle.peer_words.specs.Spelling.{kind_of, body_of, frame_bytes}
-use Rattle.peer_words.specs.Cutting.{is_kind, most_body, Head, told_length, head_of}
-use Rattle.peer_words.specs.Cutting.Head.{Incomplete, NoKind, OverLimit, Complete}
+use Rattle.peer_definitions.specs.declared.frame.Frame.{Frame}
+use Rattle.peer_definitions.specs.declared.frame.Frame.TheVariants.{Have, Events, Done, Took, Clash, Bye}
+use Rattle.peer_definitions.specs.Spelling.{kind_of, body_of, frame_bytes}
+use Rattle.peer_definitions.specs.Cutting.{is_kind, most_body, Head, told_length, head_of}
+use Rattle.peer_definitions.specs.Cutting.Head.{Incomplete, NoKind, OverLimit, Complete}
 
 -- the tests behind that of the kind
 abbrev by_body : LimitNumbers → ℕ → List ℕ → Head

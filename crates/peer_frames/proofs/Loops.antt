@@ -4,7 +4,7 @@ use Rattle.ew_model.specs.declared.id.Id.{Id}
 use Rattle.ew_model.specs.declared.event.Event.{Event}
 use Rattle.peer_frames.specs.declared.fault.FrameFault.{FrameFault}
 use Rattle.peer_frames.specs.declared.fault.FrameFault.TheVariants.{TooLong, BadKind, BadBody, OutOfMemory}
-use Rattle.peer_words.specs.Spelling.{AgentCount}
+use Rattle.peer_definitions.specs.Spelling.{AgentCount}
 use Rattle.peer_frames.specs.Reading.{Reader, go_on, Stops, one_id, one_event, one_count, read_ids, read_events, read_counts}
 
 -- Things are read behind others, so many; each by one reader that knows those before it.

@@ -3,8 +3,8 @@ use Rattle.std.proofs.Common.{◌≡◌, ℕ, List, [], ◌∷◌, Option, Some,
 use Rattle.ew_model.specs.declared.event.Event.{Event}
 use Rattle.ew_model.specs.FileLaws.{AreBytes}
 use Rattle.ew_model.proofs.FileLists.{some_is}
-use Rattle.peer_words.specs.Spelling.{events_body}
-use Rattle.peer_words.specs.Batches.{IsEventsBody}
+use Rattle.peer_definitions.specs.Spelling.{events_body}
+use Rattle.peer_definitions.specs.Batches.{IsEventsBody}
 use Rattle.peer_frames.specs.Reading.{all_of, all_events}
 use Rattle.peer_frames.proofs.Cuts.{none_is}
 use Rattle.peer_frames.proofs.Bodies.{events_some, events_back, split_event, joined_event}

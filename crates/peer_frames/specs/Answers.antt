@@ -1,11 +1,11 @@
 -- What the answers of this crate say, in the words of its definitions.
 use Rattle.std.specs.Prelude.{ℕ, Bool, true, false, List, Option, Some, None, Result, Ok, Err}
-use Rattle.peer_words.specs.declared.frame.Frame.{Frame}
+use Rattle.peer_definitions.specs.declared.frame.Frame.{Frame}
 use Rattle.peer_frames.specs.declared.fault.FrameFault.{FrameFault}
 use Rattle.peer_frames.specs.declared.fault.FrameFault.TheVariants.{TooLong, BadKind, BadBody, OutOfMemory}
-use Rattle.peer_words.specs.Spelling.{IsBody}
-use Rattle.peer_words.specs.Cutting as cut
-use Rattle.peer_words.specs.Cutting.{Front}
+use Rattle.peer_definitions.specs.Spelling.{IsBody}
+use Rattle.peer_definitions.specs.Cutting as cut
+use Rattle.peer_definitions.specs.Cutting.{Front}
 use Rattle.peer_frames.specs.Calls.{Kept}
 
 -- what an answer of a reader says of the bytes that it had, and of those that it keeps; want of memory says nothing

@@ -1,9 +1,9 @@
 -- What a user of a reader does, and is answered.
 use Rattle.std.specs.Prelude.{◌≡◌, ℕ, Bool, List, [], ◌∷◌, ◌++◌}
 use Rattle.ew_model.specs.Limits.{LimitNumbers}
-use Rattle.peer_words.specs.declared.frame.Frame.{Frame}
-use Rattle.peer_words.specs.Cutting.{Front, Finds}
-use Rattle.peer_words.specs.Cutting.Front.{Whole}
+use Rattle.peer_definitions.specs.declared.frame.Frame.{Frame}
+use Rattle.peer_definitions.specs.Cutting.{Front, Finds}
+use Rattle.peer_definitions.specs.Cutting.Front.{Whole}
 
 -- a reader's limits, the bytes that came since the last frame, and whether their body was answered to be none
 pub record Kept : Type 0 where

@@ -4,11 +4,11 @@ use Rattle.std.specs.List.{AllByRecursion}
 use Rattle.ew_model.specs.Limits.{LimitNumbers}
 use Rattle.ew_model.specs.FileLaws.{AreBytes}
 use Rattle.ew_model.specs.declared.event.Event.{Event}
-use Rattle.peer_words.specs.declared.frame.Frame.{Frame}
-use Rattle.peer_words.specs.Batches.{AreBatches}
-use Rattle.peer_words.specs.Spelling.{kind_of, body_of, frame_bytes, HasSpelling, IsSoundFrame}
-use Rattle.peer_words.specs.Cutting.{Front, Finds, AreFrames, most_body}
-use Rattle.peer_words.specs.Cutting.Front.{Whole, Partial, BadKind, TooLong, BadBody}
+use Rattle.peer_definitions.specs.declared.frame.Frame.{Frame}
+use Rattle.peer_definitions.specs.Batches.{AreBatches}
+use Rattle.peer_definitions.specs.Spelling.{kind_of, body_of, frame_bytes, HasSpelling, IsSoundFrame}
+use Rattle.peer_definitions.specs.Cutting.{Front, Finds, AreFrames, most_body}
+use Rattle.peer_definitions.specs.Cutting.Front.{Whole, Partial, BadKind, TooLong, BadBody}
 use Rattle.peer_frames.specs.Calls.{Call, AreAnswers, fed, frames_in}
 
 -- Where the spelling of a frame begins with that of a frame, the two are one.

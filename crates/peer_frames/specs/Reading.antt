@@ -11,11 +11,11 @@ use Rattle.peer_frames.specs.declared.fault.FrameFault.TheVariants.{TooLong, Bad
 use Rattle.peer_frames.specs.declared.kind.Kind.{Kind}
 use Rattle.peer_frames.specs.declared.kind.Kind.TheVariants as kinds
 use Rattle.peer_frames.specs.declared.head.BodyPlace.{BodyPlace}
-use Rattle.peer_words.specs.declared.frame.Frame.{Frame}
-use Rattle.peer_words.specs.declared.frame.Frame.TheVariants.{Have, Events, Done, Took, Clash, Bye}
-use Rattle.peer_words.specs.Spelling.{AgentCount, names_ascend}
-use Rattle.peer_words.specs.Cutting.{Head}
-use Rattle.peer_words.specs.Cutting.Head.{Incomplete, NoKind, OverLimit, Complete}
+use Rattle.peer_definitions.specs.declared.frame.Frame.{Frame}
+use Rattle.peer_definitions.specs.declared.frame.Frame.TheVariants.{Have, Events, Done, Took, Clash, Bye}
+use Rattle.peer_definitions.specs.Spelling.{AgentCount, names_ascend}
+use Rattle.peer_definitions.specs.Cutting.{Head}
+use Rattle.peer_definitions.specs.Cutting.Head.{Incomplete, NoKind, OverLimit, Complete}
 
 -- A reader takes a value off the front of bytes, or there is none.
 abbrev pub Reader : Type 0 → Type 0

@@ -4,8 +4,8 @@ ghost use Rattle.std.specs.Prelude.{◌≡◌, ◌<◌, ◌≤◌, ◌^◌, List
 ghost use Rattle.std.specs.List.{AllByRecursion};
 ghost use Rattle.ew_model.specs.declared.event.Event.{Event};
 ghost use Rattle.ew_model.specs.Sound.{AreSound};
-ghost use Rattle.peer_words.specs.Spelling.{events_body};
-ghost use Rattle.peer_words.specs.Batches.{IsEventsBody};
+ghost use Rattle.peer_definitions.specs.Spelling.{events_body};
+ghost use Rattle.peer_definitions.specs.Batches.{IsEventsBody};
 ghost use Rattle.peer_frames.specs.Reading.{Gives, all_of, all_events};
 
 use crate::fault::FrameFault;

@@ -1,7 +1,7 @@
 //! What the first bytes of a frame tell.
 
 ghost use Rattle.std.specs.Prelude.{◌≡◌, ◌<◌, ◌≤◌, ◌+◌, ◌^◌, length, IfOk, IfSome};
-ghost use Rattle.peer_words.specs.Cutting.{head_of, most_body};
+ghost use Rattle.peer_definitions.specs.Cutting.{head_of, most_body};
 ghost use Rattle.peer_frames.specs.Reading.{IsHead, kind_byte};
 
 use crate::fault::FrameFault;
@@ -17,7 +17,7 @@ pub(crate) struct BodyPlace {
 }
 
 /// What the first bytes tell: None where the kind, the length or the body isn't all there.
-#[tactic(auto, unfolding(peer_words::specs::Cutting::head_of))]
+#[tactic(auto, unfolding(peer_definitions::specs::Cutting::head_of))]
 pub(crate) fn read_head(limits: &Limits, bytes: &[u8]) -> Result<Option<BodyPlace>, FrameFault>
     ensures head { IsHead bytes.now result (head_of limits.now bytes.now) }
     ensures within { IfOk result (λ found. IfSome found (λ p. 5 + p.len ≤ length bytes.now)) }

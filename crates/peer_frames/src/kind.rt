@@ -1,11 +1,11 @@
 //! The kinds of frames.
 
 ghost use Rattle.std.specs.Prelude.{◌≡◌, ◌↔◌, true, IsSome, IfSome};
-ghost use Rattle.peer_words.specs.Cutting.{is_kind};
+ghost use Rattle.peer_definitions.specs.Cutting.{is_kind};
 ghost use Rattle.peer_frames.specs.Reading.{kind_byte};
-ghost use Rattle.peer_words.specs.Spelling.{kind_of};
+ghost use Rattle.peer_definitions.specs.Spelling.{kind_of};
 
-use peer_words::frame::Frame;
+use peer_definitions::frame::Frame;
 
 #[derive(Clone, Copy)]
 pub(crate) enum Kind {

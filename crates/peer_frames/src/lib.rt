@@ -1,6 +1,6 @@
 //! Frames between peers: `encode` writes a frame, and a `FrameReader` finds frames in bytes that come in pieces of any length.
 //! `encode_events` and `decode_events` write and read the body of an Events frame alone.
-//! `peer_words` says how a frame is spelled (`Spelling`), and how bytes are cut into frames (`Cutting`).
+//! `peer_definitions` says how a frame is spelled (`Spelling`), and how bytes are cut into frames (`Cutting`).
 #![tactic(auto)]
 
 mod event_bodies;
@@ -16,6 +16,6 @@ mod writing;
 
 pub use event_bodies::{decode_events, encode_events};
 pub use fault::FrameFault;
-pub use peer_words::frame::{Counts, EventList, Frame};
+pub use peer_definitions::frame::{Counts, EventList, Frame};
 pub use reader::FrameReader;
 pub use writing::encode;

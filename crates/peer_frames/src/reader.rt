@@ -1,8 +1,8 @@
 //! Frames that are found in bytes which come in pieces.
 
 ghost use Rattle.std.specs.Prelude.{◌≡◌, ◌↔◌, [], ◌++◌, true, false, None, Some, Ok, Err, IsTrue, IsOkAnd, OnOk, OnErr, IfSome, IfErr, IfOk};
-ghost use Rattle.peer_words.specs.Spelling.{HasSpelling, IsSoundFrame};
-ghost use Rattle.peer_words.specs.Cutting.{Front, Finds};
+ghost use Rattle.peer_definitions.specs.Spelling.{HasSpelling, IsSoundFrame};
+ghost use Rattle.peer_definitions.specs.Cutting.{Front, Finds};
 ghost use Rattle.peer_frames.specs.Answers.{said, needs_memory, after_fault};
 
 use crate::fault::FrameFault;
@@ -12,7 +12,7 @@ use crate::reading::read_body;
 use bytes::BytesMut;
 use ew_model::NoMem;
 use ew_model::limits::Limits;
-use peer_words::frame::Frame;
+use peer_definitions::frame::Frame;
 use std::alloc::Global;
 use std::marker::Model;
 
@@ -29,8 +29,8 @@ pub struct FrameReader {
 impl Model for FrameReader {
     ghost use Rattle.std.specs.Prelude.{◌≡◌, true};
     ghost use Rattle.peer_frames.specs.Calls.{Kept};
-    ghost use Rattle.peer_words.specs.Cutting.{Finds};
-    ghost use Rattle.peer_words.specs.Cutting.Front.{BadBody};
+    ghost use Rattle.peer_definitions.specs.Cutting.{Finds};
+    ghost use Rattle.peer_definitions.specs.Cutting.Front.{BadBody};
 
     ghost Value = { Kept };
 

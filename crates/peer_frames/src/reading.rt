@@ -2,7 +2,7 @@
 
 ghost use Rattle.std.specs.Prelude.{◌≡◌, ◌<◌, ◌^◌, [], ◌∷◌, ◌++◌, true, map, length};
 ghost use Rattle.peer_frames.specs.Answers.{IsRead};
-ghost use Rattle.peer_words.specs.Spelling.{names_ascend};
+ghost use Rattle.peer_definitions.specs.Spelling.{names_ascend};
 ghost use Rattle.peer_frames.specs.Reading.{Gives, one_count, one_event, read_ids, read_events, read_counts, all_counts, all_events, all_taken, content, frame_in, kind_byte};
 
 use crate::fault::FrameFault;
@@ -12,7 +12,7 @@ use ew_model::event::Event;
 use ew_model::id::Id;
 use ew_model::name::Name;
 use ew_model::parents::Parents;
-use peer_words::frame::{Counts, EventList, Frame};
+use peer_definitions::frame::{Counts, EventList, Frame};
 use std::alloc::Global;
 
 /// The frame of this kind with this body.

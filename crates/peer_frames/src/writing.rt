@@ -6,7 +6,7 @@ ghost use Rattle.std.specs.List.{AllByRecursion};
 ghost use Rattle.ew_model.specs.File.{four_bytes, name_bytes, op_bytes};
 ghost use Rattle.ew_model.specs.Names.{is_name};
 ghost use Rattle.ew_model.specs.Sound.{IsSound, IsSoundId, IsSoundOp, AreSound};
-ghost use Rattle.peer_words.specs.Spelling.{IsSoundCount, IsSoundFrame, HasSpelling, id_bytes, event_bytes, count_bytes, events_body, counts_body, body_of, frame_bytes};
+ghost use Rattle.peer_definitions.specs.Spelling.{IsSoundCount, IsSoundFrame, HasSpelling, id_bytes, event_bytes, count_bytes, events_body, counts_body, body_of, frame_bytes};
 
 use crate::format::{DELETION, HEAD_LEN, INSERTION};
 use crate::kind::Kind;
@@ -14,12 +14,12 @@ use ew_model::NoMem;
 use ew_model::event::{Event, Op};
 use ew_model::id::Id;
 use ew_model::name::Name;
-use peer_words::frame::Frame;
+use peer_definitions::frame::Frame;
 use std::alloc::Global;
 
 /// The bytes of a frame that has a spelling: the names of a Have ascend, its counts are at least 1, each event has at most 255
 /// parents, and the body has fewer than 2^32 bytes.
-#[tactic(auto, unfolding(peer_words::specs::Spelling::frame_bytes))]
+#[tactic(auto, unfolding(peer_definitions::specs::Spelling::frame_bytes))]
 pub fn encode(alloc: Global, frame: &Frame) -> Result<Vec<u8>, NoMem>
     requires { HasSpelling frame.now }
     ensures bytes { IfOk result (λ bytes. bytes.items ≡ frame_bytes frame.now) }

@@ -13,7 +13,7 @@ use Rattle.ew_model.specs.Positions.{parents_at, parent_positions}
 use Rattle.ew_model.specs.Verdicts.{graph_verdict, verdict}
 use Rattle.ew_model.specs.Verdicts.Ruling.{Good}
 use Rattle.ew_model.proofs.ListParts.{element_there}
-use Rattle.history_words.specs.Chains.{event_behind, next_id, last_id}
+use Rattle.history_definitions.specs.Chains.{event_behind, next_id, last_id}
 use Rattle.event_graph.specs.Keeping.{IsAdmitted}
 use Rattle.event_graph.proofs.GoingOn.{good_behind}
 use Rattle.agreement.proofs.OnlyParents.{ids_of_only}

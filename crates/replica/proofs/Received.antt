@@ -18,8 +18,8 @@ use Rattle.replica.specs.Desks.{desk_of_replica}
 use Rattle.replica.specs.Fronts.{IsFront}
 use Rattle.replica.specs.Reaching.{Reaches}
 use Rattle.replica.specs.Receiving.{ComesTo, Receives, StandsBetween, StopsBetween}
-use Rattle.history_words.specs.Outcomes.{state_at}
-use Rattle.history_words.specs.Tallies.{accepted_in}
+use Rattle.history_definitions.specs.Outcomes.{state_at}
+use Rattle.history_definitions.specs.Tallies.{accepted_in}
 use Rattle.replica.proofs.RoundWays.{all_made}
 use Rattle.replica.proofs.Ways.{counts_joined, counts_none}
 

@@ -11,7 +11,7 @@ use Rattle.ew_model.specs.Verdicts.Ruling.{Repeat, Clash, SelfParent, TooManyPar
 use Rattle.replica.specs.declared.answer.Answer as program
 use Rattle.replica.specs.Counting.{Counted, with_more}
 use Rattle.replica.specs.Desks.{Judges, answer_by, known_at, pooled, held_by, waiting_by, refused_at, repeats_at, with_known, desk_at, IsBegun}
-use Rattle.history_words.specs.Tallies.{repeats_in, refused_in}
+use Rattle.history_definitions.specs.Tallies.{repeats_in, refused_in}
 
 -- a desk where these wait and these are to come, with the same events held, and one was judged
 abbrev pub rest_of : Desk → List Event → List Event → Desk

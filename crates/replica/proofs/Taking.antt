@@ -15,7 +15,7 @@ use Rattle.ew_model.specs.Verdicts.Ruling.{Repeat, Clash, SelfParent, TooManyPar
 use Rattle.replica.specs.declared.answer.Answer.{Answer}
 use Rattle.replica.specs.declared.answer.Answer.TheVariants as answer
 use Rattle.replica.specs.Desks.{answer_by, known_at, pooled, repeats_at}
-use Rattle.history_words.specs.Tallies.{is_repeat}
+use Rattle.history_definitions.specs.Tallies.{is_repeat}
 use Rattle.replica.proofs.RulingRows.{by_parents, by_size, size_is, later_blind, id_new, none_there, verdict_is}
 use Rattle.waiting_pool.proofs.Ready.{held_found}
 use Rattle.ew_model.proofs.IndexLaw.{unequal_back}

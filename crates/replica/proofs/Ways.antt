@@ -15,7 +15,7 @@ use Rattle.replica.specs.Counting.{Counted}
 use Rattle.replica.specs.Desks.{Counts, Judges, Leads, LeadsToEnd, LeadsToStop, answer_by, is_stop, next_known, with_known}
 use Rattle.replica.specs.Desks.Leads.{Here, Further}
 use Rattle.replica.specs.Fronts.{IsFront}
-use Rattle.history_words.specs.Tallies.{is_repeat, refused_by, refused_in, repeats_in}
+use Rattle.history_definitions.specs.Tallies.{is_repeat, refused_by, refused_in, repeats_in}
 
 -- answers that are counted one after another
 repeats_joined : (xs ys : List Answer) → repeats_in (xs ++ ys) ≡ repeats_in xs + repeats_in ys

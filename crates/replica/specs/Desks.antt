@@ -16,8 +16,8 @@ use Rattle.replica.specs.declared.answer.Answer.{Answer}
 use Rattle.replica.specs.declared.answer.Answer.TheVariants as answer
 use Rattle.replica.specs.declared.desk.Desk.{Desk}
 use Rattle.replica.specs.Counting.{Counted}
-use Rattle.history_words.specs.Chains.{last_id, event_behind}
-use Rattle.history_words.specs.Tallies.{repeats_in, refused_in}
+use Rattle.history_definitions.specs.Chains.{last_id, event_behind}
+use Rattle.history_definitions.specs.Tallies.{repeats_in, refused_in}
 use Rattle.waiting_pool.specs.Waiting.{Waiting, events_of}
 use Rattle.waiting_pool.specs.Knowing.{IsBehind}
 

@@ -4,11 +4,11 @@ use Rattle.ew_model.specs.declared.event.Event.{Event}
 use Rattle.ew_model.specs.Arrival.{Outcome, judgements, desk_of, arrive}
 use Rattle.ew_model.specs.Cuts.{latest_cut}
 use Rattle.ew_model.specs.Kept.{ReplicaState}
-use Rattle.history_words.specs.Tallies.{accepted_in, repeats_in, refused_in}
+use Rattle.history_definitions.specs.Tallies.{accepted_in, repeats_in, refused_in}
 use Rattle.replica.specs.declared.took.Took.{Took}
 use Rattle.replica.specs.declared.took.Stopped.{Stopped}
 use Rattle.replica.specs.Fronts.{IsFront}
-use Rattle.history_words.specs.Outcomes.{state_at}
+use Rattle.history_definitions.specs.Outcomes.{state_at}
 
 -- The answers are counted, how many wait now, and the greatest critical cut that isn't above the number held before.
 pub record Tells (before : ℕ) (o : Outcome) (took : Took) : Type 0 where

@@ -5,7 +5,7 @@ ghost use Rattle.ew_model.specs.declared.event.Event.{Event};
 ghost use Rattle.ew_model.specs.Answers.{ruling_of};
 ghost use Rattle.ew_model.specs.Touches.{touches};
 ghost use Rattle.ew_model.specs.Verdicts as model;
-ghost use Rattle.history_words.specs.Chains.{event_behind};
+ghost use Rattle.history_definitions.specs.Chains.{event_behind};
 ghost use Rattle.replica.specs.Answers.{Loads, LoadsGraph};
 ghost use Rattle.replica.specs.Giving.{WereGiven};
 

@@ -4,7 +4,7 @@ ghost use Rattle.std.specs.Prelude.{◌≡◌, ◌<◌, length, slice_get, Some,
 ghost use Rattle.std.specs.Cow.{cow_value};
 ghost use Rattle.std.specs.List.{All, ItemBy};
 ghost use Rattle.event_graph.specs.Subgraphs.{events_at};
-ghost use Rattle.history_words.specs.Chains.{event_behind};
+ghost use Rattle.history_definitions.specs.Chains.{event_behind};
 
 use event_graph::{Graph, Near, is_next};
 use ew_model::NoMem;

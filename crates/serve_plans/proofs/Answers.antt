@@ -6,13 +6,13 @@ use Rattle.std.proofs.KnownBytes.{Appends-nil}
 use Rattle.ew_model.specs.Kept.{ReplicaState}
 use Rattle.ew_model.specs.Limits.{LimitNumbers}
 use Rattle.peer_frames.specs.declared.fault.FrameFault.{FrameFault}
-use Rattle.peer_words.specs.declared.frame.Frame.{Frame}
+use Rattle.peer_definitions.specs.declared.frame.Frame.{Frame}
 use Rattle.peer_frames.specs.Answers.{said}
-use Rattle.peer_words.specs.Cutting.{Finds}
-use Rattle.peer_words.specs.Cutting.Front.{Whole}
-use Rattle.peer_words.specs.Answering.{Answered, answer_to}
-use Rattle.peer_words.specs.declared.end.End.{End}
-use Rattle.peer_words.specs.declared.end.End.TheVariants as end
+use Rattle.peer_definitions.specs.Cutting.{Finds}
+use Rattle.peer_definitions.specs.Cutting.Front.{Whole}
+use Rattle.peer_definitions.specs.Answering.{Answered, answer_to}
+use Rattle.peer_definitions.specs.declared.end.End.{End}
+use Rattle.peer_definitions.specs.declared.end.End.TheVariants as end
 use Rattle.ew_outside.specs.Outputs.{GrowsByFront}
 use Rattle.command_table.specs.Sessions.{Exchange, exchanged, then_exchanged, bytes_of}
 use Rattle.serve_plans.specs.Serving.{sent_by, sent_of, Replies, StaysOrFlushed, Spoken, Closes, Closed, Broken, AnswersAll, IsByFrame}

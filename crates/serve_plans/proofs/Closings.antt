@@ -8,12 +8,12 @@ use Rattle.ew_model.specs.Kept.{ReplicaState}
 use Rattle.ew_model.specs.Limits.{LimitNumbers}
 use Rattle.peer_frames.specs.declared.fault.FrameFault.{FrameFault}
 use Rattle.peer_frames.specs.declared.fault.FrameFault.TheVariants as fault
-use Rattle.peer_words.specs.declared.frame.Frame.{Frame}
-use Rattle.peer_words.specs.Cutting.{Front, Finds, is_whole}
-use Rattle.peer_words.specs.Cutting.Front.{Partial, BadKind, TooLong, BadBody}
+use Rattle.peer_definitions.specs.declared.frame.Frame.{Frame}
+use Rattle.peer_definitions.specs.Cutting.{Front, Finds, is_whole}
+use Rattle.peer_definitions.specs.Cutting.Front.{Partial, BadKind, TooLong, BadBody}
 use Rattle.peer_frames.proofs.Cuts.{faults_stay}
-use Rattle.peer_words.specs.declared.end.End.{End}
-use Rattle.peer_words.specs.declared.end.End.TheVariants as end
+use Rattle.peer_definitions.specs.declared.end.End.{End}
+use Rattle.peer_definitions.specs.declared.end.End.TheVariants as end
 use Rattle.ew_outside.specs.Bytes.{IsFlushed}
 use Rattle.ew_outside.specs.Outputs.{Sends}
 use Rattle.command_table.specs.Framings.{BeginWith, Framing, IsFramingOf}

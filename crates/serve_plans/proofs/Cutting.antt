@@ -4,10 +4,10 @@ use Rattle.std.proofs.lemmas.List.{length-drop}
 use Rattle.ew_model.specs.Limits.{LimitNumbers}
 use Rattle.ew_model.specs.FileLaws.{AreBytes}
 use Rattle.ew_model.proofs.FileFields.{AreBytes-drop}
-use Rattle.peer_words.specs.declared.frame.Frame.{Frame}
-use Rattle.peer_words.specs.Cutting.{Head, head_of, told_length, Front, Tells, Finds, is_whole, AreFrames}
-use Rattle.peer_words.specs.Cutting.Head.{Incomplete, NoKind, OverLimit, Complete}
-use Rattle.peer_words.specs.Cutting.Front.{Whole, Partial}
+use Rattle.peer_definitions.specs.declared.frame.Frame.{Frame}
+use Rattle.peer_definitions.specs.Cutting.{Head, head_of, told_length, Front, Tells, Finds, is_whole, AreFrames}
+use Rattle.peer_definitions.specs.Cutting.Head.{Incomplete, NoKind, OverLimit, Complete}
+use Rattle.peer_definitions.specs.Cutting.Front.{Whole, Partial}
 use Rattle.peer_frames.proofs.Heads.{HeadSays, head_says, Grows, grows}
 use Rattle.peer_frames.proofs.Cuts.{fronts_are_one, cuts_are_found, end_is_not, whole_parts}
 use Rattle.command_table.specs.Framings.{BeginWith}

@@ -12,11 +12,11 @@ use Rattle.ew_model.specs.Kept.{ReplicaState}
 use Rattle.ew_model.specs.Limits.{LimitNumbers}
 use Rattle.ew_model.proofs.ListTests.{any_from, found_by}
 use Rattle.ew_model.proofs.SetLaws.{joined_left}
-use Rattle.peer_words.specs.declared.frame.Frame.{Frame}
-use Rattle.peer_words.specs.declared.frame.Frame.TheVariants as frame
-use Rattle.peer_words.specs.Answering.{Answered, answer_to}
-use Rattle.peer_words.specs.declared.end.End.{End}
-use Rattle.peer_words.specs.declared.end.End.TheVariants as end
+use Rattle.peer_definitions.specs.declared.frame.Frame.{Frame}
+use Rattle.peer_definitions.specs.declared.frame.Frame.TheVariants as frame
+use Rattle.peer_definitions.specs.Answering.{Answered, answer_to}
+use Rattle.peer_definitions.specs.declared.end.End.{End}
+use Rattle.peer_definitions.specs.declared.end.End.TheVariants as end
 use Rattle.command_table.specs.Framings.{BeginWith, Framing, IsFramingOf}
 use Rattle.command_table.specs.Reads.{TakesAtMost}
 use Rattle.command_table.specs.Sessions.{Exchange, exchanged, then_exchanged, is_bye}

@@ -3,7 +3,7 @@ use Rattle.std.proofs.Common.{◌≡◌, ℕ, List, [], Option, IfOk, Result, Ok
 use Rattle.std.proofs.KnownBytes.{Appends-nil}
 use Rattle.ew_model.specs.Kept.{ReplicaState}
 use Rattle.ew_model.specs.Limits.{LimitNumbers}
-use Rattle.peer_words.specs.Cutting.Front.{Partial}
+use Rattle.peer_definitions.specs.Cutting.Front.{Partial}
 use Rattle.command_table.specs.Framings.{Framing, IsFramingOf}
 use Rattle.command_table.specs.Loads.{missing}
 use Rattle.command_table.specs.Possible.{MayOpen}

@@ -7,8 +7,8 @@ use Rattle.ew_model.specs.FileLaws.{AreBytes}
 use Rattle.ew_model.specs.Kept.{ReplicaState}
 use Rattle.ew_model.specs.Limits.{LimitNumbers}
 use Rattle.ew_outside.specs.Bytes.{IsEnd}
-use Rattle.peer_words.specs.Cutting.{Finds}
-use Rattle.peer_words.specs.Cutting.Front.{Partial}
+use Rattle.peer_definitions.specs.Cutting.{Finds}
+use Rattle.peer_definitions.specs.Cutting.Front.{Partial}
 use Rattle.command_table.specs.Sessions.{exchanged}
 use Rattle.ew_outside.specs.declared.fault.Fault.TheVariants as fault_is
 use Rattle.serve_plans.specs.Plans.{SinkCauses}

@@ -7,9 +7,9 @@ use Rattle.ew_model.specs.declared.event.Event.{Event}
 use Rattle.ew_model.specs.Kept.{ReplicaState}
 use Rattle.ew_model.specs.Limits.{LimitNumbers}
 use Rattle.ew_outside.specs.Files.{Files}
-use Rattle.peer_words.specs.declared.frame.Frame.{Frame}
-use Rattle.peer_words.specs.Cutting.{Front, AreFrames}
-use Rattle.peer_words.specs.Cutting.Front.{Partial}
+use Rattle.peer_definitions.specs.declared.frame.Frame.{Frame}
+use Rattle.peer_definitions.specs.Cutting.{Front, AreFrames}
+use Rattle.peer_definitions.specs.Cutting.Front.{Partial}
 use Rattle.peer_frames.proofs.Cuts.{cuts_are_one, finds_nothing}
 use Rattle.command_table.specs.Sessions.{Exchange, exchanged, opened_state, IsReplied, IsPrompt}
 use Rattle.command_table.specs.Table.{Text, opened, open_file}

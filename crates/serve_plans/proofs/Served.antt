@@ -8,8 +8,8 @@ use Rattle.ew_model.specs.Kept.{ReplicaState}
 use Rattle.ew_model.specs.Limits.{LimitNumbers}
 use Rattle.ew_outside.specs.Bytes.{IsFlushed}
 use Rattle.ew_outside.specs.Files.{Files}
-use Rattle.peer_words.specs.declared.end.End.{End}
-use Rattle.peer_words.specs.declared.end.End.TheVariants as end
+use Rattle.peer_definitions.specs.declared.end.End.{End}
+use Rattle.peer_definitions.specs.declared.end.End.TheVariants as end
 use Rattle.ew_outside.specs.Outputs.{GrowsByFront}
 use Rattle.command_table.specs.Framings.{BeginWith, Framing, IsFramingOf}
 use Rattle.command_table.specs.Sessions.{Exchange, exchanged, opened_state, Session, served_as, served_by, served_from}

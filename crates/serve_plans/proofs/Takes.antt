@@ -6,12 +6,12 @@ use Rattle.std.proofs.Math.Seq.{take-append-add}
 use Rattle.ew_model.specs.Kept.{ReplicaState}
 use Rattle.ew_model.specs.Limits.{LimitNumbers}
 use Rattle.ew_outside.specs.Files.{Files}
-use Rattle.peer_words.specs.declared.frame.Frame.{Frame}
-use Rattle.peer_words.specs.Cutting.{head_of, Front, Finds, AreFrames}
-use Rattle.peer_words.specs.Cutting.Front.{Whole}
+use Rattle.peer_definitions.specs.declared.frame.Frame.{Frame}
+use Rattle.peer_definitions.specs.Cutting.{head_of, Front, Finds, AreFrames}
+use Rattle.peer_definitions.specs.Cutting.Front.{Whole}
 use Rattle.peer_frames.proofs.Heads.{grows}
 use Rattle.peer_frames.proofs.Cuts.{fronts_are_one, end_is_not, whole_parts}
-use Rattle.peer_words.specs.Answering.{answer_to}
+use Rattle.peer_definitions.specs.Answering.{answer_to}
 use Rattle.peer_exchange.specs.AnswerTouches.{answer_touches}
 use Rattle.command_table.specs.Sessions.{opened_state}
 use Rattle.command_table.specs.Table.{Text, opened, open_file}

@@ -1,10 +1,10 @@
 -- What is answered to frames, and then to more of them.
 use Rattle.std.proofs.Common.{◌≡◌, ℕ, List, [], ◌∷◌, ◌++◌, Option, None, Some, refl, sym, ap, subst, ◌∙◌, append_assoc, append-nil}
 use Rattle.ew_model.specs.Kept.{ReplicaState}
-use Rattle.peer_words.specs.declared.frame.Frame.{Frame}
-use Rattle.peer_words.specs.Answering.{Answered, answer_to}
-use Rattle.peer_words.specs.declared.end.End.{End}
-use Rattle.peer_words.specs.declared.end.End.TheVariants as end
+use Rattle.peer_definitions.specs.declared.frame.Frame.{Frame}
+use Rattle.peer_definitions.specs.Answering.{Answered, answer_to}
+use Rattle.peer_definitions.specs.declared.end.End.{End}
+use Rattle.peer_definitions.specs.declared.end.End.TheVariants as end
 use Rattle.command_table.specs.Sessions.{Exchange, exchanged, then_exchanged, bytes_of}
 use Rattle.serve_plans.specs.Serving.{sent_by}
 

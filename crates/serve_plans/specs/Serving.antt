@@ -8,12 +8,12 @@ use Rattle.ew_outside.specs.Bytes.{IsEnd, IsFlushed}
 use Rattle.ew_outside.specs.Counts.{Rose}
 use Rattle.peer_frames.specs.declared.fault.FrameFault.{FrameFault}
 use Rattle.peer_frames.specs.declared.fault.FrameFault.TheVariants as fault
-use Rattle.peer_words.specs.declared.frame.Frame.{Frame}
-use Rattle.peer_words.specs.Cutting.{Finds}
-use Rattle.peer_words.specs.Cutting.Front.{Partial, BadKind, TooLong, BadBody}
-use Rattle.peer_words.specs.Answering.{Answered}
-use Rattle.peer_words.specs.declared.end.End.{End}
-use Rattle.peer_words.specs.declared.end.End.TheVariants as end
+use Rattle.peer_definitions.specs.declared.frame.Frame.{Frame}
+use Rattle.peer_definitions.specs.Cutting.{Finds}
+use Rattle.peer_definitions.specs.Cutting.Front.{Partial, BadKind, TooLong, BadBody}
+use Rattle.peer_definitions.specs.Answering.{Answered}
+use Rattle.peer_definitions.specs.declared.end.End.{End}
+use Rattle.peer_definitions.specs.declared.end.End.TheVariants as end
 use Rattle.ew_outside.specs.Outputs.{GrowsByFront}
 use Rattle.command_table.specs.Table.{Text}
 use Rattle.command_table.specs.Framings.{BeginWith}

@@ -3,11 +3,11 @@ use Rattle.std.specs.Prelude.{◌≤◌, ⊤, ℕ, ◌+◌, List, [], ◌∷◌,
 use Rattle.ew_model.specs.Kept.{ReplicaState}
 use Rattle.ew_model.specs.Limits.{LimitNumbers}
 use Rattle.ew_outside.specs.Files.{Files}
-use Rattle.peer_words.specs.declared.frame.Frame.{Frame}
-use Rattle.peer_words.specs.Cutting.{Front, AreFrames}
-use Rattle.peer_words.specs.Answering.{answer_to}
+use Rattle.peer_definitions.specs.declared.frame.Frame.{Frame}
+use Rattle.peer_definitions.specs.Cutting.{Front, AreFrames}
+use Rattle.peer_definitions.specs.Answering.{answer_to}
 use Rattle.peer_exchange.specs.AnswerTouches.{answer_touches}
-use Rattle.peer_words.specs.declared.end.End.{End}
+use Rattle.peer_definitions.specs.declared.end.End.{End}
 use Rattle.command_table.specs.Framings.{IsFramingOf, Framing}
 use Rattle.command_table.specs.Sessions.{opened_state}
 use Rattle.command_table.specs.Table.{Text, open_file}

@@ -2,9 +2,9 @@
 use Rattle.std.proofs.Common.{◌≡◌, ℕ, false, List, [], ◌∷◌, take, refl, sym, ap, subst, ◌∙◌}
 use Rattle.ew_model.specs.Limits.{LimitNumbers}
 use Rattle.ew_model.proofs.FileFields.{AreBytes-take}
-use Rattle.peer_words.specs.declared.frame.Frame.{Frame}
-use Rattle.peer_words.specs.Cutting.{Front, Finds, AreFrames, is_whole}
-use Rattle.peer_words.specs.Cutting.Front.{Whole}
+use Rattle.peer_definitions.specs.declared.frame.Frame.{Frame}
+use Rattle.peer_definitions.specs.Cutting.{Front, Finds, AreFrames, is_whole}
+use Rattle.peer_definitions.specs.Cutting.Front.{Whole}
 use Rattle.peer_frames.proofs.Cuts.{fronts_are_one, cuts_are_one, cuts_are_found}
 use Rattle.command_table.specs.Framings.{BeginWith}
 use Rattle.table_laws.specs.FramingLaws.{FramingsAreFound, FramingsAreOne, FramingsAreCuts}

@@ -26,10 +26,10 @@ use Rattle.ew_model.proofs.FileReading.{file_take, file_again, file_is}
 use Rattle.ew_model.proofs.LimitsKept.{arrivals_keep}
 use Rattle.ew_model.proofs.WritableLaws.{good_is_writable}
 use Rattle.ew_outside.specs.Files.{Files}
-use Rattle.history_words.specs.Tallies.{accepted_in, refused_in}
+use Rattle.history_definitions.specs.Tallies.{accepted_in, refused_in}
 use Rattle.command_table.specs.Loads.{too_long, whole, whole_of}
 use Rattle.table_laws.specs.MergeLaws.{HoldsBytes}
-use Rattle.peer_words.specs.Answering.{is_clash}
+use Rattle.peer_definitions.specs.Answering.{is_clash}
 use Rattle.command_table.specs.Table.{Text, Reply, prints, stores, refuses, Opened, opened, Answer, answer_of, judged, read_as, opened_as, open_file, over_events, over_both, is_graph_full, unless_clash, received_reply, outcome_text, merge_reply}
 use Rattle.command_table.specs.Refusals.{too_many_events, refusal_status}
 use Rattle.ew_model.proofs.MergeByAnswers.{merge_unless_clash}

@@ -13,8 +13,8 @@ use Rattle.ew_model.specs.Verdicts.Ruling.{Repeat, Clash, SelfParent, TooManyPar
 use Rattle.ew_model.specs.Arrival.{Answer, arrive}
 use Rattle.ew_model.specs.MergeLaw.{is_taken, is_clash_or_full, NoneClashes}
 use Rattle.ew_model.proofs.AppendSteps.{arrivals_append}
-use Rattle.history_words.specs.Tallies.{refusal_in, is_repeat, accepted_in, repeats_in, refused_in}
-use Rattle.peer_words.specs.Answering.{is_clash}
+use Rattle.history_definitions.specs.Tallies.{refusal_in, is_repeat, accepted_in, repeats_in, refused_in}
+use Rattle.peer_definitions.specs.Answering.{is_clash}
 use Rattle.command_table.specs.Table.{is_graph_full}
 
 -- ---- what the refusals tell

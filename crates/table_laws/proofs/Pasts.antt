@@ -23,7 +23,7 @@ use Rattle.ew_model.proofs.PathOrder.{id_total}
 use Rattle.ew_model.proofs.SetLaws.{among_filter, among_map}
 use Rattle.ew_model.proofs.SortingLaws.{all_at, all_from, sort_among, among_sort}
 use Rattle.ew_outside.specs.Files.{Files}
-use Rattle.history_words.specs.Replays.{change_lines, replay_text}
+use Rattle.history_definitions.specs.Replays.{change_lines, replay_text}
 use Rattle.history_view.proofs.ReplayReading.{replays_make_text}
 use Rattle.replica.proofs.Beginnings.{good_from_none_bad}
 use Rattle.table_laws.specs.PastLaws.{HeadsAreAVersion, HeadsShowAll, NamesAll, ReplaysMakeContent, VersionsAreTaken}

@@ -2,7 +2,7 @@
 use Rattle.std.specs.Prelude.{◌≡◌, ℕ, List, take}
 use Rattle.ew_model.specs.FileLaws.{AreBytes}
 use Rattle.ew_model.specs.Limits.{LimitNumbers}
-use Rattle.peer_words.specs.Cutting.{AreFrames}
+use Rattle.peer_definitions.specs.Cutting.{AreFrames}
 use Rattle.command_table.specs.Framings.{Framing, IsFramingOf}
 
 -- Each input has a framing.

@@ -12,8 +12,8 @@ use Rattle.ew_model.specs.Scripts.{version_text}
 use Rattle.ew_model.specs.Sets.{Among}
 use Rattle.ew_model.specs.Sorting.{sort_by}
 use Rattle.ew_outside.specs.Files.{Files}
-use Rattle.history_words.specs.Replays.{change_lines}
-use Rattle.history_words.specs.Versions.{IsVersion}
+use Rattle.history_definitions.specs.Replays.{change_lines}
+use Rattle.history_definitions.specs.Versions.{IsVersion}
 use Rattle.history_view.specs.ReplayLaw.{HasSmallIndex}
 use Rattle.table_laws.specs.MergeLaws.{HoldsBytes}
 use Rattle.command_table.specs.Scripts.{Reading}

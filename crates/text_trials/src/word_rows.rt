@@ -1,15 +1,15 @@
 //! Rows of the words of the editor: scripts and versions are read, and ids, versions and characters are printed. Names and
 //! limits too.
 
-use event_words::edit::Edit;
-use event_words::print::{print_char, print_id, print_version};
-use event_words::script::{ScriptFault, read_script};
-use event_words::version::{VersionTextFault, read_version};
 use ew_model::NoMem;
 use ew_model::event::{Event, Op};
 use ew_model::limits::Limits;
 use ew_model::name::Name;
 use ew_model::parents::Parents;
+use script_reader::edit::Edit;
+use script_reader::print::{print_char, print_id, print_version};
+use script_reader::script::{ScriptFault, read_script};
+use script_reader::version::{VersionTextFault, read_version};
 use std::alloc::Global;
 use std::fmt::Write;
 use trial_rows::fault::Fault;

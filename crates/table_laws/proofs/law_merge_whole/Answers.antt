@@ -3,7 +3,7 @@ use Rattle.std.proofs.lemmas.List.{length-map}
 use Rattle.ew_model.specs.declared.event.Event.{Event}
 use Rattle.ew_model.specs.Arrival.{Answer, arrive}
 use Rattle.ew_model.specs.Cuts.{latest_cut}
-use Rattle.history_words.specs.Tallies.{accepted_in, repeats_in, refused_in}
+use Rattle.history_definitions.specs.Tallies.{accepted_in, repeats_in, refused_in}
 use Rattle.table_laws.specs.MergeLaws.{command_answer}
 use Rattle.command_table.specs.Table.{merge}
 use Rattle.command_table.specs.Text.{received_text}

@@ -1,6 +1,6 @@
 use Rattle.command_table.specs.Table.{show_reply}
 use Rattle.opened_files.specs.Views.{reply_view}
-use Rattle.command_words.specs.Words.{listing_view}
+use Rattle.command_reader.specs.Words.{listing_view}
 use Rattle.opened_files.proofs.Shown.{shown_opened, opened_shows, refused_shows}
 use Rattle.command_texts.specs.Reasons.{refusal_view}
 use Rattle.command_runs.proofs.commands.show.Goals as goal

@@ -1,5 +1,5 @@
 use Rattle.command_table.specs.Table.{show_reply}
-use Rattle.command_words.specs.Words.{listing_view}
+use Rattle.command_reader.specs.Words.{listing_view}
 use Rattle.command_runs.proofs.commands.shown.Goals as goal
 
 pub returns-clause-told : goal.returns-clause-told

@@ -1,4 +1,4 @@
-use Rattle.peer_words.specs.Making.{made}
+use Rattle.peer_definitions.specs.Making.{made}
 use Rattle.command_runs.proofs.MadeReplies.{printed_reply, stopped_reply}
 use Rattle.command_runs.proofs.making.make_history.Goals as goal
 

@@ -6,7 +6,7 @@ use Rattle.command_table.specs.Sessions.{closed_by}
 use Rattle.command_table.specs.Table.{does, refuses, serves}
 use Rattle.command_table.specs.Reads.{LeavesInput, shape_of}
 use Rattle.opened_files.proofs.Reading.{takes_none}
-use Rattle.command_words.specs.Words.{command_view, line_view}
+use Rattle.command_reader.specs.Words.{command_view, line_view}
 use Rattle.command_runs.proofs.Lines.{asks_most, asks_none, command_causes, command_keeps, command_known, command_reads, command_some, file_refused, loads_one, no_front, none_made, not_of_sink, one_all, one_front, one_refused, reads_same, session_known, session_reads, taken_line}
 use Rattle.command_runs.proofs.plan.plan.Goals as goal
 

@@ -1,7 +1,7 @@
 use Rattle.command_table.specs.Scripts.{MeansNet}
 use Rattle.command_table.specs.Reads.{LeavesInput, shape_of}
 use Rattle.command_table.specs.Table.{does, edit, net, MeansTo, net_reply, reply_to}
-use Rattle.command_words.specs.Words.{command_view}
+use Rattle.command_reader.specs.Words.{command_view}
 use Rattle.command_runs.proofs.Lines.{asks_most, asks_none, causes_of_shelf, file_refused, loads_none, loads_one, may_plan, no_front, none_all, none_made, none_refused, one_all, one_front, one_refused, plans_by, plans_read, reads_same}
 use Rattle.std.proofs.Common.{refl, inl, Some}
 use Rattle.std.proofs.lemmas.Bool.{false≢true}

@@ -2,8 +2,8 @@ use Rattle.std.proofs.Common.{[], ◌∷◌, arith}
 use Rattle.std.specs.FinMap.{get}
 use Rattle.command_table.specs.Loads.{whole_of}
 use Rattle.command_table.specs.Table.{create, make, merge, show, create_reply, make_reply, merge_reply, open_file, over_both, over_events, show_reply}
-use Rattle.peer_words.specs.Making.{made}
-use Rattle.command_words.specs.Words.{listing_view}
+use Rattle.peer_definitions.specs.Making.{made}
+use Rattle.command_reader.specs.Words.{listing_view}
 use Rattle.command_runs.proofs.Lines.{all_of_shelf, asks_most, asks_none, loads_none, loads_one, made_file, may_plan, no_causes, no_front, none_all, none_lost, none_made, one_all, one_front, plans_alone, plans_any}
 use Rattle.command_runs.proofs.plan.plan_unread.Goals as goal
 

@@ -1,5 +1,5 @@
 use Rattle.std.proofs.Common.{◌∙◌, ◌∷◌, [], ◌++◌, List, ℕ, sym, ap}
-use Rattle.history_words.specs.Agents.{agents_of}
+use Rattle.history_definitions.specs.Agents.{agents_of}
 use Rattle.event_graph.proofs.Lists.{take_get}
 use Rattle.event_graph.proofs.ids.agents.Goals as goal
 

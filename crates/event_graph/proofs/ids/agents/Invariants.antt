@@ -1,5 +1,5 @@
 use Rattle.std.proofs.Common.{◌≡◌, take}
-use Rattle.history_words.specs.Agents.{agents_of}
+use Rattle.history_definitions.specs.Agents.{agents_of}
 use Rattle.event_graph.proofs.ids.agents.Given as goal
 
 abbrev pub invariant-loop-n : goal.invariant-loop-n

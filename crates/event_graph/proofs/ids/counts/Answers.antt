@@ -1,6 +1,6 @@
 use Rattle.std.proofs.Common.{◌≡◌, ◌∙◌, ◌∷◌, [], ◌++◌, List, ℕ, length, slice_get, Some, refl, sym}
 use Rattle.std.proofs.lemmas.Option.{slice_get_read}
-use Rattle.history_words.specs.Agents.{count_of}
+use Rattle.history_definitions.specs.Agents.{count_of}
 use Rattle.event_graph.proofs.Lists.{map_get}
 use Rattle.event_graph.proofs.ids.counts.Goals as goal
 

@@ -1,5 +1,5 @@
 use Rattle.std.proofs.Common.{◌≡◌, map, take}
-use Rattle.history_words.specs.Agents.{count_of}
+use Rattle.history_definitions.specs.Agents.{count_of}
 use Rattle.event_graph.proofs.ids.counts.Given as goal
 
 abbrev pub invariant-loop-name : goal.invariant-loop-name

@@ -2,7 +2,7 @@ use Rattle.std.proofs.Common.{◌-◌, [], ◌∷◌, ◌++◌, length, refl, ap
 use Rattle.std.proofs.Math.Nat.{div-mul-le_self}
 use Rattle.std.proofs.lemmas.List.{length-append}
 use Rattle.ew_model.specs.File.{four_bytes}
-use Rattle.peer_words.specs.Spelling.{events_body}
+use Rattle.peer_definitions.specs.Spelling.{events_body}
 use Rattle.event_journal.proofs.Lengths.{body_short, room_enough, fewer_parents}
 use Rattle.event_journal.proofs.journal.behind_gate.Goals as goal
 

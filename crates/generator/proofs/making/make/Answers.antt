@@ -1,8 +1,8 @@
 use Rattle.std.proofs.Common.{◌≡◌, ◌+◌, Err, arith, sym, ap, ◌∙◌, subst}
 use Rattle.std.proofs.lemmas.Result.{err_from_is_err_and}
 use Rattle.generator.specs.Answers.{Makes, Prints}
-use Rattle.peer_words.specs.Making as model
-use Rattle.peer_words.specs.Making.{Made}
+use Rattle.peer_definitions.specs.Making as model
+use Rattle.peer_definitions.specs.Making.{Made}
 use Rattle.generator.proofs.Steps.{HaveMade, made_stops, made_whole, none_made}
 use Rattle.generator.proofs.Touching.{none_gone, touched_early, touched_turn, touched_whole}
 use Rattle.generator.proofs.making.make.Goals as goal

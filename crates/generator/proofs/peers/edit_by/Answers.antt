@@ -4,7 +4,7 @@ use Rattle.ew_model.specs.Limits.{LimitNumbers}
 use Rattle.ew_model.specs.Texts.{text_of}
 use Rattle.ew_model.proofs.TextLengths.{text_is_short}
 use Rattle.replica.specs.Answers.{EditsBy}
-use Rattle.peer_words.specs.Draws.{Drawn, drawn_edit, letter}
+use Rattle.peer_definitions.specs.Draws.{Drawn, drawn_edit, letter}
 use Rattle.generator.proofs.Drawing.{added, empty, no_quarter, removed}
 use Rattle.generator.proofs.peers.edit_by.Goals.{After-delete, After-insert_letter, else-deletes-via-then-deletes+else-len-ne0, else-deletes-via-else-deletes}
 use Rattle.generator.proofs.peers.edit_by.Goals as goal

@@ -5,7 +5,7 @@ use Rattle.std.proofs.lemmas.Bool.{and_from, lt-ltb}
 use Rattle.std.proofs.lemmas.Str.{chars-encodes}
 use Rattle.ew_model.specs.Edits.Edit.{Insert}
 use Rattle.replica.specs.Answers.{EditsBy}
-use Rattle.peer_words.specs.Draws.{letter}
+use Rattle.peer_definitions.specs.Draws.{letter}
 use Rattle.generator.proofs.peers.insert_letter.Goals as goal
 
 low : (ch : ℕ) → ch < 55296 → IsScalar ch

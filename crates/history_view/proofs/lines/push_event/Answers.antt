@@ -1,6 +1,6 @@
 use Rattle.std.proofs.Common.{◌++◌, codes, ap, ◌∙◌}
 use Rattle.ew_model.specs.Scripts.{spaced}
-use Rattle.history_words.specs.Listings.{op_words}
+use Rattle.history_definitions.specs.Listings.{op_words}
 use Rattle.history_view.proofs.Pieces.{event_behind}
 use Rattle.history_view.proofs.lines.push_event.Goals as goal
 

@@ -1,5 +1,5 @@
 use Rattle.std.proofs.Common.{◌≡◌, take}
-use Rattle.history_words.specs.Listings.{id_lines}
+use Rattle.history_definitions.specs.Listings.{id_lines}
 use Rattle.history_view.proofs.listings.ids_text.Given as goal
 
 abbrev pub invariant-loop-id : goal.invariant-loop-id

@@ -1,5 +1,5 @@
 use Rattle.std.proofs.Common.{◌++◌, ap, sym, ◌∙◌}
-use Rattle.history_words.specs.Listings.{event_line}
+use Rattle.history_definitions.specs.Listings.{event_line}
 use Rattle.history_view.proofs.Logs.{log_next}
 use Rattle.history_view.proofs.listings.log_of.Goals as goal
 

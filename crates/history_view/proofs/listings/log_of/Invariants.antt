@@ -1,5 +1,5 @@
 use Rattle.std.proofs.Common.{◌≡◌, take}
-use Rattle.history_words.specs.Listings.{log_text}
+use Rattle.history_definitions.specs.Listings.{log_text}
 use Rattle.history_view.proofs.listings.log_of.Given as goal
 
 abbrev pub invariant-loop-lv : goal.invariant-loop-lv

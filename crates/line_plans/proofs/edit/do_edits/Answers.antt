@@ -1,6 +1,6 @@
 use Rattle.std.proofs.Common.{◌≡◌, ◌+◌, ◌∷◌, ◌∙◌, drop, ap, sym, subst}
 use Rattle.std.proofs.lemmas.List.{drop_more}
-use Rattle.event_words.specs.Meaning.{edit_meant, numbered_edits}
+use Rattle.script_reader.specs.Meaning.{edit_meant, numbered_edits}
 use Rattle.replica.specs.Answers.{EditsBy}
 use Rattle.command_table.specs.Scripts.{edited_by}
 use Rattle.command_table.specs.Table.{line_refusal}

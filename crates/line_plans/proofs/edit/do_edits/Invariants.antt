@@ -1,5 +1,5 @@
 use Rattle.std.proofs.Common.{◌≡◌, [], drop}
-use Rattle.event_words.specs.Meaning.{numbered_edits}
+use Rattle.script_reader.specs.Meaning.{numbered_edits}
 use Rattle.command_table.specs.Scripts.{edited_by}
 use Rattle.line_plans.proofs.edit.do_edits.Given as goal
 

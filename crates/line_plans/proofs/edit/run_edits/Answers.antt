@@ -1,5 +1,5 @@
 use Rattle.std.proofs.Common.{[]}
-use Rattle.event_words.specs.Meaning.{numbered_edits}
+use Rattle.script_reader.specs.Meaning.{numbered_edits}
 use Rattle.line_plans.proofs.Readings.{done_edits, stopped_edits}
 use Rattle.line_plans.proofs.edit.run_edits.Goals as goal
 

@@ -1,5 +1,5 @@
 use Rattle.std.proofs.Common.{refl, ◌≡◌, Err, IfOk, ap, subst}
-use Rattle.event_words.specs.Meaning.{numbered_edits}
+use Rattle.script_reader.specs.Meaning.{numbered_edits}
 use Rattle.line_plans.specs.Edits.{edits_reply}
 use Rattle.opened_files.specs.Views.{reply_view}
 use Rattle.command_table.specs.Scripts.{bad_line}

@@ -1,6 +1,6 @@
 use Rattle.std.proofs.Common.{refl, ◌≡◌, Err, IfOk, ap, subst, arith}
-use Rattle.peer_words.specs.Runs.{net_run}
-use Rattle.peer_words.specs.Machine.{empty_network}
+use Rattle.peer_definitions.specs.Runs.{net_run}
+use Rattle.peer_definitions.specs.Machine.{empty_network}
 use Rattle.command_table.specs.Scripts.{bad_net_line}
 use Rattle.command_table.specs.Table.{net_run_reply, refuses}
 use Rattle.opened_files.specs.Views.{reply_view}

@@ -1,6 +1,6 @@
 use Rattle.std.proofs.Common.{◌∙◌, [], List, ap, length, arith}
 use Rattle.ew_model.specs.declared.event.Event.{Event}
-use Rattle.history_words.specs.Missing.{missing}
+use Rattle.history_definitions.specs.Missing.{missing}
 use Rattle.line_plans.proofs.Taken.{all_missing, none_twice}
 use Rattle.line_plans.proofs.taking.offer_of_all.Goals as goal
 

@@ -1,6 +1,6 @@
 use Rattle.std.proofs.Common.{sym, ap, ◌∙◌, rules}
 use Rattle.std.proofs.lemmas.Iterator.{cases_from_all, YieldsList-from_slice}
-use Rattle.peer_words.specs.Machine.{Peer, all_agree}
+use Rattle.peer_definitions.specs.Machine.{Peer, all_agree}
 use Rattle.net_core.proofs.Agreeing.{SameHeld, told_by_first}
 use Rattle.net_core.proofs.comparing.all_agree.Goals as goal
 

@@ -1,9 +1,9 @@
 use Rattle.std.proofs.Common.{[], ◌∷◌, sym, subst}
 use Rattle.std.specs.List.{AllByRecursion}
 use Rattle.peer_exchange.proofs.Lengths.{sent_taken}
-use Rattle.peer_words.specs.Answering.{event_frames}
+use Rattle.peer_definitions.specs.Answering.{event_frames}
 use Rattle.peer_frames.specs.Laws.{IsTaken}
-use Rattle.peer_words.specs.declared.frame.Frame.TheVariants.{Done}
+use Rattle.peer_definitions.specs.declared.frame.Frame.TheVariants.{Done}
 use Rattle.net_core.proofs.Deliveries.{all_before}
 use Rattle.net_core.proofs.frames.in_frames.Goals as goal
 

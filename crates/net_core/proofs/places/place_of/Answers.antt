@@ -1,6 +1,6 @@
 use Rattle.std.proofs.Common.{◌≡◌, true, get_or, sym, ap, ◌∙◌}
 use Rattle.ew_model.specs.Ids.{name_eq}
-use Rattle.peer_words.specs.Machine.{Peer}
+use Rattle.peer_definitions.specs.Machine.{Peer}
 use Rattle.net_core.proofs.PeerPlaces.{find_here}
 use Rattle.net_core.proofs.places.place_of.Goals as goal
 

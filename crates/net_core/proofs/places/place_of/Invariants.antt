@@ -1,5 +1,5 @@
 use Rattle.std.proofs.Common.{◌≡◌, drop}
-use Rattle.peer_words.specs.Machine.{peer_among}
+use Rattle.peer_definitions.specs.Machine.{peer_among}
 use Rattle.net_core.proofs.places.place_of.Given as goal
 
 -- no peer up to the index has the name

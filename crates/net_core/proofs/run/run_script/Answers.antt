@@ -2,10 +2,10 @@ use Rattle.std.proofs.Common.{◌≡◌, ◌+◌, ◌≤◌, [], ◌++◌, lengt
 use Rattle.std.proofs.lemmas.Bool.{cond-true}
 use Rattle.std.proofs.lemmas.List.{take_all}
 use Rattle.net_core.specs.Answers.{StepsTo, told_bytes}
-use Rattle.peer_words.specs.Runs.{net_run}
-use Rattle.peer_words.specs.Runs.RunOutcome.{Ran}
-use Rattle.peer_words.specs.Machine.{Network, empty_network, net_step}
-use Rattle.peer_words.specs.Machine.StepOutcome.{Stepped}
+use Rattle.peer_definitions.specs.Runs.{net_run}
+use Rattle.peer_definitions.specs.Runs.RunOutcome.{Ran}
+use Rattle.peer_definitions.specs.Machine.{Network, empty_network, net_step}
+use Rattle.peer_definitions.specs.Machine.StepOutcome.{Stepped}
 use Rattle.net_core.proofs.RunResults.{few_more, no_memory, ran_on, told_run}
 use Rattle.net_core.proofs.Running.{HasRun, begins, has_run}
 use Rattle.net_core.proofs.run.run_script.Goals as goal

@@ -1,5 +1,5 @@
 use Rattle.std.proofs.Common.{◌≤◌, length, take}
-use Rattle.peer_words.specs.Machine.{empty_network}
+use Rattle.peer_definitions.specs.Machine.{empty_network}
 use Rattle.net_core.proofs.Running.{HasRun}
 use Rattle.net_core.proofs.run.run_script.Given as goal
 

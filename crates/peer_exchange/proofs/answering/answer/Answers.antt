@@ -1,6 +1,6 @@
 use Rattle.std.proofs.Common.{sym, ap, ◌∙◌, subst}
 use Rattle.std.specs.Prelude.{OnErr}
-use Rattle.peer_words.specs.declared.frame.Frame.TheVariants.{Events}
+use Rattle.peer_definitions.specs.declared.frame.Frame.TheVariants.{Events}
 use Rattle.peer_exchange.specs.Replies.{IsLeftBy}
 use Rattle.peer_exchange.proofs.answering.answer.Goals as goal
 

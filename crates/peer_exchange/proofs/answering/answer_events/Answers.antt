@@ -4,10 +4,10 @@ use Rattle.std.proofs.lemmas.List.Elements.{All-from_recursion}
 use Rattle.ew_model.specs.declared.id.Id.{Id}
 use Rattle.ew_model.specs.declared.verdict.Refusal.{Refusal}
 use Rattle.ew_model.specs.Limits.{AreLimits}
-use Rattle.peer_words.specs.declared.frame.Frame.{Frame}
+use Rattle.peer_definitions.specs.declared.frame.Frame.{Frame}
 use Rattle.peer_frames.specs.Laws.{IsTaken}
-use Rattle.peer_words.specs.Spelling.{IsSoundFrame}
-use Rattle.peer_words.specs.Answering.{first_clash}
+use Rattle.peer_definitions.specs.Spelling.{IsSoundFrame}
+use Rattle.peer_definitions.specs.Answering.{first_clash}
 use Rattle.peer_exchange.proofs.Lengths.{told_taken}
 use Rattle.peer_frames.proofs.Bodies.{events_few}
 use Rattle.peer_exchange.proofs.Refused.{refused_few}

@@ -3,10 +3,10 @@ use Rattle.std.specs.List.{AllByRecursion}
 use Rattle.std.proofs.lemmas.List.Elements.{All-from_recursion}
 use Rattle.ew_model.specs.Limits.{AreLimits}
 use Rattle.ew_model.specs.Sound.{AreSound}
-use Rattle.history_words.specs.Missing.{missing}
-use Rattle.peer_words.specs.declared.frame.Frame.TheVariants.{Done}
+use Rattle.history_definitions.specs.Missing.{missing}
+use Rattle.peer_definitions.specs.declared.frame.Frame.TheVariants.{Done}
 use Rattle.peer_frames.specs.Laws.{IsTaken}
-use Rattle.peer_words.specs.Answering.{event_frames}
+use Rattle.peer_definitions.specs.Answering.{event_frames}
 use Rattle.peer_exchange.proofs.Lengths.{sent_taken, missing_few, missing_sound}
 use Rattle.peer_exchange.proofs.answering.answer_have.Goals as goal
 

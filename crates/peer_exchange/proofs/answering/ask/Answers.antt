@@ -1,9 +1,9 @@
 use Rattle.std.proofs.Common.{sym, ◌∙◌, subst}
 use Rattle.std.specs.List.{AllByRecursion}
 use Rattle.ew_model.specs.Limits.{AreLimits}
-use Rattle.peer_words.specs.declared.frame.Frame.TheVariants.{Have}
+use Rattle.peer_definitions.specs.declared.frame.Frame.TheVariants.{Have}
 use Rattle.peer_frames.specs.Laws.{IsTaken}
-use Rattle.peer_words.specs.Spelling.{IsSoundCount}
+use Rattle.peer_definitions.specs.Spelling.{IsSoundCount}
 use Rattle.peer_exchange.proofs.Lengths.{question_taken}
 use Rattle.peer_exchange.proofs.answering.ask.Goals as goal
 

@@ -2,7 +2,7 @@ use Rattle.std.proofs.Common.{List, sym, subst}
 use Rattle.std.specs.List.{IsDistinct}
 use Rattle.std.specs.Map.{keys_of}
 use Rattle.ew_model.specs.Ids.{name_eq}
-use Rattle.peer_words.specs.Spelling.{AgentCount}
+use Rattle.peer_definitions.specs.Spelling.{AgentCount}
 use Rattle.peer_exchange.proofs.Ascending.{ascending_distinct}
 use Rattle.peer_exchange.proofs.answering.missing.Goals as goal
 

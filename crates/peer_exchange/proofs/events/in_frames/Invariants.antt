@@ -1,7 +1,7 @@
 use Rattle.std.proofs.Common.{◌≡◌, ◌-◌, ◌++◌, map}
 use Rattle.std.specs.Vec.Iter.{into_iter_items}
-use Rattle.peer_words.specs.declared.frame.Frame.TheVariants as frame
-use Rattle.peer_words.specs.Pieces.{pieces_from}
+use Rattle.peer_definitions.specs.declared.frame.Frame.TheVariants as frame
+use Rattle.peer_definitions.specs.Pieces.{pieces_from}
 use Rattle.peer_exchange.proofs.events.in_frames.Given as goal
 
 abbrev pub invariant-loop : goal.invariant-loop

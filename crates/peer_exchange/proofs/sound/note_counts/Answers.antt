@@ -1,4 +1,4 @@
-use Rattle.peer_words.specs.Spelling.{IsSoundCount}
+use Rattle.peer_definitions.specs.Spelling.{IsSoundCount}
 use Rattle.peer_frames.proofs.Written.{all_next}
 use Rattle.peer_exchange.proofs.sound.note_counts.Goals as goal
 

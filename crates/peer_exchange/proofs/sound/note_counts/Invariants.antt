@@ -1,6 +1,6 @@
 use Rattle.std.proofs.Common.{take}
 use Rattle.std.specs.List.{AllByRecursion}
-use Rattle.peer_words.specs.Spelling.{IsSoundCount}
+use Rattle.peer_definitions.specs.Spelling.{IsSoundCount}
 use Rattle.peer_exchange.proofs.sound.note_counts.Given as goal
 
 abbrev pub invariant-loop-count : goal.invariant-loop-count

@@ -1,5 +1,5 @@
 use Rattle.std.proofs.Common.{◌≡◌, [], true, ◌-◌}
-use Rattle.peer_words.specs.Spelling.{names_ascend}
+use Rattle.peer_definitions.specs.Spelling.{names_ascend}
 use Rattle.peer_frames.specs.Reading.{read_counts}
 use Rattle.peer_frames.proofs.Ascending.{names_of}
 use Rattle.peer_frames.proofs.reading.read_each_count.Given as goal

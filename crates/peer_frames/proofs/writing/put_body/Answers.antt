@@ -1,8 +1,8 @@
 use Rattle.std.proofs.Common.{◌≡◌, ◌++◌, sym, subst}
 use Rattle.std.specs.Prelude.{OnOk}
 use Rattle.ew_model.specs.File.{four_bytes}
-use Rattle.peer_words.specs.declared.frame.Frame.{Frame}
-use Rattle.peer_words.specs.Spelling.{HasSpelling, body_of}
+use Rattle.peer_definitions.specs.declared.frame.Frame.{Frame}
+use Rattle.peer_definitions.specs.Spelling.{HasSpelling, body_of}
 use Rattle.peer_frames.proofs.Bodies.{counts_few, events_few}
 use Rattle.peer_frames.proofs.Answering.{four_written}
 use Rattle.peer_frames.proofs.writing.put_body.Goals as goal

@@ -1,6 +1,6 @@
 use Rattle.std.proofs.Common.{arith}
 use Rattle.std.proofs.lemmas.Grind.{common_steps}
-use Rattle.peer_words.specs.Spelling.{IsSoundCount}
+use Rattle.peer_definitions.specs.Spelling.{IsSoundCount}
 use Rattle.peer_frames.proofs.Written.{all_next}
 use Rattle.peer_frames.proofs.writing.put_counts.Goals as goal
 

@@ -1,6 +1,6 @@
 use Rattle.std.proofs.Common.{◌≡◌, ◌++◌, take, flat_map}
 use Rattle.std.specs.List.{AllByRecursion}
-use Rattle.peer_words.specs.Spelling.{IsSoundCount, count_bytes}
+use Rattle.peer_definitions.specs.Spelling.{IsSoundCount, count_bytes}
 use Rattle.peer_frames.proofs.writing.put_counts.Given as goal
 
 abbrev pub invariant-loop-count : goal.invariant-loop-count

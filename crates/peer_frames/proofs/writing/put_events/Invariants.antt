@@ -1,7 +1,7 @@
 use Rattle.std.proofs.Common.{◌≡◌, ◌++◌, take, flat_map}
 use Rattle.std.specs.List.{AllByRecursion}
 use Rattle.ew_model.specs.Sound.{IsSound}
-use Rattle.peer_words.specs.Spelling.{event_bytes}
+use Rattle.peer_definitions.specs.Spelling.{event_bytes}
 use Rattle.peer_frames.proofs.writing.put_events.Given as goal
 
 abbrev pub invariant-loop-event : goal.invariant-loop-event

@@ -7,7 +7,7 @@ use Rattle.ew_model.specs.Verdicts.{Ruling, first_row, later_rows, verdict}
 use Rattle.waiting_pool.specs.Waiting.{events_of}
 use Rattle.replica.specs.Counting.{with_more}
 use Rattle.replica.specs.Desks.{Judges, answer_by, desk_as, held_by, known_at, pooled, refused_at, repeats_at, waiting_by}
-use Rattle.history_words.specs.Tallies.{is_repeat}
+use Rattle.history_definitions.specs.Tallies.{is_repeat}
 use Rattle.waiting_pool.proofs.Ready.{none_ready}
 use Rattle.replica.proofs.Steps.{judges, ready_next, settling_desk, same_desk, still_begun}
 use Rattle.replica.proofs.Taking.{less_fresh, ready_verdict, ready_not_repeat, no_repeats}

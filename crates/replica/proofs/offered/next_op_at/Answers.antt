@@ -1,5 +1,5 @@
 use Rattle.std.proofs.lemmas.Option.{IfSome_then}
-use Rattle.history_words.specs.Chains.{event_behind}
+use Rattle.history_definitions.specs.Chains.{event_behind}
 use Rattle.replica.proofs.OfferedPlaces.{placed_there}
 use Rattle.replica.proofs.offered.next_op_at.Goals as goal
 

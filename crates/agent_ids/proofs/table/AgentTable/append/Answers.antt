@@ -2,7 +2,7 @@ use Rattle.std.proofs.Common.{◌≡◌, ◌∙◌, ◌∷◌, ◌++◌, [], suc
 use Rattle.std.proofs.lemmas.Option.{same_Some}
 use Rattle.std.proofs.lemmas.Result.{on_ok_weaker}
 use Rattle.ew_model.specs.declared.id.Id.{Id}
-use Rattle.history_words.specs.Agents.{count_of, AreNumbered}
+use Rattle.history_definitions.specs.Agents.{count_of, AreNumbered}
 use Rattle.agent_ids.specs.IdRuns.{id_with, last_in}
 use Rattle.agent_ids.proofs.LastIds.{next_number}
 use Rattle.agent_ids.proofs.table.AgentTable.append.Goals as goal

@@ -1,6 +1,6 @@
 use Rattle.std.proofs.Common.{◌≡◌, ◌∷◌, ◌++◌, [], List, length, refl, sym, ap, subst, arith, length-append}
 use Rattle.ew_model.specs.declared.id.Id.{Id}
-use Rattle.history_words.specs.Agents.{count_of}
+use Rattle.history_definitions.specs.Agents.{count_of}
 use Rattle.agent_ids.specs.Table.{IsTable}
 use Rattle.agent_ids.proofs.OwnPositions.{kept_alike, own_few}
 use Rattle.agent_ids.proofs.LastIds.{last_behind}

@@ -2,7 +2,7 @@ use Rattle.std.proofs.Common.{◌≡◌, ◌∙◌, ◌+◌, ◌<◌, ◌^◌, �
 use Rattle.std.proofs.Math.Seq.{take-append_seam}
 use Rattle.ew_model.specs.declared.id.Id.{Id}
 use Rattle.agent_ids.specs.IdRuns.{id_with, ids_from}
-use Rattle.history_words.specs.Agents.{count_of, AreNumbered}
+use Rattle.history_definitions.specs.Agents.{count_of, AreNumbered}
 use Rattle.agent_ids.specs.Table.{AreAgents, IsTable}
 use Rattle.agent_ids.proofs.OwnPositions.{kept_alike}
 use Rattle.agent_ids.proofs.Numbers.{numbered_front, numbered_next}

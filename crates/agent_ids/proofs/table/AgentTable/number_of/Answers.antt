@@ -1,7 +1,7 @@
 use Rattle.std.proofs.Common.{◌≡◌, ◌∙◌, List, subst, arith, Some, position}
 use Rattle.ew_model.specs.declared.id.Id.{Id}
 use Rattle.ew_model.specs.Ids.{name_eq}
-use Rattle.history_words.specs.Agents.{agents_of}
+use Rattle.history_definitions.specs.Agents.{agents_of}
 use Rattle.agent_ids.proofs.OwnPositions.{kept_few, number_at}
 use Rattle.agent_ids.proofs.table.AgentTable.number_of.Goals as goal
 

@@ -1,5 +1,5 @@
 use Rattle.std.proofs.Common.{◌≡◌, suc, ◌<◌, ◌-◌, [], ◌∷◌, sym, ap, ◌∙◌, arith}
-use Rattle.history_words.specs.Chains.{event_behind, last_id}
+use Rattle.history_definitions.specs.Chains.{event_behind, last_id}
 use Rattle.event_file.specs.Known.{known_by}
 use Rattle.event_file.specs.Progress.{Known}
 use Rattle.event_file.specs.Rest.{Rest, in_front, rest_found}

@@ -1,7 +1,7 @@
 use Rattle.std.proofs.Common.{◌≡◌, ℕ, suc, ◌<◌, ◌-◌, List, [], ◌∷◌, refl, sym, ap, ◌∙◌, subst, arith}
 use Rattle.event_file.specs.Faults.{IsFault}
 use Rattle.event_file.specs.Known.{known_by}
-use Rattle.history_words.specs.Chains.{last_id}
+use Rattle.history_definitions.specs.Chains.{last_id}
 use Rattle.event_file.specs.Progress.{Known}
 use Rattle.event_file.specs.Rest.{Rest, in_front, rest_found}
 use Rattle.event_file.proofs.Known.{last_more}

@@ -4,7 +4,7 @@ use Rattle.ew_model.specs.declared.event.Event.{Event}
 use Rattle.ew_model.specs.Ancestors.{ids_of}
 use Rattle.ew_model.specs.Positions.{AreParents, parent_positions}
 use Rattle.ew_model.proofs.PositionFrontier.{frontier_below}
-use Rattle.history_words.specs.Agents.{count_of}
+use Rattle.history_definitions.specs.Agents.{count_of}
 use Rattle.event_graph.specs.Afters.{id_after}
 use Rattle.event_graph.specs.Keeping.{IsKeptOf}
 use Rattle.event_graph.specs.declared.parts.After.{After}

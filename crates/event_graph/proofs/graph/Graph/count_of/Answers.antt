@@ -3,7 +3,7 @@ use Rattle.std.proofs.lemmas.List.Sums.{count_by-le-length}
 use Rattle.ew_model.specs.declared.id.Id.{Id}
 use Rattle.ew_model.specs.declared.event.Event.{Event}
 use Rattle.ew_model.specs.Ids.{name_eq}
-use Rattle.history_words.specs.Agents.{count_of}
+use Rattle.history_definitions.specs.Agents.{count_of}
 use Rattle.event_graph.specs.Keeping.{IsKeptOf}
 use Rattle.event_graph.proofs.Summing.{same_count}
 use Rattle.event_graph.proofs.graph.Graph.count_of.Goals as goal

@@ -1,6 +1,6 @@
 use Rattle.std.proofs.Common.{◌≡◌, ◌∙◌, ◌∷◌, [], ◌-◌, Some, sym, ap}
 use Rattle.ew_model.specs.Positions.{positions_in}
-use Rattle.history_words.specs.Chains.{last_id}
+use Rattle.history_definitions.specs.Chains.{last_id}
 use Rattle.event_graph.proofs.GoingOn.{last_alone}
 use Rattle.event_graph.proofs.graph.Graph.find_last.Goals as goal
 

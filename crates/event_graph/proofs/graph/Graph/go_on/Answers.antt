@@ -2,7 +2,7 @@ use Rattle.std.proofs.Common.{◌≡◌, ◌∙◌, ◌+◌, ◌-◌, ◌∷◌,
 use Rattle.ew_model.specs.declared.event.Event.{Event}
 use Rattle.ew_model.specs.Ancestors.{ids_of}
 use Rattle.agent_ids.specs.IdRuns.{id_with}
-use Rattle.history_words.specs.Chains.{last_id}
+use Rattle.history_definitions.specs.Chains.{last_id}
 use Rattle.event_graph.specs.Joining.{IsGoodBehind, event_on}
 use Rattle.event_graph.proofs.GoingOn.{next_behind, next_few}
 use Rattle.event_graph.proofs.graph.Graph.go_on.Goals.{After-id_from_end-last}

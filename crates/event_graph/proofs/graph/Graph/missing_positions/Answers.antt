@@ -1,5 +1,5 @@
 use Rattle.std.proofs.Common.{◌≡◌, ◌∙◌, ◌+◌, ℕ, List, suc, nat_lt, sym, ap, subst, arith}
-use Rattle.history_words.specs.Missing.{count_in}
+use Rattle.history_definitions.specs.Missing.{count_in}
 use Rattle.event_graph.proofs.MissingPlaces.{AreMissing, counted_next, missing_next, nothing_missing}
 use Rattle.event_graph.proofs.graph.Graph.missing_positions.Goals.{then-not-holds+in_ok-push, else-not-holds}
 use Rattle.event_graph.proofs.graph.Graph.missing_positions.Goals as goal

@@ -1,7 +1,7 @@
 use Rattle.std.proofs.Common.{◌≡◌, ◌∙◌, ◌-◌, ◌∷◌, [], List, length, sym, subst}
 use Rattle.std.proofs.lemmas.Result.{on_ok_weaker}
 use Rattle.ew_model.specs.declared.event.Event.{Event}
-use Rattle.history_words.specs.Chains.{event_behind}
+use Rattle.history_definitions.specs.Chains.{event_behind}
 use Rattle.event_graph.specs.Afters.{IsNextAfter}
 use Rattle.event_graph.specs.Keeping.{IsKeptOf}
 use Rattle.event_graph.specs.declared.parts.After.TheVariants.{Last}

@@ -3,9 +3,9 @@ use Rattle.std.specs.List.Sorted.{IsPermutation}
 use Rattle.ew_model.specs.declared.id.Id.{Id}
 use Rattle.ew_model.specs.declared.event.Event.{Event}
 use Rattle.ew_model.specs.Ancestors.{ids_of}
-use Rattle.history_words.specs.Agents.{agents_of, count_of}
+use Rattle.history_definitions.specs.Agents.{agents_of, count_of}
 use Rattle.event_graph.specs.Keeping.{IsKeptOf}
-use Rattle.history_words.specs.Summary.{summary_of}
+use Rattle.history_definitions.specs.Summary.{summary_of}
 use Rattle.event_graph.proofs.Summing.{summed, all_some, known_ok}
 use Rattle.event_graph.proofs.graph.Graph.summary.Goals as goal
 

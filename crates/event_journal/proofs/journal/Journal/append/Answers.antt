@@ -1,6 +1,6 @@
 use Rattle.std.proofs.Common.{◌≡◌, ◌+◌, [], ◌∷◌, length, Some, sym, ap, subst, ◌∙◌, arith}
 use Rattle.std.specs.Prelude.{IfSome}
-use Rattle.peer_words.specs.Batches.{IsBatch}
+use Rattle.peer_definitions.specs.Batches.{IsBatch}
 use Rattle.event_journal.specs.Disk.{written, LeavesJust, StaysWithin}
 use Rattle.event_journal.specs.Journal.{JournalSeen, IsKeptOn}
 use Rattle.event_journal.specs.Writing.{staged, IsTornTwice}

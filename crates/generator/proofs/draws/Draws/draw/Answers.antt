@@ -1,5 +1,5 @@
 use Rattle.std.proofs.Common.{ap}
-use Rattle.peer_words.specs.Draws.{draw_of}
+use Rattle.peer_definitions.specs.Draws.{draw_of}
 use Rattle.generator.proofs.Drawing.{wrapped}
 use Rattle.generator.proofs.draws.Draws.draw.Goals as goal
 

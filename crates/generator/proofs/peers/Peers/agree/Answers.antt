@@ -1,5 +1,5 @@
 use Rattle.std.proofs.Common.{◌&&◌, arith, sym, ap, ◌∙◌}
-use Rattle.peer_words.specs.Making.{peer_at, same_events}
+use Rattle.peer_definitions.specs.Making.{peer_at, same_events}
 use Rattle.generator.proofs.Agreement.{agree_of_three, tells_same}
 use Rattle.generator.proofs.Owned.{read}
 use Rattle.generator.proofs.peers.Peers.agree.Goals.{Else-agrees, After-agrees-then-agrees}

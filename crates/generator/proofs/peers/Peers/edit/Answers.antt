@@ -4,8 +4,8 @@ use Rattle.std.proofs.lemmas.Result.{err_from_is_err_and}
 use Rattle.ew_model.specs.Texts.{text_of}
 use Rattle.replica.specs.Answers.{EditsBy}
 use Rattle.generator.specs.Answers.{TellsStop}
-use Rattle.peer_words.specs.Draws.{drawn_edit}
-use Rattle.peer_words.specs.Making.{drawn_step, edited_peer}
+use Rattle.peer_definitions.specs.Draws.{drawn_edit}
+use Rattle.peer_definitions.specs.Making.{drawn_step, edited_peer}
 use Rattle.generator.proofs.Editing.{drawn_for, edit_kept, edit_made, edit_stopped, none_awaited}
 use Rattle.generator.proofs.Owned.{read}
 use Rattle.generator.proofs.peers.Peers.edit.Goals as goal

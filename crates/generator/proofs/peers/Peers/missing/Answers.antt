@@ -4,7 +4,7 @@ use Rattle.ew_model.specs.Kept.{IsKept, ReplicaState}
 use Rattle.ew_model.specs.Limits.{LimitNumbers}
 use Rattle.event_graph.proofs.Summing.{known_ok}
 use Rattle.arrival_laws.specs.Repeats.{without_held}
-use Rattle.peer_words.specs.Making.{peer_at}
+use Rattle.peer_definitions.specs.Making.{peer_at}
 use Rattle.generator.proofs.Missing.{lacking, no_more, summary_distinct}
 use Rattle.generator.proofs.Owned.{read}
 use Rattle.generator.proofs.peers.Peers.missing.Goals as goal

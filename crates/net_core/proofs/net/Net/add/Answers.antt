@@ -1,8 +1,8 @@
 use Rattle.std.proofs.Common.{List, refl, sym, ap, ◌∙◌}
-use Rattle.peer_words.specs.declared.net_step.NetStep.TheVariants as step
+use Rattle.peer_definitions.specs.declared.net_step.NetStep.TheVariants as step
 use Rattle.net_core.specs.declared.fault.NetFault.TheVariants as fault
-use Rattle.peer_words.specs.Machine.{Network, Peer, peer_among}
-use Rattle.peer_words.specs.Machine.Refusal.{PeerTwice}
+use Rattle.peer_definitions.specs.Machine.{Network, Peer, peer_among}
+use Rattle.peer_definitions.specs.Machine.Refusal.{PeerTwice}
 use Rattle.ew_model.proofs.ListParts.{element_there}
 use Rattle.net_core.proofs.Steps.{refused, twice}
 use Rattle.net_core.proofs.net.Net.add.Goals as goal

@@ -1,7 +1,7 @@
 use Rattle.std.proofs.Common.{[], ◌∷◌, ◌++◌, sym, ap, ◌∙◌, subst}
 use Rattle.net_core.specs.Keeping.{IsReached}
-use Rattle.peer_words.specs.Machine.{Network}
-use Rattle.peer_words.specs.Machine.StepOutcome.{Stepped}
+use Rattle.peer_definitions.specs.Machine.{Network}
+use Rattle.peer_definitions.specs.Machine.StepOutcome.{Stepped}
 use Rattle.net_core.proofs.Reaching.{fit, homely, new_peer, one_more_peer, reached}
 use Rattle.net_core.proofs.Steps.{added}
 use Rattle.net_core.proofs.net.Net.add_new.Goals as goal

@@ -1,6 +1,6 @@
 use Rattle.std.proofs.Common.{[], ◌∷◌, codes, if◌then◌else◌, sym, ap, ◌∙◌}
-use Rattle.peer_words.specs.Machine.{Network, all_agree, printed_line}
-use Rattle.peer_words.specs.Machine.StepOutcome.{Stepped}
+use Rattle.peer_definitions.specs.Machine.{Network, all_agree, printed_line}
+use Rattle.peer_definitions.specs.Machine.StepOutcome.{Stepped}
 use Rattle.net_core.proofs.Steps.{agree_is}
 use Rattle.net_core.proofs.net.Net.agree.Goals as goal
 

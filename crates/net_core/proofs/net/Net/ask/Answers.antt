@@ -1,9 +1,9 @@
 use Rattle.std.proofs.Common.{[], ◌∷◌, ◌∙◌}
 use Rattle.std.proofs.lemmas.Result.{err_from_is_err_and}
 use Rattle.ew_model.specs.Kept.{ReplicaState}
-use Rattle.peer_words.specs.declared.net_step.NetStep.TheVariants as step
-use Rattle.peer_words.specs.Answering.{question}
-use Rattle.peer_words.specs.Machine.{Network}
+use Rattle.peer_definitions.specs.declared.net_step.NetStep.TheVariants as step
+use Rattle.peer_definitions.specs.Answering.{question}
+use Rattle.peer_definitions.specs.Machine.{Network}
 use Rattle.net_core.proofs.PacketResults.{sent_sound, sent_told}
 use Rattle.net_core.proofs.Steps.{no_receiver, no_sender, ask_is}
 use Rattle.net_core.proofs.Writes.{here, no_peer_told, there}

@@ -4,11 +4,11 @@ use Rattle.std.specs.Vec.{vec_len}
 use Rattle.std.proofs.lemmas.Bool.{eqb-true}
 use Rattle.std.proofs.lemmas.Result.{err_from_is_err_and}
 use Rattle.ew_model.specs.Limits.{LimitNumbers}
-use Rattle.peer_words.specs.declared.net_step.NetStep.TheVariants as step
+use Rattle.peer_definitions.specs.declared.net_step.NetStep.TheVariants as step
 use Rattle.net_core.specs.Answers.{IsLeftAt}
 use Rattle.net_core.specs.Handing.{IsNotHanded}
 use Rattle.net_core.specs.Keeping.{IsPacket, IsReached}
-use Rattle.peer_words.specs.Machine.{Network, Packet}
+use Rattle.peer_definitions.specs.Machine.{Network, Packet}
 use Rattle.net_core.proofs.DeliverResults.{handed_at, may_receive, nobody_there, none_told, not_handed, part_left, part_reached, replies_sound, some_told, told_left, whole_left, whole_reached}
 use Rattle.net_core.proofs.Receiving.{none_left}
 use Rattle.net_core.proofs.Writes.{no_peer_told, read, with_written}

@@ -3,9 +3,9 @@ use Rattle.std.proofs.lemmas.Result.{err_from_is_err_and}
 use Rattle.ew_model.specs.Edits as edits
 use Rattle.ew_model.specs.Edits.{edit_refusal}
 use Rattle.ew_model.specs.Kept.{is_awaited}
-use Rattle.peer_words.specs.declared.net_step.NetStep.TheVariants as step
-use Rattle.peer_words.specs.Machine.{Network, Peer, edit_outcome}
-use Rattle.peer_words.specs.Machine.StepOutcome.{Stepped}
+use Rattle.peer_definitions.specs.declared.net_step.NetStep.TheVariants as step
+use Rattle.peer_definitions.specs.Machine.{Network, Peer, edit_outcome}
+use Rattle.peer_definitions.specs.Machine.StepOutcome.{Stepped}
 use Rattle.net_core.proofs.EditResults.{failed_reached, failed_told, made_reached, made_told}
 use Rattle.net_core.proofs.Editing.{awaits_none}
 use Rattle.net_core.proofs.Reaching.{homely}

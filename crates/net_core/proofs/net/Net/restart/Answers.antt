@@ -1,8 +1,8 @@
 use Rattle.std.proofs.Common.{[], ◌∷◌, sym, ap, ◌∙◌, codes}
 use Rattle.std.proofs.lemmas.Result.{err_from_is_err_and}
-use Rattle.peer_words.specs.declared.net_step.NetStep.TheVariants as step
-use Rattle.peer_words.specs.Machine.{Network, Peer, printed_line, restart_outcome}
-use Rattle.peer_words.specs.Machine.StepOutcome.{Stepped}
+use Rattle.peer_definitions.specs.declared.net_step.NetStep.TheVariants as step
+use Rattle.peer_definitions.specs.Machine.{Network, Peer, printed_line, restart_outcome}
+use Rattle.peer_definitions.specs.Machine.StepOutcome.{Stepped}
 use Rattle.net_core.proofs.Editing.{named_so, restarted, restarted_homely, restarted_step}
 use Rattle.net_core.proofs.Reaching.{homely}
 use Rattle.net_core.proofs.Steps.{no_peer, restart_is}

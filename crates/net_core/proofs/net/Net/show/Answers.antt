@@ -4,9 +4,9 @@ use Rattle.std.proofs.lemmas.Result.{err_from_is_err_and}
 use Rattle.ew_model.specs.Kept.{ReplicaState}
 use Rattle.ew_model.specs.Scripts.{escaped_text}
 use Rattle.ew_model.specs.Texts.{text_of}
-use Rattle.peer_words.specs.declared.net_step.NetStep.TheVariants as step
-use Rattle.peer_words.specs.Machine.{Network, Peer, printed_line}
-use Rattle.peer_words.specs.Machine.StepOutcome.{Stepped}
+use Rattle.peer_definitions.specs.declared.net_step.NetStep.TheVariants as step
+use Rattle.peer_definitions.specs.Machine.{Network, Peer, printed_line}
+use Rattle.peer_definitions.specs.Machine.StepOutcome.{Stepped}
 use Rattle.net_core.proofs.Steps.{at_peer, no_peer, show_is}
 use Rattle.net_core.proofs.Writes.{here, no_peer_told, read, there}
 use Rattle.net_core.proofs.net.Net.show.Goals as goal

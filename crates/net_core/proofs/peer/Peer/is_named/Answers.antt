@@ -1,6 +1,6 @@
 use Rattle.std.proofs.Common.{ap, ◌∙◌}
 use Rattle.ew_model.specs.Ids.{name_eq}
-use Rattle.peer_words.specs.Machine.{Peer}
+use Rattle.peer_definitions.specs.Machine.{Peer}
 use Rattle.net_core.proofs.PeerPlaces.{named_test}
 use Rattle.net_core.proofs.peer.Peer.is_named.Goals as goal
 

@@ -1,7 +1,7 @@
 use Rattle.std.proofs.Common.{sym, subst}
 use Rattle.peer_frames.specs.Calls.{Kept}
-use Rattle.peer_words.specs.Cutting.{Finds}
-use Rattle.peer_words.specs.Cutting.Front.{Whole}
+use Rattle.peer_definitions.specs.Cutting.{Finds}
+use Rattle.peer_definitions.specs.Cutting.Front.{Whole}
 use Rattle.peer_frames.proofs.Answering.{has_body, finds_whole, finds_bad}
 use Rattle.peer_frames.proofs.Cuts.{fronts_are_one}
 use Rattle.peer_frames.proofs.reader.FrameReader.next.Goals as goal

@@ -2,7 +2,7 @@ use Rattle.std.proofs.Common.{◌≡◌, ◌∷◌, ◌++◌, [], None, option_m
 use Rattle.std.proofs.lemmas.Option.{same_Some}
 use Rattle.ew_model.specs.declared.id.Id.{Id}
 use Rattle.ew_model.specs.Answers.{ruling_of}
-use Rattle.history_words.specs.Chains.{event_behind, last_id}
+use Rattle.history_definitions.specs.Chains.{event_behind, last_id}
 use Rattle.event_graph.proofs.GoingOn.{good_behind, last_pushed}
 use Rattle.replica.specs.Giving.{Given, WereGiven}
 use Rattle.replica.proofs.Giving.{all_admitted, one_admitted}

@@ -1,9 +1,0 @@
-//! Net scripts are read: the lines that say what peers do and which packets arrive. What the bytes mean is said in
-//! `specs/NetScripts.antt` of `peer_words`.
-
-mod line;
-mod parts;
-pub mod script;
-mod verb;
-
-pub use peer_words::net_step as step;
