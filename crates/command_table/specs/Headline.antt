@@ -56,10 +56,10 @@ StoresNothing line old new = (new.shelf.files ≡ old.shelf.files) × (new.shelf
 -- nothing, and prints nothing unless in a session. A failed store is the only one, and prints nothing; of a session `FailsToStore` says it.
 abbrev pub FaultLeaves : Option Line → Object → Seen → Seen → Type 0
 FaultLeaves line shelf old new =
-    (Rose old.shelf.lost new.shelf.lost × (new.shelf.files ≡ old.shelf.files) × (new.shelf.stores ≡ old.shelf.stores) × (new.out.taken ≡ old.out.taken) × LeavesInput old.input new.input)
-    ⊎ ((new.shelf.lost ≡ old.shelf.lost) × (new.shelf.stores ≡ next old.shelf.stores) × UnlessServes line (new.out.taken ≡ old.out.taken))
-FaultLeaves line source old new = (new.shelf.lost ≡ old.shelf.lost) × StoresNothing line old new
-FaultLeaves line sink old new = new.shelf.lost ≡ old.shelf.lost
+    (Rose old.shelf.failed_loads new.shelf.failed_loads × (new.shelf.files ≡ old.shelf.files) × (new.shelf.stores ≡ old.shelf.stores) × (new.out.taken ≡ old.out.taken) × LeavesInput old.input new.input)
+    ⊎ ((new.shelf.failed_loads ≡ old.shelf.failed_loads) × (new.shelf.stores ≡ next old.shelf.stores) × UnlessServes line (new.out.taken ≡ old.out.taken))
+FaultLeaves line source old new = (new.shelf.failed_loads ≡ old.shelf.failed_loads) × StoresNothing line old new
+FaultLeaves line sink old new = new.shelf.failed_loads ≡ old.shelf.failed_loads
 
 -- an object failed, and the text names it
 pub record NamesFault (line : Option Line) (old new : Seen) : Type 0 where
@@ -118,7 +118,7 @@ pub record Reads (line : Option Line) (limits : LimitNumbers) (old new : Seen) (
   pub front : LoadsFront (shape_of line).files old.shelf.loads new.shelf.loads
   pub loads : (status ≡ 6 → ⊥) → (status ≡ 8 → ⊥) → CountsLoads (shape_of line).files limits old.shelf.files old.shelf.loads new.shelf.loads
   -- at status 0, and where something failed that is no load, all loads were made
-  pub loaded : (status ≡ 0) ⊎ ((status ≡ 6) × IsQuiet old.shelf.lost new.shelf.lost) → new.shelf.loads ≡ loads_of_all (shape_of line).files old.shelf.loads
+  pub loaded : (status ≡ 0) ⊎ ((status ≡ 6) × IsQuiet old.shelf.failed_loads new.shelf.failed_loads) → new.shelf.loads ≡ loads_of_all (shape_of line).files old.shelf.loads
   -- and no load asks for more bytes than a file may have, nor for any of a file that is to be made
   pub asked : AsksAtMost (most_asked line limits) old.shelf.asked new.shelf.asked
   -- at status 0 the input is read to its end, if nothing else ends the reading; a line that doesn't read it leaves it

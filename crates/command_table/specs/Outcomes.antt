@@ -42,7 +42,7 @@ pub record IsSession (s : Session) (old new : Seen) (status : ℕ) : Type 0 wher
   pub answered : (status ≡ 6 → ⊥) → (status ≡ 8 → ⊥) → IsClosed s.sent s.closing old new status
   pub flushed : (status ≡ 6 → ⊥) → (status ≡ 8 → ⊥) → (s.sent ≡ []) ⊎ IsFlushed new.out.taken new.out.flushed
   pub failed : status ≡ 6 → GrowsByFront old.out.taken new.out.taken (s.sent ++ printed_by s.closing)
-  pub store_failed : old.shelf.faults < new.shelf.faults → IsQuiet old.shelf.lost new.shelf.lost → FailsToStore s old new
+  pub store_failed : old.shelf.faults < new.shelf.faults → IsQuiet old.shelf.failed_loads new.shelf.failed_loads → FailsToStore s old new
   pub memory : status ≡ 8 → GrowsByFront old.out.taken new.out.taken s.sent
   -- one store is made where the reply stores, and else none
   pub stores : status ≡ 0 → new.shelf.stores ≡ stored_by s.closing old.shelf.stores

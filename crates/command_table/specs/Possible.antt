@@ -1,6 +1,6 @@
 -- What a line may come to, over some bytes of each file and some input.
 use Rattle.std.specs.Prelude.{◌≡◌, ◌≤◌, ◌⊎◌, ⊤, ℕ, List, length, Option, None, Some}
-use Rattle.ew_model.specs.FileLaws.{AreBytes}
+use Rattle.ew_model.specs.Bytes.{AreBytes}
 use Rattle.ew_model.specs.Limits.{LimitNumbers, most_file_bytes}
 use Rattle.peer_definitions.specs.Making.{made}
 use Rattle.command_table.specs.Loads.{File, whole}

@@ -5,7 +5,7 @@ use Rattle.hex.specs.Hex.{encode_lower}
 use Rattle.ew_model.specs.declared.id.Id.{Id}
 use Rattle.ew_model.specs.Scripts.{id_text}
 use Rattle.ew_model.specs.Verdicts.{Ruling}
-use Rattle.ew_model.specs.FileFaults.{RecordFault}
+use Rattle.file_words.specs.FileFaults.{RecordFault}
 use Rattle.command_table.specs.Text.{field_words, verdict_words}
 use Rattle.command_table.specs.Cli.{usage}
 

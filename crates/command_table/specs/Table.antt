@@ -19,9 +19,9 @@ use Rattle.ew_model.specs.Edits.EditRefusal.{OutOfRange, TooManyHeads, Full}
 use Rattle.ew_model.specs.Verdicts.{BadEvent, first_bad, first_unknown}
 use Rattle.ew_model.specs.Arrival.{Outcome, arrive}
 use Rattle.ew_model.specs.Cuts.{latest_cut}
-use Rattle.ew_model.specs.File.{file_of}
-use Rattle.ew_model.specs.FileFaults.{FileFinding, file_finding}
-use Rattle.ew_model.specs.FileFaults.FileFinding.{IsFile, Short, BadMagic, BadVersion, BadDigest, BadRecord, TooMany}
+use Rattle.file_words.specs.File.{file_of}
+use Rattle.file_words.specs.FileFaults.{FileFinding, file_finding}
+use Rattle.file_words.specs.FileFaults.FileFinding.{IsFile, Short, BadMagic, BadVersion, BadDigest, BadRecord, TooMany}
 use Rattle.ew_outside.specs.Files.{Files}
 use Rattle.history_definitions.specs.Summary.{summary_of}
 use Rattle.peer_definitions.specs.declared.frame.Frame.TheVariants.{Have}

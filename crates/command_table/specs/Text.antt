@@ -3,8 +3,8 @@ use Rattle.std.specs.Prelude.{ℕ, List, ◌++◌, codes}
 use Rattle.std.specs.Fmt.{decimal}
 use Rattle.ew_model.specs.Verdicts.{Ruling}
 use Rattle.ew_model.specs.Verdicts.Ruling.{Repeat, Clash, SelfParent, TooManyParents, ParentsUnsorted, Unknown, PoolFull, NotReduced, Skipped, GraphFull, OutOfRange, Good}
-use Rattle.ew_model.specs.FileFaults.{RecordFault}
-use Rattle.ew_model.specs.FileFaults.RecordFault.{Cut, NameBad, NameTwice, AgentNumber, IdTwice, ParentCount, ParentPosition, ParentOrder, KindBad, Scalar, Trailing, UnusedAgent}
+use Rattle.file_words.specs.FileFaults.{RecordFault}
+use Rattle.file_words.specs.FileFaults.RecordFault.{Cut, NameBad, NameTwice, AgentNumber, IdTwice, ParentCount, ParentPosition, ParentOrder, KindBad, Scalar, Trailing, UnusedAgent}
 
 -- what is wrong with a field, in words
 abbrev pub field_words : RecordFault → List ℕ

@@ -8,7 +8,7 @@ use Rattle.std.proofs.lemmas.Bool.{false≢true}
 use Rattle.ew_model.specs.Sets.{Among}
 use Rattle.ew_model.specs.declared.id.Id.{Id}
 use Rattle.ew_model.specs.declared.event.Op.{Op}
-use Rattle.ew_model.specs.declared.event.Op.TheVariants.{Ins, Del}
+use Rattle.ew_model.specs.declared.event.Op.TheVariants as op
 use Rattle.ew_model.specs.declared.event.Event.{Event}
 use Rattle.ew_model.specs.Ids.{id_eq}
 use Rattle.ew_model.specs.Paths.{Side, Step, step_down, path_lt, is_right_child}
@@ -16,7 +16,7 @@ use Rattle.ew_model.specs.Entries.{Inserted, Entry, inserted_cmp, insertions, or
 use Rattle.ew_model.specs.Tree.{Noted, act_by, next_entry}
 use Rattle.ew_model.specs.Places.{left_of_or_right_of, new_path, path_before, place}
 use Rattle.ew_model.specs.Paths.Side.{Left, Right}
-use Rattle.ew_model.specs.Entries.Entry.{Insertion, Deletion}
+use Rattle.ew_model.specs.Entries.Entry.{Insertion, Deletion, Mark}
 use Rattle.ew_model.proofs.PathOrder.{path_exact, id_total}
 use Rattle.ew_model.proofs.SortingLaws.{NoTie, all_at, all_from, all_filter}
 use Rattle.ew_model.proofs.PlaceLaws.{ApartByPath, among_insertions}
@@ -36,6 +36,7 @@ last_id-step_down o (s ∷ p) side x = last_id-step_down (Some s.child) p side x
 abbrev pub EndsAt : Id → Entry → Type 0
 EndsAt x (Insertion y) = last_id None y.path ≡ Some x
 EndsAt x (Deletion target) = Unit {0}
+EndsAt x Mark = Unit {0}
 
 -- so does the entry's, where there is one
 abbrev pub EndsWhere : Id → Option Entry → Type 0
@@ -61,11 +62,12 @@ deletion_ends : (x : Id) (o : Option Inserted) → EndsWhere x (option_map (λ (
 deletion_ends x None = tt
 deletion_ends x (Some target) = tt
 
-pub place_ends : (x : Id) (op : Op) (entries : List Entry) → EndsWhere x (place (act_by x op) entries)
+pub place_ends : (x : Id) (o : Op) (entries : List Entry) → EndsWhere x (place (act_by x o) entries)
 unfolding place
-place_ends x (Ins at ch) entries =
+place_ends x (op.Ins at ch) entries =
     mapped_ends x (λ p. Insertion (record { id = x; path = new_path (order entries) p x; ch = ch })) (path_before (visible entries) at) (λ p. new_path_ends (order entries) p x)
-place_ends x (Del at) entries = deletion_ends x (slice_get (visible entries) at)
+place_ends x (op.Del at) entries = deletion_ends x (slice_get (visible entries) at)
+place_ends x (op.Mark label) entries = tt
 
 pub entry_ends : (b : ℕ) (history : List Event) (e : Event) → EndsWhere e.id (entry_after b history e)
 unfolding next_entry
@@ -98,6 +100,7 @@ no_tie_after n x notes hx apart h =
 apart_front : (n : Noted Id) (entry : Entry) (notes : List (Noted Id)) → EndsAt n.name entry → AllByRecursion (λ m. id_eq n.name m.name ≡ false) notes → ApartByName notes → ApartByPath (map (λ m. m.entry) notes) → ApartByPath (entry ∷ map (λ m. m.entry) notes)
 apart_front n (Insertion x) notes e apart h rest = (no_tie_after n x notes e apart h, rest)
 apart_front n (Deletion target) notes e apart h rest = rest
+apart_front n Mark notes e apart h rest = rest
 
 -- so their characters stand at different paths
 pub apart_by_path : (notes : List (Noted Id)) → ApartByName notes → ApartByPath (map (λ n. n.entry) notes)

@@ -9,7 +9,7 @@ use Rattle.std.proofs.lemmas.List.{map-append}
 use Rattle.std.proofs.lemmas.List.Elements.{filter-append}
 use Rattle.ew_model.specs.declared.id.Id.{Id}
 use Rattle.ew_model.specs.declared.event.Op.{Op}
-use Rattle.ew_model.specs.declared.event.Op.TheVariants.{Ins, Del}
+use Rattle.ew_model.specs.declared.event.Op.TheVariants.{Ins, Del, Mark}
 use Rattle.ew_model.specs.declared.event.Event.{Event}
 use Rattle.ew_model.specs.Sets.{Among}
 use Rattle.ew_model.specs.Ids.{id_eq, is_among}
@@ -148,6 +148,7 @@ module _ (below : List Event) (laid : LaidOut [] below) where
       by : (o : Op) → NewAct stem (based base) stem_is (base_stem base) long (act_by e.id o)
       by (Ins at ch) = (stem_new, base_new base e.id a.0 a.1 a.2)
       by (Del at) = tt
+      by (Mark label) = tt
 
   -- the next event leaves like entries on both sides
   next_like : (before : List Event) (e : Event) (ns ms : List (Noted Id)) → LaidOut [] before → tree_on 0 before ≡ tree_on 0 below ++ ns → AllZip LikeNote ns ms → KnowsAll below (ancestors before e.parents) → HasAgent e → is_held below e.id ≡ false

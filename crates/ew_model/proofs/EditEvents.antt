@@ -59,16 +59,17 @@ good_from_next held e next =
 abbrev pub event_by : List Event → List ℕ → Op → Event
 event_by history agent o = record { id = record { agent = agent; seq = count_of history agent }; parents = sort_by id_cmp (heads history); op = o }
 
-inside : (len : ℕ) (o : Op) → Fits len (own_change o) → is_outside len o ≡ false
+pub inside : (len : ℕ) (o : Op) → Fits len (own_change o) → is_outside len o ≡ false
 inside len (op.Ins at ch) fit = le-ltb len at fit
 inside len (op.Del at) fit = lt-leb len at fit
+inside len (op.Mark label) fit = refl
 
-number_follows : (history : List Event) (ids : List Id) (agent : List ℕ) (n : ℕ) → RunsOn history → n ≤ count_of history agent → ((x : Id) → is_held history x ≡ true → is_among (ancestors history ids) x ≡ true) → has_number_below (ancestors history ids) agent n ≡ true
+pub number_follows : (history : List Event) (ids : List Id) (agent : List ℕ) (n : ℕ) → RunsOn history → n ≤ count_of history agent → ((x : Id) → is_held history x ≡ true → is_among (ancestors history ids) x ≡ true) → has_number_below (ancestors history ids) agent n ≡ true
 number_follows history ids agent zero runs h known = refl
 number_follows history ids agent (suc n) runs h known = known (numbered agent n) (runs agent n ∙ lt-ltb n (count_of history agent) (omega (arith, h)))
 
 -- it may come next
-next_by : (history : List Event) (agent : List ℕ) (o : Op) → IsGood history → length (heads history) ≤ 16 → Fits (length (text_of history)) (own_change o) → IsNext history (event_by history agent o)
+pub next_by : (history : List Event) (agent : List ℕ) (o : Op) → IsGood history → length (heads history) ≤ 16 → Fits (length (text_of history)) (own_change o) → IsNext history (event_by history agent o)
 unfolding follows_its_agent
 next_by history agent o good few fit =
     let laid : LaidOut [] history = good_laid_out history good in
@@ -88,13 +89,13 @@ next_by history agent o good few fit =
     }
 
 -- what is so when it has come
-record HasCome (history : List Event) (e : Event) : Type 0 where
-  good : IsGood (history ++ e ∷ [])
-  heads_then : heads (history ++ e ∷ []) ≡ e.id ∷ []
-  count_then : count_of (history ++ e ∷ []) e.id.agent ≡ count_of history e.id.agent + 1
-  text_then : text_of (history ++ e ∷ []) ≡ changed_by (own_change e.op) (text_of history)
+pub record HasCome (history : List Event) (e : Event) : Type 0 where
+  pub good : IsGood (history ++ e ∷ [])
+  pub heads_then : heads (history ++ e ∷ []) ≡ e.id ∷ []
+  pub count_then : count_of (history ++ e ∷ []) e.id.agent ≡ count_of history e.id.agent + 1
+  pub text_then : text_of (history ++ e ∷ []) ≡ changed_by (own_change e.op) (text_of history)
 
-has_come : (history : List Event) (agent : List ℕ) (o : Op) → IsGood history → length (heads history) ≤ 16 → Fits (length (text_of history)) (own_change o) → HasCome history (event_by history agent o)
+pub has_come : (history : List Event) (agent : List ℕ) (o : Op) → IsGood history → length (heads history) ≤ 16 → Fits (length (text_of history)) (own_change o) → HasCome history (event_by history agent o)
 unfolding IsGood
 has_come history agent o good few fit =
     let e = event_by history agent o in
@@ -113,7 +114,7 @@ has_come history agent o good few fit =
     }
 
 -- the further events are those of the further operations
-chain_goes_on : (history : List Event) (agent : List ℕ) (o : Op) (ops : List Op) → HasCome history (event_by history agent o)
+pub chain_goes_on : (history : List Event) (agent : List ℕ) (o : Op) (ops : List Op) → HasCome history (event_by history agent o)
     → events_of_ops history agent (o ∷ ops) ≡ event_by history agent o ∷ events_of_ops (history ++ event_by history agent o ∷ []) agent ops
 unfolding events_of_ops
 chain_goes_on history agent o ops come =
@@ -130,7 +131,7 @@ pub record MayDo (history : List Event) (ops : List Op) : Type 0 where
   pub few : FewHeads history ops
   pub fit : AllFit (text_of history) (map own_change ops)
 
-may_go_on : (history : List Event) (agent : List ℕ) (o : Op) (ops : List Op) → MayDo history (o ∷ ops) → HasCome history (event_by history agent o) → MayDo (history ++ event_by history agent o ∷ []) ops
+pub may_go_on : (history : List Event) (agent : List ℕ) (o : Op) (ops : List Op) → MayDo history (o ∷ ops) → HasCome history (event_by history agent o) → MayDo (history ++ event_by history agent o ∷ []) ops
 may_go_on history agent o ops may come =
     record {
       good = come.good;
@@ -142,7 +143,7 @@ may_go_on history agent o ops may come =
     few_heads [] h = tt
     few_heads (p ∷ ops) h = h
 
-come_by : (history : List Event) (agent : List ℕ) (o : Op) (ops : List Op) → MayDo history (o ∷ ops) → HasCome history (event_by history agent o)
+pub come_by : (history : List Event) (agent : List ℕ) (o : Op) (ops : List Op) → MayDo history (o ∷ ops) → HasCome history (event_by history agent o)
 come_by history agent o ops may = has_come history agent o may.good may.few may.fit.0
 
 -- what operations leave

@@ -22,7 +22,7 @@ use Rattle.ew_model.proofs.EqualSets.{other_id}
 use Rattle.ew_model.proofs.CoverLaws.{ids_alike, among_here}
 
 -- a head is the id of an event that has no child
-head_is : (history : List Event) (x : Id) → Among x (heads history) → Among x (ids_of history) × (is_parent history x ≡ false)
+pub head_is : (history : List Event) (x : Id) → Among x (heads history) → Among x (ids_of history) × (is_parent history x ≡ false)
 head_is history x m = let parts = among_filter (λ y. not (is_parent history y)) (ids_of history) x m in (parts.0, not-true (is_parent history x) parts.1)
 
 pub head_held : (history : List Event) (x : Id) → Among x (heads history) → is_held history x ≡ true
@@ -55,7 +55,7 @@ ids_apart before (e ∷ later) laid = (
   ids_apart (before ++ e ∷ []) later laid.2,
 )
 
-ascending : (ids : List Id) → IsStrictlySortedBy id_cmp ids → ids_ascend ids ≡ true
+pub ascending : (ids : List Id) → IsStrictlySortedBy id_cmp ids → ids_ascend ids ≡ true
 unfolding IsStrictlySortedBy
 ascending [] s = refl
 ascending (x ∷ []) s = refl

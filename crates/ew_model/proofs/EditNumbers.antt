@@ -31,7 +31,7 @@ count_of-push history e agent b same =
     ∙ ap (λ n. count_of history agent + n) (sum_by-cons (λ (f : Event). cond (name_eq f.id.agent agent) 1 0) e [] ∙ ap (λ c. cond c 1 0 + 0) same ∙ omega arith)
 
 -- a new event whose agent's event before is held has the agent's count as its number
-number_by : (history : List Event) (parents : List Id) (agent : List ℕ) (s : ℕ) → RunsOn history → is_held history (numbered agent s) ≡ false
+pub number_by : (history : List Event) (parents : List Id) (agent : List ℕ) (s : ℕ) → RunsOn history → is_held history (numbered agent s) ≡ false
     → has_number_below (ancestors history parents) agent s ≡ true → s ≡ count_of history agent
 number_by history parents agent zero runs new follows =
     let most = ltb-false zero (count_of history agent) (sym (runs agent zero) ∙ new) in omega (arith, most)
@@ -44,7 +44,7 @@ pub number_of_next : (history : List Event) (e : Event) → RunsOn history → I
 unfolding follows_its_agent
 number_of_next history e runs next = number_by history e.parents e.id.agent e.id.seq runs next.new next.follows
 
-one_more : (history : List Event) (e : Event) → RunsOn history → e.id.seq ≡ count_of history e.id.agent → RunsOn (history ++ e ∷ [])
+pub one_more : (history : List Event) (e : Event) → RunsOn history → e.id.seq ≡ count_of history e.id.agent → RunsOn (history ++ e ∷ [])
 one_more history e runs number agent n =
     held_joined history (e ∷ []) (numbered agent n)
     ∙ same_truth (is_held history (numbered agent n) || (id_eq (numbered agent n) e.id || false)) (nat_lt n (count_of (history ++ e ∷ []) agent)) below held
@@ -91,7 +91,7 @@ one_more history e runs number agent n =
     held : nat_lt n (count_of (history ++ e ∷ []) agent) ≡ true → (is_held history (numbered agent n) || (id_eq (numbered agent n) e.id || false)) ≡ true
     held h = found (name_eq e.id.agent agent) refl (ltb-true n (count_of (history ++ e ∷ []) agent) h)
 
-run_on_after : (before later : List Event) → RunsOn before → IsGoodAfter before later → RunsOn (before ++ later)
+pub run_on_after : (before later : List Event) → RunsOn before → IsGoodAfter before later → RunsOn (before ++ later)
 run_on_after before [] runs good = subst RunsOn (sym (append-nil before)) runs
 run_on_after before (e ∷ later) runs good =
     subst RunsOn (append_assoc before (e ∷ []) later)
@@ -103,13 +103,13 @@ unfolding IsGood
 runs_on history good = run_on_after [] history (λ agent n. sym (le-ltb n 0 (omega arith))) good
 
 -- each event of a good history may come next behind those before it
-good_there : (seen before later : List Event) (e : Event) → IsGoodAfter seen (before ++ e ∷ later) → IsGoodAfter seen before × (next_verdict (seen ++ before) e ≡ Good)
+pub good_there : (seen before later : List Event) (e : Event) → IsGoodAfter seen (before ++ e ∷ later) → IsGoodAfter seen before × (next_verdict (seen ++ before) e ≡ Good)
 good_there seen [] later e good = (tt, ap (λ w. next_verdict w e) (append-nil seen) ∙ good.0)
 good_there seen (f ∷ before) later e good =
     let more = good_there (seen ++ f ∷ []) before later e good.1 in
     ((good.0, more.0), ap (λ w. next_verdict w e) (sym (append_assoc seen (f ∷ []) before)) ∙ more.1)
 
-number_there : (before later : List Event) (e : Event) → IsGood (before ++ e ∷ later) → e.id.seq ≡ count_of before e.id.agent
+pub number_there : (before later : List Event) (e : Event) → IsGood (before ++ e ∷ later) → e.id.seq ≡ count_of before e.id.agent
 unfolding IsGood
 number_there before later e good =
     let parts = good_there [] before later e good in number_of_next before e (runs_on before parts.0) (next_from_good before e parts.1)

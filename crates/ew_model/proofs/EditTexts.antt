@@ -5,18 +5,18 @@ use Rattle.std.proofs.lemmas.List.Edits.{length-insert, length-remove}
 use Rattle.ew_model.specs.Operations.{changed_by_all}
 use Rattle.ew_model.specs.TextLaws.{own_change, AllFit}
 use Rattle.ew_model.specs.Edits.{Edit, insertions_at, deletions_at, ops_of, needed_length}
-use Rattle.ew_model.specs.Edits.Edit.{Insert, Delete}
+use Rattle.ew_model.specs.Edits.Edit.{Insert, Delete, Mark}
 use Rattle.ew_model.specs.EditLaws.{edited, size_of}
 
-insertions_fit : (at : ℕ) (text t : List ℕ) → at ≤ length t → AllFit t (map own_change (insertions_at at text))
+pub insertions_fit : (at : ℕ) (text t : List ℕ) → at ≤ length t → AllFit t (map own_change (insertions_at at text))
 insertions_fit at [] t h = tt
 insertions_fit at (ch ∷ text) t h = (h, insertions_fit (at + 1) text (insert t at ch) (let more = length-insert t at ch h in omega (arith, h, more)))
 
-deletions_fit : (at n : ℕ) (t : List ℕ) → at + n ≤ length t → AllFit t (map own_change (deletions_at at n))
+pub deletions_fit : (at n : ℕ) (t : List ℕ) → at + n ≤ length t → AllFit t (map own_change (deletions_at at n))
 deletions_fit at zero t h = tt
 deletions_fit at (suc n) t h = (omega (arith, h), deletions_fit at n (remove t at) (let less = length-remove t at (omega (arith, h)) in omega (arith, h, less)))
 
-insertions_change : (at : ℕ) (text t : List ℕ) → at ≤ length t → changed_by_all (map own_change (insertions_at at text)) t ≡ take at t ++ (text ++ drop at t)
+pub insertions_change : (at : ℕ) (text t : List ℕ) → at ≤ length t → changed_by_all (map own_change (insertions_at at text)) t ≡ take at t ++ (text ++ drop at t)
 insertions_change at [] t h = sym (take-append-drop at t)
 insertions_change at (ch ∷ text) t h =
     let front = take at t ++ ch ∷ [] in
@@ -27,7 +27,7 @@ insertions_change at (ch ∷ text) t h =
     insertions_change (at + 1) text (insert t at ch) (let more = length-insert t at ch h in omega (arith, h, more))
     ∙ ((λ i. taken i ++ (text ++ left i)) ∙ append_assoc (take at t) (ch ∷ []) (text ++ drop at t))
 
-deletions_change : (at n : ℕ) (t : List ℕ) → at + n ≤ length t → changed_by_all (map own_change (deletions_at at n)) t ≡ take at t ++ drop (at + n) t
+pub deletions_change : (at n : ℕ) (t : List ℕ) → at + n ≤ length t → changed_by_all (map own_change (deletions_at at n)) t ≡ take at t ++ drop (at + n) t
 deletions_change at zero t h = sym (take-append-drop at t) ∙ ap (λ k. take at t ++ drop k t) (omega arith)
 deletions_change at (suc n) t h =
     let long : length (take at t) ≡ at = length-take-le at t (omega (arith, h)) in
@@ -36,11 +36,11 @@ deletions_change at (suc n) t h =
     sym (drop-drop n at (remove t at)) ∙ (ap (drop n) (drop_at (take at t) (drop (suc at) t) at long) ∙ (drop-drop n (suc at) t ∙ ap (λ k. drop k t) (omega arith))) in
     deletions_change at n (remove t at) (let less = length-remove t at (omega (arith, h)) in omega (arith, h, less)) ∙ (λ i. taken i ++ left i)
 
-insertions_long : (at : ℕ) (text : List ℕ) → length (insertions_at at text) ≡ length text
+pub insertions_long : (at : ℕ) (text : List ℕ) → length (insertions_at at text) ≡ length text
 insertions_long at [] = refl
 insertions_long at (ch ∷ text) = ap (λ n. suc n) (insertions_long (at + 1) text)
 
-deletions_long : (at n : ℕ) → length (deletions_at at n) ≡ n
+pub deletions_long : (at n : ℕ) → length (deletions_at at n) ≡ n
 deletions_long at zero = refl
 deletions_long at (suc n) = ap (λ n. suc n) (deletions_long at n)
 
@@ -48,13 +48,16 @@ deletions_long at (suc n) = ap (λ n. suc n) (deletions_long at n)
 pub edit_fits : (edit : Edit) (t : List ℕ) → needed_length edit ≤ length t → AllFit t (map own_change (ops_of edit))
 edit_fits (Insert at text) t h = insertions_fit at text t h
 edit_fits (Delete at count) t h = deletions_fit at count t h
+edit_fits (Mark label) t h = tt
 
 -- They do the edit.
 pub edit_changes : (edit : Edit) (t : List ℕ) → needed_length edit ≤ length t → changed_by_all (map own_change (ops_of edit)) t ≡ edited edit t
 edit_changes (Insert at text) t h = insertions_change at text t h
 edit_changes (Delete at count) t h = deletions_change at count t h
+edit_changes (Mark label) t h = refl
 
 -- There is one for each character.
 pub edit_long : (edit : Edit) → length (ops_of edit) ≡ size_of edit
 edit_long (Insert at text) = insertions_long at text
 edit_long (Delete at count) = deletions_long at count
+edit_long (Mark label) = refl

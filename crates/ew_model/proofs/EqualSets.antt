@@ -22,7 +22,7 @@ use Rattle.ew_model.proofs.TreeLaws.{entry_after}
 use Rattle.ew_model.proofs.EntryLaws.{notes_of, LaidOut, none_held, points_back, tree_on_whole, ancestors_held, all_joined, all_noted, all_mapped}
 use Rattle.ew_model.proofs.ApartLaws.{ApartByName, EndsWhere, entry_ends, apart_by_path, apart_filter}
 
-ids_equal : IsEquivalence id_eq
+pub ids_equal : IsEquivalence id_eq
 ids_equal = eq_by_cmp_equiv id_total
 
 -- the notes of events are under their ids
@@ -37,12 +37,12 @@ other_id before e x h =
     let apart = (or_parts (is_held before x) (is_among (e.id ∷ []) x) (sym (among-append (ids_of before) (e.id ∷ []) x) ∙ (ap (λ ids. is_among ids x) (sym (map-append (λ (f : Event). f.id) before (e ∷ []))) ∙ h))).1 in
     ids_equal.symm e.id x ∙ (or_parts (id_eq x e.id) false apart).0
 
-apart_noted : (e : Event) (o : Option Entry) (notes : List (Noted Id)) → EndsWhere e.id o → AllByRecursion (λ m. id_eq e.id m.name ≡ false) notes → ApartByName notes → ApartByName (noted_as e.id o ++ notes)
+pub apart_noted : (e : Event) (o : Option Entry) (notes : List (Noted Id)) → EndsWhere e.id o → AllByRecursion (λ m. id_eq e.id m.name ≡ false) notes → ApartByName notes → ApartByName (noted_as e.id o ++ notes)
 apart_noted e None notes ends apart h = h
 apart_noted e (Some entry) notes ends apart h = (ends, apart, h)
 
 -- the notes of a history are apart
-apart_notes : (b : ℕ) (history before later : List Event) → LaidOut before later → ApartByName (flat_map (notes_of b history) later)
+pub apart_notes : (b : ℕ) (history before later : List Event) → LaidOut before later → ApartByName (flat_map (notes_of b history) later)
 apart_notes b history before [] h = tt
 apart_notes b history before (e ∷ later) h =
     apart_noted e (entry_after b history e) (flat_map (notes_of b history) later) (entry_ends b history e)
@@ -58,11 +58,11 @@ version_apart history names h =
     apart_by_path (filter (λ n. list_any (id_eq n.name) names) (tree_on 0 history))
     (apart_filter (λ n. list_any (id_eq n.name) names) (tree_on 0 history) (subst ApartByName (sym (tree_on_whole 0 history h)) (apart_notes 0 history [] history h)))
 
-noted_at : (name : Id) (o : Option Entry) (n : Noted Id) → Among n (noted_as name o) → (n.name ≡ name) × (o ≡ Some n.entry)
+pub noted_at : (name : Id) (o : Option Entry) (n : Noted Id) → Among n (noted_as name o) → (n.name ≡ name) × (o ≡ Some n.entry)
 noted_at name None n m = absurd m
 noted_at name (Some entry) n m = ⊎_elim (λ e. (ap (λ (k : Noted Id). k.name) e, ap (λ (k : Noted Id). Some k.entry) (sym e))) (λ k. absurd k) m
 
-at_noted : (name : Id) (o : Option Entry) (n : Noted Id) → n.name ≡ name → o ≡ Some n.entry → Among n (noted_as name o)
+pub at_noted : (name : Id) (o : Option Entry) (n : Noted Id) → n.name ≡ name → o ≡ Some n.entry → Among n (noted_as name o)
 at_noted name None n e f = let no : ⊥ = cc in absurd no
 at_noted name (Some entry) n e f = let same : entry ≡ n.entry = cc in inl (λ i. record { name = e i; entry = sym same i })
 
@@ -92,11 +92,11 @@ same_ancestors xs ys named x h k s =
     same_any (id_eq x) (ancestors xs named) (ancestors ys named) (same_ids (version_events xs named) (version_events ys named) (same_version xs ys named h k s))
 
 -- both histories have one entry for each of the events
-abbrev SameEntries : List Event → List Event → List Event → Type 0
+abbrev pub SameEntries : List Event → List Event → List Event → Type 0
 SameEntries xs ys events = (f : Event) → Among f events → entry_after 0 ys f ≡ entry_after 0 xs f
 
 -- the entries of a version are entries of the other history's version, where those of its events are the same
-over_within : (xs ys : List Event) (named : List Id) → LaidOut [] xs → LaidOut [] ys → SameElements xs ys
+pub over_within : (xs ys : List Event) (named : List Id) → LaidOut [] xs → LaidOut [] ys → SameElements xs ys
     → ((f : Event) → Among f xs → is_among (ancestors xs named) f.id ≡ true → entry_after 0 ys f ≡ entry_after 0 xs f)
     → (w : Entry) → Among w (entries_over id_eq 0 (tree_on 0 xs) (ancestors xs named)) → Among w (entries_over id_eq 0 (tree_on 0 ys) (ancestors ys named))
 over_within xs ys named h k s q w m =
@@ -111,7 +111,7 @@ over_within xs ys named h k s q w m =
     subst (λ v. Among v (entries_over id_eq 0 (tree_on 0 ys) (ancestors ys named))) (sym over.2)
     (map_among (λ (n : Noted Id). n.entry) (filter (λ n. is_among (ancestors ys named) n.name) (tree_on 0 ys)) n (filter_among (λ n. is_among (ancestors ys named) n.name) (tree_on 0 ys) n there passes_there))
 
-same_over : (xs ys : List Event) (named : List Id) → LaidOut [] xs → LaidOut [] ys → SameElements xs ys
+pub same_over : (xs ys : List Event) (named : List Id) → LaidOut [] xs → LaidOut [] ys → SameElements xs ys
     → ((f : Event) → Among f xs → is_among (ancestors xs named) f.id ≡ true → entry_after 0 ys f ≡ entry_after 0 xs f)
     → SameElements (entries_over id_eq 0 (tree_on 0 xs) (ancestors xs named)) (entries_over id_eq 0 (tree_on 0 ys) (ancestors ys named))
 same_over xs ys named h k s q = record {
@@ -130,14 +130,14 @@ ancestor_before history before e later eq h f m a =
     (among_joined before (e ∷ later) f (subst (Among f) (sym eq) m))
 
 -- the next event has one entry in both, where those before it have
-same_next : (xs ys before : List Event) (e : Event) (later : List Event) → LaidOut [] xs → LaidOut [] ys → SameElements xs ys → before ++ e ∷ later ≡ xs → LaidOut before (e ∷ later) → SameEntries xs ys before → entry_after 0 ys e ≡ entry_after 0 xs e
+pub same_next : (xs ys before : List Event) (e : Event) (later : List Event) → LaidOut [] xs → LaidOut [] ys → SameElements xs ys → before ++ e ∷ later ≡ xs → LaidOut before (e ∷ later) → SameEntries xs ys before → entry_after 0 ys e ≡ entry_after 0 xs e
 unfolding next_entry
 same_next xs ys before e later h k s eq laid q =
     sym (same_place (act_by e.id e.op) (entries_over id_eq 0 (tree_on 0 xs) (ancestors xs e.parents)) (entries_over id_eq 0 (tree_on 0 ys) (ancestors ys e.parents))
     (version_apart xs (ancestors xs e.parents) h) (version_apart ys (ancestors ys e.parents) k)
     (same_over xs ys e.parents h k s (λ f m a. q f (ancestor_before xs before e later eq laid f m a))))
 
-same_entries_after : (xs ys before later : List Event) → LaidOut [] xs → LaidOut [] ys → SameElements xs ys → before ++ later ≡ xs → LaidOut before later → SameEntries xs ys before → SameEntries xs ys xs
+pub same_entries_after : (xs ys before later : List Event) → LaidOut [] xs → LaidOut [] ys → SameElements xs ys → before ++ later ≡ xs → LaidOut before later → SameEntries xs ys before → SameEntries xs ys xs
 same_entries_after xs ys before [] h k s eq laid q = λ f m. q f (subst (Among f) (sym eq ∙ append-nil before) m)
 same_entries_after xs ys before (e ∷ later) h k s eq laid q =
     same_entries_after xs ys (before ++ e ∷ []) later h k s (append_assoc before (e ∷ []) later ∙ eq) laid.2 (λ f m.
@@ -167,7 +167,7 @@ same_tree xs ys h k s = record {
   back = λ n m. let from = note_of_tree ys n k m in tree_of_note xs n from.0 h (s.back from.0 from.1) from.2 (same_entries ys xs k h (turned xs ys s) from.0 from.1 ∙ from.3);
 }
 
-same_mapped : {X Y : Type 0} (f : X → Y) (xs ys : List X) → SameElements xs ys → SameElements (map f xs) (map f ys)
+pub same_mapped : {X Y : Type 0} (f : X → Y) (xs ys : List X) → SameElements xs ys → SameElements (map f xs) (map f ys)
 same_mapped f xs ys h = record {
   there = λ z m. let from = among_map f xs z m in subst (λ w. Among w (map f ys)) (sym from.2) (map_among f ys from.0 (h.there from.0 from.1));
   back = λ z m. let from = among_map f ys z m in subst (λ w. Among w (map f xs)) (sym from.2) (map_among f xs from.0 (h.back from.0 from.1));

@@ -9,7 +9,7 @@ use Rattle.ew_model.specs.Entries.{Inserted, Entry, order, visible}
 use Rattle.ew_model.specs.Tree.{all_entries, next_entry, applied, applied_after, tree_of, tree_on, tree}
 use Rattle.ew_model.specs.Paths.{path_lt}
 use Rattle.ew_model.specs.Texts.{text_of}
-use Rattle.ew_model.specs.Entries.Entry.{Insertion, Deletion}
+use Rattle.ew_model.specs.Entries.Entry.{Insertion, Deletion, Mark}
 use Rattle.ew_model.specs.Operations.{deletion_at, operation_of, next_operation, operations_after, operations_of, operations, changed_by}
 use Rattle.ew_model.specs.TextLaws.{Fits, AllFit, OperationsFit}
 use Rattle.ew_model.proofs.EntryLaws.{LaidOut}
@@ -33,6 +33,7 @@ entry_fits : (chars : List Inserted) (d : Inserted) (o : Option Entry) → Fits 
 entry_fits chars d None = tt
 entry_fits chars d (Some (Insertion x)) = count_within (λ y. path_lt y.path x.path) chars
 entry_fits chars d (Some (Deletion target)) = deletion_fits chars (λ y. id_eq y.id target) d (position (λ y. id_eq y.id target) chars) refl
+entry_fits chars d (Some Mark) = tt
 
 nobody : Inserted
 nobody = record { id = record { agent = []; seq = 0 }; path = []; ch = 0 }

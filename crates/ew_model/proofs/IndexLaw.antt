@@ -54,10 +54,12 @@ knows_all history named h =
 in_range : (len : ℕ) (o : Op) → is_outside len o ≡ false → IsInRange len o
 in_range len (op.Ins at ch) h = let k = ltb-false len at h in omega (arith, k)
 in_range len (op.Del at) h = let k = leb-false len at h in omega (arith, k)
+in_range len (op.Mark label) h = tt
 
 same_change : (o : Op) → same_index o ≡ own_change o
 same_change (op.Ins at ch) = refl
 same_change (op.Del at) = refl
+same_change (op.Mark label) = refl
 
 -- the law, of an event that may come next
 index_law : (history : List Event) (e : Event) → LaidOut [] (history ++ e ∷ []) → IsNext history e → text_at (history ++ e ∷ []) (e.id ∷ []) ≡ changed_by (own_change e.op) (text_at history e.parents)

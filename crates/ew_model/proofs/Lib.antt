@@ -1,3 +1,4 @@
+pub mod AgentLaws
 pub mod AlikeRuns
 pub mod AncestorLaws
 pub mod ApartLaws
@@ -7,6 +8,7 @@ pub mod ArrivalLaws
 pub mod ArrivalRuns
 pub mod ArrivalsEnd
 pub mod BaseLaws
+pub mod ByteLaws
 pub mod ClearLaws
 pub mod Clearing
 pub mod ClearingLaw
@@ -23,11 +25,6 @@ pub mod EditTexts
 pub mod EntryLaws
 pub mod EqualSets
 pub mod EscapedText
-pub mod FileEvents
-pub mod FileFields
-pub mod FileLists
-pub mod FileReading
-pub mod FileRecords
 pub mod FirstBadLaws
 pub mod FirstLaws
 pub mod FitLaw
@@ -50,8 +47,11 @@ pub mod LikeSteps
 pub mod LimitsKept
 pub mod LineLaws
 pub mod ListParts
+pub mod ListPlaces
 pub mod ListTests
 pub mod LocalEdit
+pub mod MarkEvents
+pub mod MarkGroups
 pub mod MergeByAnswers
 pub mod MergeSteps
 pub mod MoveLaws

@@ -13,7 +13,7 @@ use Rattle.ew_model.specs.Sorting.{put_in_order, sort_by}
 use Rattle.ew_model.specs.Ids.{id_eq}
 use Rattle.ew_model.specs.Entries.{Inserted, Entry, inserted_cmp, insertions, deletes, is_deleted, visible}
 use Rattle.ew_model.specs.Paths.{path_cmp, path_lt}
-use Rattle.ew_model.specs.Entries.Entry.{Insertion, Deletion}
+use Rattle.ew_model.specs.Entries.Entry.{Insertion, Deletion, Mark}
 use Rattle.ew_model.proofs.PathOrder.{path_total}
 use Rattle.ew_model.proofs.SortingLaws.{all_at}
 use Rattle.ew_model.proofs.PrefixLaws.{visible_among, ordered_among}
@@ -106,6 +106,9 @@ module _ (stem other : List Entry) (h : IsStem stem) (k : IsStem other) where
   LikeEntry (Deletion t) (Deletion u) = LikeTarget t u
   LikeEntry (Insertion x) (Deletion u) = ⊥
   LikeEntry (Deletion t) (Insertion y) = ⊥
+  LikeEntry Mark Mark = Unit {0}
+  LikeEntry Mark f = ⊥
+  LikeEntry e Mark = ⊥
 
   like_deletes : (x y : Inserted) (e f : Entry) → Alike x y → LikeEntry e f → deletes x.id e ≡ deletes y.id f
   like_deletes x y (Insertion z) (Insertion w) l m = refl
@@ -113,6 +116,11 @@ module _ (stem other : List Entry) (h : IsStem stem) (k : IsStem other) where
       (λ i. id_eq (sym m.is_here i) x.id) ∙ like_ids m.here m.there x y m.like l ∙ (λ i. id_eq (m.is_there i) y.id)
   like_deletes x y (Insertion z) (Deletion u) l m = absurd m
   like_deletes x y (Deletion t) (Insertion z) l m = absurd m
+  like_deletes x y Mark Mark l m = refl
+  like_deletes x y Mark (Insertion z) l m = absurd m
+  like_deletes x y Mark (Deletion t) l m = absurd m
+  like_deletes x y (Insertion z) Mark l m = absurd m
+  like_deletes x y (Deletion t) Mark l m = absurd m
 
   -- like entries delete like characters
   pub like_deleted : (es fs : List Entry) (x y : Inserted) → AllZip LikeEntry es fs → Alike x y → is_deleted es x.id ≡ is_deleted fs y.id
@@ -171,6 +179,11 @@ module _ (stem other : List Entry) (h : IsStem stem) (k : IsStem other) where
   zip_insertions (Deletion t ∷ es) (Deletion u ∷ fs) z = zip_insertions es fs z.1
   zip_insertions (Insertion x ∷ es) (Deletion u ∷ fs) z = absurd z.0
   zip_insertions (Deletion t ∷ es) (Insertion y ∷ fs) z = absurd z.0
+  zip_insertions (Mark ∷ es) (Mark ∷ fs) z = zip_insertions es fs z.1
+  zip_insertions (Mark ∷ es) (Insertion y ∷ fs) z = absurd z.0
+  zip_insertions (Mark ∷ es) (Deletion u ∷ fs) z = absurd z.0
+  zip_insertions (Insertion x ∷ es) (Mark ∷ fs) z = absurd z.0
+  zip_insertions (Deletion t ∷ es) (Mark ∷ fs) z = absurd z.0
 
   -- what count and place find is the same
   pub zip_count : (xs ys : List Inserted) (u v : Inserted) → AllZip Alike xs ys → Alike u v → count_by (λ x. path_lt x.path u.path) xs ≡ count_by (λ y. path_lt y.path v.path) ys

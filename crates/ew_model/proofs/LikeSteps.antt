@@ -6,8 +6,8 @@ use Rattle.ew_model.specs.Sorting.{sort_by}
 use Rattle.ew_model.specs.Paths.{Step}
 use Rattle.ew_model.specs.Entries.{Inserted, Entry, inserted_cmp, insertions, is_deleted, order, visible}
 use Rattle.ew_model.specs.Places.{Act, new_path, path_before, place}
-use Rattle.ew_model.specs.Entries.Entry.{Insertion, Deletion}
-use Rattle.ew_model.specs.Places.Act.{InsertAs, DeleteAt}
+use Rattle.ew_model.specs.Entries.Entry.{Insertion, Deletion, Mark}
+use Rattle.ew_model.specs.Places.Act.{InsertAs, DeleteAt, MarkAs}
 use Rattle.ew_model.specs.Operations.{operation_of, deletion_at}
 use Rattle.ew_model.specs.declared.text_op.TextOp.TheVariants.{Ins}
 use Rattle.ew_model.proofs.SetLaws.{among_joined, joined_left, joined_right}
@@ -46,6 +46,11 @@ module _ (stem other : List Entry) (h : IsStem stem) (k : IsStem other) (long : 
   new_here (Deletion t ∷ es) (Deletion u ∷ fs) z = new_here es fs z.1
   new_here (Insertion x ∷ es) (Deletion u ∷ fs) z = absurd z.0
   new_here (Deletion t ∷ es) (Insertion y ∷ fs) z = absurd z.0
+  new_here (Mark ∷ es) (Mark ∷ fs) z = new_here es fs z.1
+  new_here (Mark ∷ es) (Insertion v ∷ fs) z = absurd z.0
+  new_here (Mark ∷ es) (Deletion u ∷ fs) z = absurd z.0
+  new_here (Insertion v ∷ es) (Mark ∷ fs) z = absurd z.0
+  new_here (Deletion u ∷ es) (Mark ∷ fs) z = absurd z.0
 
   new_there : (es fs : List Entry) → AllZip (LikeEntry stem other h k) es fs → NewChars other fs
   new_there [] [] z = tt
@@ -55,6 +60,11 @@ module _ (stem other : List Entry) (h : IsStem stem) (k : IsStem other) (long : 
   new_there (Deletion t ∷ es) (Deletion u ∷ fs) z = new_there es fs z.1
   new_there (Insertion x ∷ es) (Deletion u ∷ fs) z = absurd z.0
   new_there (Deletion t ∷ es) (Insertion y ∷ fs) z = absurd z.0
+  new_there (Mark ∷ es) (Mark ∷ fs) z = new_there es fs z.1
+  new_there (Mark ∷ es) (Insertion v ∷ fs) z = absurd z.0
+  new_there (Mark ∷ es) (Deletion u ∷ fs) z = absurd z.0
+  new_there (Insertion v ∷ es) (Mark ∷ fs) z = absurd z.0
+  new_there (Deletion u ∷ es) (Mark ∷ fs) z = absurd z.0
 
   zip_tie : (x y : Inserted) (xs ys : List Inserted) → Alike stem other h k x y → AllZip (Alike stem other h k) xs ys → NoTie inserted_cmp x xs → NoTie inserted_cmp y ys
   zip_tie x y [] [] l z t = tt
@@ -90,6 +100,11 @@ module _ (stem other : List Entry) (h : IsStem stem) (k : IsStem other) (long : 
   descs_of (Deletion t ∷ es) (Deletion u ∷ fs) z = descs_of es fs z.1
   descs_of (Insertion x ∷ es) (Deletion u ∷ fs) z = []
   descs_of (Deletion t ∷ es) (Insertion y ∷ fs) z = []
+  descs_of (Mark ∷ es) (Mark ∷ fs) z = descs_of es fs z.1
+  descs_of (Mark ∷ es) (Insertion v ∷ fs) z = []
+  descs_of (Mark ∷ es) (Deletion u ∷ fs) z = []
+  descs_of (Insertion v ∷ es) (Mark ∷ fs) z = []
+  descs_of (Deletion u ∷ es) (Mark ∷ fs) z = []
 
   pub desc_here : (es fs : List Entry) (z : AllZip (LikeEntry stem other h k) es fs) (x : Inserted) → Among x (insertions es) → (d : Desc) × Among d (descs_of es fs z) × IsAt stem d x.path
   desc_here [] [] z x m = absurd m
@@ -100,6 +115,11 @@ module _ (stem other : List Entry) (h : IsStem stem) (k : IsStem other) (long : 
   desc_here (Deletion t ∷ es) (Deletion u ∷ fs) z x m = desc_here es fs z.1 x m
   desc_here (Insertion u ∷ es) (Deletion t ∷ fs) z x m = absurd z.0
   desc_here (Deletion t ∷ es) (Insertion u ∷ fs) z x m = absurd z.0
+  desc_here (Mark ∷ es) (Mark ∷ fs) z x m = desc_here es fs z.1 x m
+  desc_here (Mark ∷ es) (Insertion v ∷ fs) z x m = absurd z.0
+  desc_here (Mark ∷ es) (Deletion u ∷ fs) z x m = absurd z.0
+  desc_here (Insertion v ∷ es) (Mark ∷ fs) z x m = absurd z.0
+  desc_here (Deletion u ∷ es) (Mark ∷ fs) z x m = absurd z.0
 
   desc_there : (es fs : List Entry) (z : AllZip (LikeEntry stem other h k) es fs) (x : Inserted) → Among x (insertions fs) → (d : Desc) × Among d (descs_of es fs z) × IsAt other d x.path
   desc_there [] [] z x m = absurd m
@@ -110,6 +130,11 @@ module _ (stem other : List Entry) (h : IsStem stem) (k : IsStem other) (long : 
   desc_there (Deletion t ∷ es) (Deletion u ∷ fs) z x m = desc_there es fs z.1 x m
   desc_there (Insertion u ∷ es) (Deletion t ∷ fs) z x m = absurd z.0
   desc_there (Deletion t ∷ es) (Insertion u ∷ fs) z x m = absurd z.0
+  desc_there (Mark ∷ es) (Mark ∷ fs) z x m = desc_there es fs z.1 x m
+  desc_there (Mark ∷ es) (Insertion v ∷ fs) z x m = absurd z.0
+  desc_there (Mark ∷ es) (Deletion u ∷ fs) z x m = absurd z.0
+  desc_there (Insertion v ∷ es) (Mark ∷ fs) z x m = absurd z.0
+  desc_there (Deletion u ∷ es) (Mark ∷ fs) z x m = absurd z.0
 
   pub node_here : (es fs : List Entry) (z : AllZip (LikeEntry stem other h k) es fs) (d : Desc) → Among d (descs_of es fs z) → (x : Inserted) × Among x (insertions es) × IsAt stem d x.path
   node_here [] [] z d m = absurd m
@@ -120,6 +145,11 @@ module _ (stem other : List Entry) (h : IsStem stem) (k : IsStem other) (long : 
   node_here (Deletion t ∷ es) (Deletion u ∷ fs) z d m = node_here es fs z.1 d m
   node_here (Insertion u ∷ es) (Deletion t ∷ fs) z d m = absurd z.0
   node_here (Deletion t ∷ es) (Insertion u ∷ fs) z d m = absurd z.0
+  node_here (Mark ∷ es) (Mark ∷ fs) z d m = node_here es fs z.1 d m
+  node_here (Mark ∷ es) (Insertion v ∷ fs) z d m = absurd z.0
+  node_here (Mark ∷ es) (Deletion u ∷ fs) z d m = absurd z.0
+  node_here (Insertion v ∷ es) (Mark ∷ fs) z d m = absurd z.0
+  node_here (Deletion u ∷ es) (Mark ∷ fs) z d m = absurd z.0
 
   node_there : (es fs : List Entry) (z : AllZip (LikeEntry stem other h k) es fs) (d : Desc) → Among d (descs_of es fs z) → (x : Inserted) × Among x (insertions fs) × IsAt other d x.path
   node_there [] [] z d m = absurd m
@@ -130,6 +160,11 @@ module _ (stem other : List Entry) (h : IsStem stem) (k : IsStem other) (long : 
   node_there (Deletion t ∷ es) (Deletion u ∷ fs) z d m = node_there es fs z.1 d m
   node_there (Insertion u ∷ es) (Deletion t ∷ fs) z d m = absurd z.0
   node_there (Deletion t ∷ es) (Insertion u ∷ fs) z d m = absurd z.0
+  node_there (Mark ∷ es) (Mark ∷ fs) z d m = node_there es fs z.1 d m
+  node_there (Mark ∷ es) (Insertion v ∷ fs) z d m = absurd z.0
+  node_there (Mark ∷ es) (Deletion u ∷ fs) z d m = absurd z.0
+  node_there (Insertion v ∷ es) (Mark ∷ fs) z d m = absurd z.0
+  node_there (Deletion u ∷ es) (Mark ∷ fs) z d m = absurd z.0
 
 -- the walk over a stem and new entries
 over_walk : (stem entries : List Entry) (descs : List Desc) → IsStem stem → NewChars stem entries → NoTies inserted_cmp (insertions entries)
@@ -190,6 +225,7 @@ module _ (stem other : List Entry) (h : IsStem stem) (k : IsStem other) (long : 
   abbrev pub NewAct : Act → Type 0
   NewAct (InsertAs x at ch) = IsNew stem x × IsNew other x
   NewAct (DeleteAt at) = Unit {0}
+  NewAct MarkAs = Unit {0}
 
   -- One act over like entries leaves like entries.
   pub like_place : (a : Act) (es fs : List Entry) (z : AllZip (LikeEntry stem other h k) es fs) → NewAct a → NoTies inserted_cmp (insertions es) → HasFirst (descs_of stem other h k long es fs z) → LikeWhere (place a (stem ++ es)) (place a (other ++ fs))
@@ -221,6 +257,7 @@ module _ (stem other : List Entry) (h : IsStem stem) (k : IsStem other) (long : 
       found None (Some y) s = absurd s
       found (Some x) None s = absurd s
       found (Some x) (Some y) s = record { here = x; there = y; like = s; is_here = refl; is_there = refl }
+  like_place MarkAs es fs z new t first = tt
 
   -- Like entries do the same to like texts.
   pub like_operation : (xs ys : List Inserted) (o p : Option Entry) → AllZip (Alike stem other h k) xs ys → LikeWhere o p → operation_of xs o ≡ operation_of ys p
@@ -231,3 +268,8 @@ module _ (stem other : List Entry) (h : IsStem stem) (k : IsStem other) (long : 
   like_operation xs ys (Some (Deletion t)) (Some (Deletion u)) z l = ap deletion_at (zip_position stem other h k xs ys t u z l)
   like_operation xs ys (Some (Insertion u)) (Some (Deletion t)) z l = absurd l
   like_operation xs ys (Some (Deletion t)) (Some (Insertion u)) z l = absurd l
+  like_operation xs ys (Some Mark) (Some Mark) z l = refl
+  like_operation xs ys (Some Mark) (Some (Insertion v)) z l = absurd l
+  like_operation xs ys (Some Mark) (Some (Deletion u)) z l = absurd l
+  like_operation xs ys (Some (Insertion v)) (Some Mark) z l = absurd l
+  like_operation xs ys (Some (Deletion u)) (Some Mark) z l = absurd l

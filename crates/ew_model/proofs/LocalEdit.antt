@@ -6,7 +6,7 @@ use Rattle.ew_model.specs.declared.id.Id.{Id}
 use Rattle.ew_model.specs.declared.event.Op.{Op}
 use Rattle.ew_model.specs.declared.event.Op.TheVariants as op
 use Rattle.ew_model.specs.declared.text_op.TextOp.{TextOp}
-use Rattle.ew_model.specs.declared.text_op.TextOp.TheVariants.{Ins, Del}
+use Rattle.ew_model.specs.declared.text_op.TextOp.TheVariants.{Ins, Del, Nothing}
 use Rattle.ew_model.specs.declared.event.Event.{Event}
 use Rattle.ew_model.specs.Ids.{id_eq, is_among}
 use Rattle.ew_model.specs.Ancestors.{ancestors}
@@ -21,13 +21,13 @@ use Rattle.ew_model.proofs.EqualSets.{tree_apart, all_notes_of}
 use Rattle.ew_model.proofs.PrefixLaws.{tree_prefixes}
 use Rattle.ew_model.proofs.GapLaws.{HasPrefixes}
 use Rattle.ew_model.proofs.OperationLaws.{tree_ids_apart}
-use Rattle.ew_model.proofs.OwnIndex.{BehindRoot, tree_behind, own_insertion, own_deletion}
+use Rattle.ew_model.proofs.OwnIndex.{BehindRoot, tree_behind, own_insertion, own_deletion, own_mark}
 
 -- all events of the history are among the ids
 abbrev pub KnowsAll : List Event → List Id → Type 0
 KnowsAll history ids = AllByRecursion (λ f. is_among ids f.id ≡ true) history
 
-filter_all : {X : Type 0} (p : X → Bool) (xs : List X) → AllByRecursion (λ x. p x ≡ true) xs → filter p xs ≡ xs
+pub filter_all : {X : Type 0} (p : X → Bool) (xs : List X) → AllByRecursion (λ x. p x ≡ true) xs → filter p xs ≡ xs
 filter_all p [] h = refl
 filter_all p (x ∷ xs) h = ap (λ b. cond b (x ∷ filter p xs) (filter p xs)) h.0 ∙ ap (λ ys. x ∷ ys) (filter_all p xs h.1)
 
@@ -37,13 +37,13 @@ all_known history ids h k =
     ap (map (λ (n : Noted Id). n.entry)) (filter_all (λ n. is_among ids n.name) (tree_on 0 history)
     (subst (AllByRecursion (λ (n : Noted Id). is_among ids n.name ≡ true)) (sym (tree_on_whole 0 history h)) (all_notes_of (λ x. is_among ids x ≡ true) 0 history history k)))
 
-path_there : (chars : List Inserted) (at : ℕ) → at ≤ length chars → (p : List Step) × (path_before chars at ≡ Some p)
+pub path_there : (chars : List Inserted) (at : ℕ) → at ≤ length chars → (p : List Step) × (path_before chars at ≡ Some p)
 path_there chars zero h = ([], refl)
 path_there [] (suc i) h = absurd (omega arith)
 path_there (c ∷ chars) (suc zero) h = (c.path, refl)
 path_there (c ∷ chars) (suc (suc i)) h = path_there chars (suc i) (omega arith)
 
-char_there : (chars : List Inserted) (at : ℕ) → at < length chars → (c : Inserted) × (slice_get chars at ≡ Some c)
+pub char_there : (chars : List Inserted) (at : ℕ) → at < length chars → (c : Inserted) × (slice_get chars at ≡ Some c)
 char_there [] at h = absurd (omega arith)
 char_there (c ∷ chars) zero h = (c, refl)
 char_there (c ∷ chars) (suc i) h = char_there chars i (omega arith)
@@ -60,13 +60,15 @@ tree_behind_root history = tree_behind id_eq 0 (applied_after [] history)
 abbrev pub same_index : Op → TextOp
 same_index (op.Ins at ch) = Ins at ch
 same_index (op.Del at) = Del at
+same_index (op.Mark label) = Nothing
 
 -- the index is in a text of this length
 abbrev pub IsInRange : ℕ → Op → Type 0
 IsInRange len (op.Ins at ch) = at ≤ len
 IsInRange len (op.Del at) = at < len
+IsInRange len (op.Mark label) = Unit {0}
 
-own_operation : (history : List Event) (x : Id) (o : Op) → LaidOut [] history → IsInRange (length (visible (all_entries 0 (tree_on 0 history)))) o → operation_of (visible (all_entries 0 (tree_on 0 history))) (place (act_by x o) (all_entries 0 (tree_on 0 history))) ≡ same_index o
+pub own_operation : (history : List Event) (x : Id) (o : Op) → LaidOut [] history → IsInRange (length (visible (all_entries 0 (tree_on 0 history)))) o → operation_of (visible (all_entries 0 (tree_on 0 history))) (place (act_by x o) (all_entries 0 (tree_on 0 history))) ≡ same_index o
 own_operation history x (op.Ins at ch) h r =
     let entries = all_entries 0 (tree_on 0 history) in
     let p = path_there (visible entries) at r in
@@ -75,6 +77,7 @@ own_operation history x (op.Del at) h r =
     let entries = all_entries 0 (tree_on 0 history) in
     let c = char_there (visible entries) at r in
     own_deletion entries at c.0 (tree_apart history h) (tree_ids_apart history h) c.1
+own_operation history x (op.Mark label) h r = own_mark (all_entries 0 (tree_on 0 history))
 
 -- An event that knows all events of a history, with an index in its text, changes the text there.
 pub local_operation : (history : List Event) (e : Event) → LaidOut [] history → KnowsAll history (ancestors history e.parents) → IsInRange (length (text_of history)) e.op → next_operation id_eq 0 (tree_on 0 history) (applied history e) ≡ same_index e.op

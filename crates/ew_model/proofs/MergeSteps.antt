@@ -23,6 +23,7 @@ use Rattle.ew_model.proofs.SetLaws.{among_joined, joined_left, joined_right}
 use Rattle.ew_model.proofs.VersionLaws.{any_from}
 use Rattle.ew_model.proofs.KeptLaws.{good-push, no_repeat}
 use Rattle.ew_model.proofs.CoverLaws.{ids_alike, event_of}
+use Rattle.ew_model.proofs.IdLaws.{names_equal}
 use Rattle.ew_model.proofs.ArrivalRuns.{no_id}
 use Rattle.ew_model.proofs.RoundLaws.{then}
 use Rattle.ew_model.proofs.KeptLaws.{kept_next}
@@ -36,6 +37,7 @@ same_parents (x ∷ ids) = λ i. ids_alike.refl x i && same_parents ids i
 same_op : (o : Op) → op_eq o o ≡ true
 same_op (op.Ins at ch) = λ i. eq-eqb at at refl i && eq-eqb ch ch refl i
 same_op (op.Del at) = eq-eqb at at refl
+same_op (op.Mark label) = names_equal.refl label
 
 pub same_event : (e : Event) → event_eq e e ≡ true
 same_event e = λ i. ids_alike.refl e.id i && same_parents e.parents i && same_op e.op i

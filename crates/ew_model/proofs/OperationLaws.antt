@@ -6,7 +6,7 @@ use Rattle.std.proofs.lemmas.List.{map-append}
 use Rattle.std.proofs.lemmas.Map.Steps.{list_any_congr}
 use Rattle.ew_model.specs.declared.id.Id.{Id}
 use Rattle.ew_model.specs.declared.event.Op.{Op}
-use Rattle.ew_model.specs.declared.event.Op.TheVariants.{Ins, Del}
+use Rattle.ew_model.specs.declared.event.Op.TheVariants as op
 use Rattle.ew_model.specs.declared.event.Event.{Event}
 use Rattle.ew_model.specs.Ids.{id_eq}
 use Rattle.ew_model.specs.Sets.{Among}
@@ -16,8 +16,8 @@ use Rattle.ew_model.specs.Entries.{Inserted, Entry, insertions, deletes, is_dele
 use Rattle.ew_model.specs.Tree.{Noted, act_by, all_entries, entries_over, next_entry, noted_as, applied, applied_after, tree_of, tree_on, tree}
 use Rattle.ew_model.specs.Places.{Act, new_path, path_before, place}
 use Rattle.ew_model.specs.Texts.{text_of}
-use Rattle.ew_model.specs.Entries.Entry.{Insertion, Deletion}
-use Rattle.ew_model.specs.Places.Act.{InsertAs, DeleteAt}
+use Rattle.ew_model.specs.Entries.Entry.{Insertion, Deletion, Mark}
+use Rattle.ew_model.specs.Places.Act.{InsertAs, DeleteAt, MarkAs}
 use Rattle.ew_model.specs.Operations.{operation_of, next_operation, operations_after, operations_of, operations, changed_by, changed_by_all}
 use Rattle.ew_model.proofs.PathOrder.{id_total}
 use Rattle.ew_model.proofs.SetLaws.{among_map, map_among}
@@ -36,6 +36,7 @@ use Rattle.ew_model.proofs.TextLaws.{IdsApart, MayFollow, text-entry}
 abbrev IdIs : Id → Entry → Type 0
 IdIs x (Insertion y) = y.id ≡ x
 IdIs x (Deletion target) = Unit {0}
+IdIs x Mark = Unit {0}
 
 abbrev IdWhere : Id → Option Entry → Type 0
 IdWhere x None = Unit {0}
@@ -45,16 +46,18 @@ id_mapped : {X : Type 0} (x : Id) (f : X → Entry) (o : Option X) → ((p : X) 
 id_mapped x f None h = tt
 id_mapped x f (Some p) h = h p
 
-place_id : (x : Id) (op : Op) (entries : List Entry) → IdWhere x (place (act_by x op) entries)
+place_id : (x : Id) (o : Op) (entries : List Entry) → IdWhere x (place (act_by x o) entries)
 unfolding place
-place_id x (Ins at ch) entries = id_mapped x (λ p. Insertion (record { id = x; path = new_path (order entries) p x; ch = ch })) (path_before (visible entries) at) (λ p. refl)
-place_id x (Del at) entries = id_mapped x (λ (target : Inserted). Deletion target.id) (slice_get (visible entries) at) (λ t. tt)
+place_id x (op.Ins at ch) entries = id_mapped x (λ p. Insertion (record { id = x; path = new_path (order entries) p x; ch = ch })) (path_before (visible entries) at) (λ p. refl)
+place_id x (op.Del at) entries = id_mapped x (λ (target : Inserted). Deletion target.id) (slice_get (visible entries) at) (λ t. tt)
+place_id x (op.Mark label) entries = tt
 
 -- a deletion targets a character that is there
 abbrev TargetWhere : List Entry → Option Entry → Type 0
 TargetWhere entries None = Unit {0}
 TargetWhere entries (Some (Insertion y)) = Unit {0}
 TargetWhere entries (Some (Deletion t)) = (y : Inserted) × Among y (insertions entries) × (y.id ≡ t)
+TargetWhere entries (Some Mark) = Unit {0}
 
 pub got : {X : Type 0} (xs : List X) (i : ℕ) (x : X) → slice_get xs i ≡ Some x → Among x xs
 got [] i x e = let no : ⊥ = cc in absurd no
@@ -74,6 +77,7 @@ unfolding place
 place_target (InsertAs x at ch) entries = target_insertion x entries ch (path_before (visible entries) at)
 place_target (DeleteAt at) entries =
     target_deletion entries (slice_get (visible entries) at) (λ y e. ordered_among entries y (visible_among entries y (got (visible entries) at y e)))
+place_target MarkAs entries = tt
 
 -- the note of an event of the history: its entry's id is its name, and its target is in the tree
 noted_id : (history : List Event) (n : Noted Id) → LaidOut [] history → Among n (tree_on 0 history) → IdIs n.name n.entry
@@ -94,6 +98,7 @@ noted_target history n h m =
     target_within : (xs ys : List Entry) (entry : Entry) → ((z : Inserted) → Among z (insertions xs) → Among z (insertions ys)) → TargetWhere xs (Some entry) → TargetWhere ys (Some entry)
     target_within xs ys (Insertion y) f h = tt
     target_within xs ys (Deletion t) f h = (h.0, f h.0 h.1, h.2)
+    target_within xs ys Mark f h = tt
 
 ids_equal : IsEquivalence id_eq
 ids_equal = eq_by_cmp_equiv id_total
@@ -144,6 +149,7 @@ not_deleted history x h new =
   where
     deleted_held : (entry : Entry) → Among entry (all_entries 0 (tree_on 0 history)) → deletes x entry ≡ true → is_held history x ≡ true
     deleted_held (Insertion y) m e = absurd (false≢true e)
+    deleted_held Mark m e = absurd (false≢true e)
     deleted_held (Deletion t) m e =
         let note = among_map (λ (n : Noted Id). n.entry) (tree_on 0 history) (Deletion t) m in
         let target : TargetWhere (all_entries 0 (tree_on 0 history)) (Some (Deletion t)) = subst (λ w. TargetWhere (all_entries 0 (tree_on 0 history)) (Some w)) (sym note.2) (noted_target history note.0 h note.1) in
@@ -179,6 +185,7 @@ text-noted history e (Some entry) h is =
         let id : x.id ≡ e.id = subst (IdWhere e.id) is (place_id e.id e.op (entries_over id_eq 0 (tree_on 0 history) (applied history e).over)) in
         ap (is_deleted (all_entries 0 (tree_on 0 history))) id ∙ not_deleted history e.id (laid_part [] history (e ∷ []) h) (laid_last [] history e h)
     may_follow (Deletion t) is = tree_ids_apart history (laid_part [] history (e ∷ []) h)
+    may_follow Mark is = tt
 
 -- The text of a history with one more event is its text after the event's operation.
 pub text_of-push : (history : List Event) (e : Event) → LaidOut [] (history ++ e ∷ []) → text_of (history ++ e ∷ []) ≡ changed_by (next_operation id_eq 0 (tree_on 0 history) (applied history e)) (text_of history)

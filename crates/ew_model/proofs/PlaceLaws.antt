@@ -1,13 +1,13 @@
 -- What an event leaves depends on the entries of its ancestors as a set.
-use Rattle.std.proofs.Common.{◌≡◌, Bool, not, inl, inr, ⊎_elim, List, [], ◌∷◌, filter, option_map, slice_get, ap, ◌∙◌}
+use Rattle.std.proofs.Common.{◌≡◌, Bool, not, inl, inr, ⊎_elim, List, [], ◌∷◌, filter, option_map, slice_get, refl, ap, ◌∙◌}
 use Rattle.std.specs.List.{list_any}
 use Rattle.std.specs.Cmp.{both_ways, on_total, IsTotalOrder}
 use Rattle.std.proofs.lemmas.List.Elements.{filter_agree}
 use Rattle.ew_model.specs.Sets.{Among, SameElements}
 use Rattle.ew_model.specs.Entries.{Inserted, Entry, insertions, deletes, is_deleted, inserted_cmp, order, visible}
 use Rattle.ew_model.specs.Places.{path_before, new_path, Act, place}
-use Rattle.ew_model.specs.Entries.Entry.{Insertion, Deletion}
-use Rattle.ew_model.specs.Places.Act.{InsertAs, DeleteAt}
+use Rattle.ew_model.specs.Entries.Entry.{Insertion, Deletion, Mark}
+use Rattle.ew_model.specs.Places.Act.{InsertAs, DeleteAt, MarkAs}
 use Rattle.ew_model.proofs.PathOrder.{path_total}
 use Rattle.ew_model.proofs.SortingLaws.{NoTies, same_sorted}
 use Rattle.ew_model.proofs.VersionLaws.{any_from, found_by}
@@ -23,11 +23,13 @@ pub among_insertions : (entries : List Entry) (x : Inserted) → Among x (insert
 among_insertions [] x m = m
 among_insertions (Insertion y ∷ entries) x m = ⊎_elim (λ e. inl (ap Insertion e)) (λ k. inr (among_insertions entries x k)) m
 among_insertions (Deletion t ∷ entries) x m = inr (among_insertions entries x m)
+among_insertions (Mark ∷ entries) x m = inr (among_insertions entries x m)
 
 pub insertion_among : (entries : List Entry) (x : Inserted) → Among (Insertion x) entries → Among x (insertions entries)
 insertion_among [] x m = m
 insertion_among (Insertion y ∷ entries) x m = ⊎_elim (λ e. let same : x ≡ y = cc in inl same) (λ k. inr (insertion_among entries x k)) m
 insertion_among (Deletion t ∷ entries) x m = ⊎_elim (λ e. let no : ⊥ = cc in absurd no) (λ k. insertion_among entries x k) m
+insertion_among (Mark ∷ entries) x m = ⊎_elim (λ e. let no : ⊥ = cc in absurd no) (λ k. insertion_among entries x k) m
 
 -- the entries have no two characters at one path
 abbrev pub ApartByPath : List Entry → Type 0
@@ -62,3 +64,4 @@ same_place (InsertAs x at ch) xs ys n m h =
     λ i. option_map (λ p. Insertion (record { id = x; path = new_path (walk i) p x; ch = ch })) (path_before (seen i) at)
 same_place (DeleteAt at) xs ys n m h =
     ap (λ chars. option_map (λ (target : Inserted). Deletion target.id) (slice_get chars at)) (same_visible xs ys n m h)
+same_place MarkAs xs ys n m h = refl

@@ -10,8 +10,8 @@ use Rattle.ew_model.specs.Entries.{Inserted, Entry, insertions, insertion_in, is
 use Rattle.ew_model.specs.Places.{Act, path_before, left_of_or_right_of, new_path, place}
 use Rattle.ew_model.specs.Tree.{based, base_id, base_path, Applied, Noted, all_entries, entries_over, next_entry, noted_as, grow, tree_of}
 use Rattle.ew_model.specs.Paths.Side.{Left, Right}
-use Rattle.ew_model.specs.Entries.Entry.{Insertion, Deletion}
-use Rattle.ew_model.specs.Places.Act.{InsertAs, DeleteAt}
+use Rattle.ew_model.specs.Entries.Entry.{Insertion, Deletion, Mark}
+use Rattle.ew_model.specs.Places.Act.{InsertAs, DeleteAt, MarkAs}
 use Rattle.ew_model.proofs.SetLaws.{among_joined, joined_left, joined_right, among_filter, among_map, map_among}
 use Rattle.ew_model.proofs.SortingLaws.{sort_among, among_sort}
 use Rattle.ew_model.proofs.PlaceLaws.{placed_total, among_insertions, insertion_among}
@@ -127,6 +127,7 @@ abbrev HangsWhere : List Entry → Option Entry → Type 0
 HangsWhere entries None = Unit {0}
 HangsWhere entries (Some (Insertion y)) = HangsOn (insertions entries) y.path
 HangsWhere entries (Some (Deletion target)) = Unit {0}
+HangsWhere entries (Some Mark) = Unit {0}
 
 hangs_mapped : (entries : List Entry) (f : List Step → Inserted) (o : Option (List Step)) → ((p : List Step) → o ≡ Some p → HangsOn (insertions entries) (f p).path) → HangsWhere entries (option_map (λ p. Insertion (f p)) o)
 hangs_mapped entries f None h = tt
@@ -146,6 +147,7 @@ place_hangs (InsertAs x at ch) entries =
     hangs_within (order entries) (insertions entries) (new_path (order entries) p x) (ordered_among entries)
     (new_path_hangs (order entries) p x (place_within (visible entries) (order entries) p (visible_among entries) (path_before_place (visible entries) at p e))))
 place_hangs (DeleteAt at) entries = hangs_deletion entries (slice_get (visible entries) at)
+place_hangs MarkAs entries = tt
 
 -- the entries of a version are among all entries
 over_among : {N : Type 0} (same : N → N → Bool) (b : ℕ) (notes : List (Noted N)) (names : List N) (z : Entry) → Among z (entries_over same b notes names) → Among z (all_entries b notes)
@@ -174,11 +176,14 @@ grown_prefixes b notes name (Some (Insertion y)) h k =
     subst HasPrefixes (sym (all_insertions-append b notes (record { name = name; entry = Insertion y } ∷ []))) (add_prefixes (insertions (all_entries b notes)) y k.0 k.1 h k.3 k.2)
 grown_prefixes b notes name (Some (Deletion target)) h k =
     subst HasPrefixes (sym (all_insertions-append b notes (record { name = name; entry = Deletion target } ∷ []) ∙ append-nil (insertions (all_entries b notes)))) h
+grown_prefixes b notes name (Some Mark) h k =
+    subst HasPrefixes (sym (all_insertions-append b notes (record { name = name; entry = Mark } ∷ []) ∙ append-nil (insertions (all_entries b notes)))) h
 
 hangs_in_all : (xs ys : List Entry) (o : Option Entry) → ((z : Inserted) → Among z (insertions xs) → Among z (insertions ys)) → HangsWhere xs o → HangsWhere ys o
 hangs_in_all xs ys None f h = tt
 hangs_in_all xs ys (Some (Insertion y)) f h = hangs_within (insertions xs) (insertions ys) y.path f h
 hangs_in_all xs ys (Some (Deletion target)) f h = tt
+hangs_in_all xs ys (Some Mark) f h = tt
 
 pub next_hangs : {N : Type 0} (same : N → N → Bool) (b : ℕ) (notes : List (Noted N)) (a : Applied N) → HangsWhere (all_entries b notes) (next_entry same b notes a)
 unfolding next_entry

@@ -19,7 +19,7 @@ use Rattle.ew_model.specs.Operations.{deletion_at, operation_of, next_operation}
 use Rattle.ew_model.specs.Entries.{Inserted, Entry, inserted_cmp, order, visible}
 use Rattle.ew_model.specs.Paths.{path_lt}
 use Rattle.ew_model.specs.Tree.{based, Applied, Noted, all_entries, entries_over, tree_of}
-use Rattle.ew_model.specs.Entries.Entry.{Insertion, Deletion}
+use Rattle.ew_model.specs.Entries.Entry.{Insertion, Deletion, Mark}
 use Rattle.ew_model.specs.Records.{holds, is_inserted, deletions_of, Record, records, effects_in, OperationReads, OperationsRead, NamesPrepare}
 use Rattle.ew_model.proofs.SetLaws.{among_joined, joined_left, joined_right, among_filter, among_map, map_among}
 use Rattle.ew_model.proofs.SortingLaws.{all_at, all_from}
@@ -181,6 +181,7 @@ reads (Insertion y) chars before rs r qs cut shown sorted apart =
 reads (Deletion t) chars before rs r qs cut shown sorted apart =
     λ h. ap (λ ws. deletion_at (position (λ (z : Inserted). id_eq z.id t) ws)) (shown ∙ ap seen cut)
     ∙ read_target rs r qs (subst (λ ws. IsStrictlySortedBy inserted_cmp (map node_of ws)) cut sorted) (subst (λ ws. IdsApart (map node_of ws)) cut apart) t h
+reads Mark chars before rs r qs cut shown sorted apart = refl
 
 pub operations_read : OperationsRead
 unfolding next_operation

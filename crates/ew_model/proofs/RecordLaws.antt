@@ -9,7 +9,7 @@ use Rattle.ew_model.specs.Ids.{id_eq}
 use Rattle.ew_model.specs.Sets.{Among}
 use Rattle.ew_model.specs.Entries.{Inserted, Entry, inserted_cmp, deletes, is_deleted, insertions, order, visible}
 use Rattle.ew_model.specs.Tree.{based, Applied, Noted, all_entries, entries_over, tree_of}
-use Rattle.ew_model.specs.Entries.Entry.{Insertion, Deletion}
+use Rattle.ew_model.specs.Entries.Entry.{Insertion, Deletion, Mark}
 use Rattle.ew_model.specs.Records.{inserts, is_inserted, deletions_of, prepared_in, Record, record_in, records, RecordsTell}
 use Rattle.ew_model.proofs.SetLaws.{among_joined, joined_left, joined_right, among_filter, filter_among}
 use Rattle.ew_model.proofs.SortingLaws.{NoTies, all_at, all_from, ties_filter, filter-sort, same_sorted}
@@ -70,6 +70,7 @@ ties_front (Insertion y) es fs f g k = (
   g k.1,
 )
 ties_front (Deletion t) es fs f g k = (g k, g k)
+ties_front Mark es fs f g k = (g k, g k)
 
 ties_chosen : (b : Bool) (n : Noted ℕ) (ns : List (Noted ℕ)) → NoTies inserted_cmp (insertions (n.entry ∷ map entry_of ns)) → NoTies inserted_cmp (insertions (map entry_of ns)) → NoTies inserted_cmp (insertions (map entry_of (cond b (n ∷ ns) ns)))
 ties_chosen true n ns h k = h
@@ -99,10 +100,12 @@ part_apart b notes names h =
 pub inserted_by : (x : Id) (e : Entry) → inserts x e ≡ true → (y : Inserted) × (e ≡ Insertion y) × (y.id ≡ x)
 inserted_by x (Insertion y) h = (y, refl, id_same y.id x h)
 inserted_by x (Deletion t) h = absurd (false≢true h)
+inserted_by x Mark h = absurd (false≢true h)
 
 pub deleted_by : (x : Id) (e : Entry) → deletes x e ≡ true → e ≡ Deletion x
 deleted_by x (Insertion y) h = absurd (false≢true h)
 deleted_by x (Deletion t) h = ap Deletion (id_same t x h)
+deleted_by x Mark h = absurd (false≢true h)
 
 pub is_inserted_from : (entries : List Entry) (y : Inserted) → Among y (insertions entries) → is_inserted entries y.id ≡ true
 is_inserted_from entries y m = any_from (inserts y.id) entries (Insertion y) (among_insertions entries y m) (id_itself y.id)

@@ -2,8 +2,7 @@
 pub mod Cuts
 pub mod Edits
 pub mod Events
-pub mod File
-pub mod FileFaults
+pub mod Marks
 pub mod Operations
 pub mod Parts
 pub mod Positions

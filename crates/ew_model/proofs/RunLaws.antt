@@ -13,8 +13,8 @@ use Rattle.ew_model.specs.Paths.{Step}
 use Rattle.ew_model.specs.Entries.{Inserted, Entry, inserted_cmp, insertions, order, visible}
 use Rattle.ew_model.specs.Places.{Act, new_path, path_before, place}
 use Rattle.ew_model.specs.Tree.{base_id, based, base_path, Applied, Noted, all_entries, entries_over, next_entry, noted_as, grow, tree_of}
-use Rattle.ew_model.specs.Entries.Entry.{Insertion, Deletion}
-use Rattle.ew_model.specs.Places.Act.{InsertAs, DeleteAt}
+use Rattle.ew_model.specs.Entries.Entry.{Insertion, Deletion, Mark}
+use Rattle.ew_model.specs.Places.Act.{InsertAs, DeleteAt, MarkAs}
 use Rattle.ew_model.specs.Records.{holds, inserts_as, IsNewId, IsNewAct, MayApply, IsRun}
 use Rattle.ew_model.proofs.PathOrder.{path_exact, id_total, id_exact}
 use Rattle.ew_model.proofs.SetLaws.{among_joined, joined_left, joined_right, among_filter, filter_among, among_map, map_among}
@@ -60,6 +60,7 @@ base_only (suc n) z m =
 abbrev pub Fits : Act → List Entry → Entry → Type 0
 Fits a entries (Insertion y) = (inserts_as y.id a ≡ true) × (last_id None y.path ≡ Some y.id)
 Fits a entries (Deletion t) = (y : Inserted) × Among y (insertions entries) × (y.id ≡ t)
+Fits a entries Mark = Unit {0}
 
 mapped_from : {A B : Type 0} (f : A → B) (o : Option A) (e : B) → option_map f o ≡ Some e → (p : A) × (o ≡ Some p) × (f p ≡ e)
 mapped_from f None e h = let no : ⊥ = cc in absurd no
@@ -87,12 +88,17 @@ place_fits (InsertAs x at ch) entries (Insertion y) h =
 place_fits (InsertAs x at ch) entries (Deletion t) h =
     let from = mapped_from (λ p. Insertion (record { id = x; path = new_path (order entries) p x; ch = ch })) (path_before (visible entries) at) (Deletion t) h in
     absurd (not_deletion (record { id = x; path = new_path (order entries) from.0 x; ch = ch }) t from.2)
+place_fits (InsertAs x at ch) entries Mark h = tt
 place_fits (DeleteAt at) entries (Insertion y) h =
     let from = mapped_from (λ (target : Inserted). Deletion target.id) (slice_get (visible entries) at) (Insertion y) h in
     absurd (not_insertion y from.0.id from.2)
 place_fits (DeleteAt at) entries (Deletion t) h =
     let from = mapped_from (λ (target : Inserted). Deletion target.id) (slice_get (visible entries) at) (Deletion t) h in
     (from.0, ordered_among entries from.0 (visible_among entries from.0 (got (visible entries) at from.0 from.1)), deletion_same from.0.id t from.2)
+place_fits (DeleteAt at) entries Mark h = tt
+place_fits MarkAs entries (Insertion y) h = let no : ⊥ = cc in absurd no
+place_fits MarkAs entries (Deletion t) h = let no : ⊥ = cc in absurd no
+place_fits MarkAs entries Mark h = tt
 
 -- THE NAMED PART OF A TREE
 abbrev pub named : List ℕ → Noted ℕ → Bool
@@ -193,6 +199,7 @@ ends_own b events notes g z m =
 fits_wider : (a : Act) (xs ys : List Entry) (e : Entry) → ((z : Inserted) → Among z (insertions xs) → Among z (insertions ys)) → Fits a xs e → Fits a ys e
 fits_wider a xs ys (Insertion y) f h = h
 fits_wider a xs ys (Deletion t) f h = (h.0, f h.0 h.1, h.2)
+fits_wider a xs ys Mark f h = tt
 
 source_later : (b : ℕ) (events : List (Applied ℕ)) (a : Applied ℕ) (notes more : List (Noted ℕ)) (n : Noted ℕ) → Source b events notes n → Source b (events ++ a ∷ []) (notes ++ more) n
 source_later b events a notes more n s = record {
@@ -207,12 +214,14 @@ source_later b events a notes more n s = record {
 pub new_entry_id : (events : List (Applied ℕ)) (a : Act) (y : Inserted) → IsNewAct events a → inserts_as y.id a ≡ true → IsNewId events y.id
 new_entry_id events (InsertAs x at ch) y new h = subst (IsNewId events) (id_same x y.id h) new
 new_entry_id events (DeleteAt at) y new h = absurd (false≢true h)
+new_entry_id events MarkAs y new h = absurd (false≢true h)
 
 no_agentless : (events : List (Applied ℕ)) (a : Act) (entries : List Entry) (e : Entry) → IsNewAct events a → Fits a entries e → (y : Inserted) → e ≡ Insertion y → y.id.agent ≡ [] → ⊥
 no_agentless events a entries (Insertion w) new fits y e agent =
     let same : w ≡ y = insertion_same w y e in
     (new_entry_id events a w new fits.0).agent (ap (λ (v : Inserted). v.id.agent) same ∙ agent)
 no_agentless events a entries (Deletion t) new fits y e agent = absurd (not_insertion y t e)
+no_agentless events a entries Mark new fits y e agent = let no : ⊥ = cc in absurd no
 
 module _ (b : ℕ) (events : List (Applied ℕ)) (notes : List (Noted ℕ)) (g : Grown b events notes) (a : Applied ℕ) (may : MayApply events a) (e : Entry) (fits : Fits a.act (entries_over nat_eq b notes a.over) e) where
   abbrev note : Noted ℕ
@@ -297,6 +306,15 @@ grown_more b events notes g a may (Deletion t) fits =
       single = pushed_single b events notes g a may (Deletion t) fits;
       ids = subst IdsApart (sym more) g.ids;
       one_note = pushed_one b events notes g a may (Deletion t) fits;
+      apart = subst (NoTies inserted_cmp) (sym more) g.apart;
+    }
+grown_more b events notes g a may Mark fits =
+    let more : insertions (all_entries b (notes ++ record { name = a.name; entry = Mark } ∷ [])) ≡ insertions (all_entries b notes) = all_insertions-append b notes (record { name = a.name; entry = Mark } ∷ []) ∙ append-nil (insertions (all_entries b notes)) in
+    record {
+      sources = pushed_sources b events notes g a may Mark fits;
+      single = pushed_single b events notes g a may Mark fits;
+      ids = subst IdsApart (sym more) g.ids;
+      one_note = pushed_one b events notes g a may Mark fits;
       apart = subst (NoTies inserted_cmp) (sym more) g.apart;
     }
 

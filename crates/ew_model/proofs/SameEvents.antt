@@ -10,7 +10,7 @@ use Rattle.ew_model.specs.declared.event.Event.{Event}
 use Rattle.ew_model.specs.Sets.{Among}
 use Rattle.ew_model.specs.Ids.{id_eq}
 use Rattle.ew_model.specs.Events.{op_eq, event_eq}
-use Rattle.ew_model.proofs.IdLaws.{is_same_id}
+use Rattle.ew_model.proofs.IdLaws.{is_same_id, name_exact}
 
 both : (a b : Bool) → (a && b) ≡ true → (a ≡ true) × (b ≡ true)
 both true b h = (refl, h)
@@ -29,8 +29,13 @@ same_ops (op.Ins i c) (op.Ins j d) h =
     let parts = both (i == j) (c == d) h in
     λ k. op.Ins (eqb-true i j parts.0 k) (eqb-true c d parts.1 k)
 same_ops (op.Ins i c) (op.Del j) h = absurd (false≢true h)
+same_ops (op.Ins i c) (op.Mark b) h = absurd (false≢true h)
 same_ops (op.Del i) (op.Ins j d) h = absurd (false≢true h)
 same_ops (op.Del i) (op.Del j) h = ap op.Del (eqb-true i j h)
+same_ops (op.Del i) (op.Mark b) h = absurd (false≢true h)
+same_ops (op.Mark a) (op.Ins j d) h = absurd (false≢true h)
+same_ops (op.Mark a) (op.Del j) h = absurd (false≢true h)
+same_ops (op.Mark a) (op.Mark b) h = ap op.Mark (name_exact a b h)
 
 pub same_events : (e f : Event) → event_eq e f ≡ true → e ≡ f
 same_events e f h =

@@ -8,8 +8,9 @@ use Rattle.std.specs.Str.Parse.{digits_value}
 use Rattle.std.proofs.lemmas.Bool.{cases_lt, cases_Bool, both_ways, and_parts, and_from, ne_eqb, cond-false}
 use Rattle.std.proofs.lemmas.Slice.Eq.{bytes_eq-Decides}
 use Rattle.std.proofs.lemmas.Str.{chars-nil, chars-append, chars-encodes}
+use Rattle.ew_model.specs.Names.{is_name}
 use Rattle.ew_model.specs.Edits.{Edit}
-use Rattle.ew_model.specs.Edits.Edit.{Insert, Delete}
+use Rattle.ew_model.specs.Edits.Edit.{Insert, Delete, Mark}
 use Rattle.ew_model.specs.Scripts.{escaped_char, escaped_text, edit_line, IsSoundEdit, lines_of, MeansEdit, IsReadable}
 use Rattle.ew_model.specs.ScriptLaws.{LinesMeanOneEdit, ScriptsAreUnique, FirstBadLinesAreUnique, ScriptsHaveNoBadLine, BytesAreJudged}
 use Rattle.ew_model.proofs.Decimals.{decimal_lacks, digits_value_is}
@@ -88,11 +89,16 @@ insert_line at text = ap (λ x. codes "ins " ++ (decimal at ++ 32 ∷ x)) (appen
 pub delete_line : (at count : ℕ) → edit_line (Delete at count) ≡ codes "del " ++ (decimal at ++ 32 ∷ decimal count)
 delete_line at count = ap (λ x. codes "del " ++ (decimal at ++ 32 ∷ x)) (append-nil (decimal count))
 
+-- the line of a mark, as its two parts
+pub mark_line : (label : List ℕ) → edit_line (Mark label) ≡ codes "mark " ++ label
+mark_line label = ap (λ x. codes "mark " ++ x) (append-nil label)
+
 -- the edit that a line might mean
 abbrev pub edit_of : List ℕ → Edit
 edit_of line =
     let words = drop 4 line in
     if get_or line 0 0 == 105 then Insert (digits_value 10 (before_space words)) (unescaped (chars (behind_space words)))
+    else if get_or line 0 0 == 109 then Mark (drop 5 line)
     else Delete (digits_value 10 (before_space words)) (digits_value 10 (behind_space words))
 
 -- each edit is read from its line
@@ -107,6 +113,7 @@ edit_of-line (Delete at count) h =
     let number = ap (digits_value 10) (before_space-word (decimal at) (decimal count) free) ∙ digits_value_is at h.0 in
     let rest = ap (digits_value 10) (behind_space-word (decimal at) (decimal count) free) ∙ digits_value_is count h.1 in
     ap edit_of (delete_line at count) ∙ (λ i. Delete (number i) (rest i))
+edit_of-line (Mark label) h = ap edit_of (mark_line label)
 
 edit_of-meant : (line : List ℕ) (e : Edit) → MeansEdit line e → edit_of line ≡ e
 edit_of-meant line e m = ap edit_of (sym m.spelled) ∙ edit_of-line e m.sound
@@ -127,6 +134,11 @@ sound_decided (Delete at count) = by (cases_lt at (2 ^ 32)) (cases_lt count (2 ^
     by (inl small) (inl few) = inl (small, few)
     by (inl small) (inr many) = inr (λ h. omega (arith, h.1, many))
     by (inr large) s = inr (λ h. omega (arith, h.0, large))
+sound_decided (Mark label) = by (cases_Bool (is_name label))
+  where
+    by : (is_name label ≡ true) ⊎ (is_name label ≡ false) → IsSoundEdit (Mark label) ⊎ ¬ IsSoundEdit (Mark label)
+    by (inl name) = inl name
+    by (inr other) = inr (λ h. both_ways _ other h)
 
 -- a line that isn't the line of the edit that it might mean
 pub means_no_edit : (line : List ℕ) → bytes_eq (edit_line (edit_of line)) line ≡ false → (e : Edit) → ¬ MeansEdit line e

@@ -14,7 +14,7 @@ use Rattle.ew_model.specs.Ids.{id_eq}
 use Rattle.ew_model.specs.Sets.{Among}
 use Rattle.ew_model.specs.Entries.{Inserted, Entry, inserted_cmp, deletes, is_deleted, insertions, order}
 use Rattle.ew_model.specs.Tree.{based, Applied, Noted, all_entries, entries_over, next_entry, noted_as, tree_of}
-use Rattle.ew_model.specs.Entries.Entry.{Insertion, Deletion}
+use Rattle.ew_model.specs.Entries.Entry.{Insertion, Deletion, Mark}
 use Rattle.ew_model.specs.Records.{holds, IsClosed, MayApply, IsRun, inserts, is_inserted, deletions_of, prepared_in, Record, record_in, records, walker_records, is_about, raised, one_less, lowered, MayAdvance, MayRetreat, without, AdvancesTell, RetreatsTell, IsNewId, fresh, struck, record_cmp, next_of, AppliedRecords, AppliesTell, AppliesKeep, AllPreparedIsAll}
 use Rattle.ew_model.proofs.SetLaws.{among_joined, joined_left, joined_right, among_map, map_among}
 use Rattle.ew_model.proofs.SortingLaws.{all_at, all_from}
@@ -39,7 +39,7 @@ swap_any true false d = refl
 swap_any false true d = refl
 swap_any false false d = refl
 
-any_more : {X : Type 0} (p : X → Bool) (xs : List X) (e : X) (ys : List X) → list_any p (xs ++ e ∷ ys) ≡ (p e || list_any p (xs ++ ys))
+pub any_more : {X : Type 0} (p : X → Bool) (xs : List X) (e : X) (ys : List X) → list_any p (xs ++ e ∷ ys) ≡ (p e || list_any p (xs ++ ys))
 any_more p [] e ys = refl
 any_more p (x ∷ xs) e ys = ap (λ c. p x || c) (any_more p xs e ys) ∙ swap_any (p x) (p e) (list_any p (xs ++ ys))
 
@@ -53,7 +53,7 @@ swap_count true false n = refl
 swap_count false true n = refl
 swap_count false false n = refl
 
-count_more : {X : Type 0} (p : X → Bool) (xs : List X) (e : X) (ys : List X) → length (filter p (xs ++ e ∷ ys)) ≡ cond (p e) (suc (length (filter p (xs ++ ys)))) (length (filter p (xs ++ ys)))
+pub count_more : {X : Type 0} (p : X → Bool) (xs : List X) (e : X) (ys : List X) → length (filter p (xs ++ e ∷ ys)) ≡ cond (p e) (suc (length (filter p (xs ++ ys)))) (length (filter p (xs ++ ys)))
 count_more p [] e ys = length_kept (p e) e (filter p ys)
 count_more p (x ∷ xs) e ys =
     length_kept (p x) x (filter p (xs ++ e ∷ ys))
@@ -61,7 +61,7 @@ count_more p (x ∷ xs) e ys =
     ∙ swap_count (p x) (p e) (length (filter p (xs ++ ys)))
     ∙ ap (λ n. cond (p e) (suc n) n) (sym (length_kept (p x) x (filter p (xs ++ ys))))
 
-none_count : {X : Type 0} (p : X → Bool) (xs : List X) → list_any p xs ≡ false → length (filter p xs) ≡ 0
+pub none_count : {X : Type 0} (p : X → Bool) (xs : List X) → list_any p xs ≡ false → length (filter p xs) ≡ 0
 none_count p [] h = refl
 none_count p (x ∷ xs) h = at (p x) h (none_count p xs)
   where
@@ -73,6 +73,7 @@ none_count p (x ∷ xs) h = at (p x) h (none_count p xs)
 abbrev pub ComesInto : List Entry → Entry → Type 0
 ComesInto entries (Insertion y) = (is_inserted entries y.id ≡ false) × (is_deleted entries y.id ≡ false)
 ComesInto entries (Deletion t) = is_inserted entries t ≡ true
+ComesInto entries Mark = Unit {0}
 
 pub prepared_more : (xs ys : List Entry) (e : Entry) (x : Id) → ComesInto (xs ++ ys) e → prepared_in (xs ++ e ∷ ys) x ≡ cond (is_about e x) (suc (prepared_in (xs ++ ys) x)) (prepared_in (xs ++ ys) x)
 prepared_more xs ys (Insertion y) x h =
@@ -96,6 +97,7 @@ prepared_more xs ys (Deletion t) x h =
         let here : is_inserted (xs ++ ys) x ≡ true = ap (is_inserted (xs ++ ys)) (sym same) ∙ h in
         ap (λ c. cond c (suc (suc (deletions_of (xs ++ ys) x))) 0) here ∙ sym (ap (λ c. suc (cond c (suc (deletions_of (xs ++ ys) x)) 0)) here)
     at false e = refl
+prepared_more xs ys Mark x h = λ i. cond (any_more (inserts x) xs Mark ys i) (suc (count_more (deletes x) xs Mark ys i)) 0
 
 -- ONE MORE NAME
 test_other : (n k : ℕ) (names : List ℕ) → nat_eq n k ≡ false → holds (k ∷ names) n ≡ holds names n
@@ -109,10 +111,10 @@ filter_same p q [] h = refl
 filter_same p q (n ∷ notes) h = λ i. cond (h n (inl refl) i) (n ∷ filter_same p q notes (λ m k. h m (inr k)) i) (filter_same p q notes (λ m k. h m (inr k)) i)
 
 -- the notes named by one more name: those before, and its own
-abbrev OneMore : List (Noted ℕ) → List ℕ → Noted ℕ → Type 0
+abbrev pub OneMore : List (Noted ℕ) → List ℕ → Noted ℕ → Type 0
 OneMore notes names n = (xs : List (Noted ℕ)) × (ys : List (Noted ℕ)) × (filter (named names) notes ≡ xs ++ ys) × (filter (named (n.name ∷ names)) notes ≡ xs ++ n ∷ ys)
 
-chosen_more : (notes : List (Noted ℕ)) (names : List ℕ) (n : Noted ℕ) → Single notes → Among n notes → holds names n.name ≡ false → OneMore notes names n
+pub chosen_more : (notes : List (Noted ℕ)) (names : List ℕ) (n : Noted ℕ) → Single notes → Among n notes → holds names n.name ≡ false → OneMore notes names n
 chosen_more [] names n s m h = absurd m
 chosen_more (k ∷ notes) names n s m h =
     ⊎_elim
@@ -145,11 +147,11 @@ chosen_more (k ∷ notes) names n s m h =
       ap (λ c. cond c (k ∷ filter (named (n.name ∷ names)) notes) (filter (named (n.name ∷ names)) notes)) (test_other k.name n.name names (other j) ∙ e) ∙ d.3,
     )
 
-parts_joined : (b : ℕ) (xs ys : List (Noted ℕ)) → all_entries b (xs ++ ys) ≡ (based b ++ map entry_of xs) ++ map entry_of ys
+pub parts_joined : (b : ℕ) (xs ys : List (Noted ℕ)) → all_entries b (xs ++ ys) ≡ (based b ++ map entry_of xs) ++ map entry_of ys
 parts_joined b xs ys = ap (λ es. based b ++ es) (map-append entry_of xs ys) ∙ sym (append_assoc (based b) (map entry_of xs) (map entry_of ys))
 
 -- the number of a character, over a part with one more note
-part_more : (b : ℕ) (notes : List (Noted ℕ)) (names : List ℕ) (n : Noted ℕ) → Single notes → Among n notes → holds names n.name ≡ false → ComesInto (entries_over nat_eq b notes names) n.entry
+pub part_more : (b : ℕ) (notes : List (Noted ℕ)) (names : List ℕ) (n : Noted ℕ) → Single notes → Among n notes → holds names n.name ≡ false → ComesInto (entries_over nat_eq b notes names) n.entry
     → (x : Id) → prepared_in (entries_over nat_eq b notes (n.name ∷ names)) x ≡ cond (is_about n.entry x) (suc (prepared_in (entries_over nat_eq b notes names) x)) (prepared_in (entries_over nat_eq b notes names) x)
 part_more b notes names n s m h into x =
     let d = chosen_more notes names n s m h in
@@ -160,30 +162,30 @@ part_more b notes names n s m h into x =
     ∙ ap (λ es. cond (is_about n.entry x) (suc (prepared_in es x)) (prepared_in es x)) (sym before)
 
 -- the base deletes nothing
-base_inserts : (k : ℕ) (x : Id) → Among (Deletion x) (based k) → ⊥
+pub base_inserts : (k : ℕ) (x : Id) → Among (Deletion x) (based k) → ⊥
 base_inserts zero x i = i
 base_inserts (suc k) x i = ⊎_elim (λ j. base_inserts k x j) (λ j. ⊎_elim (λ e. let no : ⊥ = cc in no) (λ no. no) j) (among_joined (based k) _ (Deletion x) i)
 
 -- WHAT MAY COME IN
 module _ (b : ℕ) (events : List (Applied ℕ)) (notes : List (Noted ℕ)) (g : Grown b events notes) (names : List ℕ) (closed : IsClosed events names) (n : Noted ℕ) (m : Among n notes) (may : MayAdvance events names n.name) where
-  abbrev part : List Entry
+  abbrev pub part : List Entry
   part = entries_over nat_eq b notes names
 
   -- the note's own character, in a part: then the part has the note
-  own_only : (others : List ℕ) (y z : Inserted) → n.entry ≡ Insertion y → z.id ≡ y.id → Among (Insertion z) (entries_over nat_eq b notes others) → holds others n.name ≡ true
+  pub own_only : (others : List ℕ) (y z : Inserted) → n.entry ≡ Insertion y → z.id ≡ y.id → Among (Insertion z) (entries_over nat_eq b notes others) → holds others n.name ≡ true
   own_only others y z is same here =
       ⊎_elim
       (λ k. absurd ((g.sources n m).agent y is (ap (λ (i : Id). i.agent) (sym same) ∙ (base_only b z (insertion_among (based b) z k)).0)))
       (λ h. let one : h.0 ≡ n = g.one_note h.0 n h.1 m z y (sym h.3) is same in ap (λ (w : Noted ℕ). holds others w.name) (sym one) ∙ h.2)
       (part_cases b notes others (Insertion z) here)
 
-  not_yet : (y : Inserted) → n.entry ≡ Insertion y → is_inserted part y.id ≡ false
+  pub not_yet : (y : Inserted) → n.entry ≡ Insertion y → is_inserted part y.id ≡ false
   not_yet y is = false_from_ne_true (is_inserted part y.id) (λ e.
       let found = found_by (inserts y.id) part e in
       let by = inserted_by y.id found.0 found.2 in
       false≢true (sym may.outside ∙ own_only names y by.0 is by.2 (subst (λ w. Among w part) by.1 found.1)))
 
-  undeleted : (y : Inserted) → n.entry ≡ Insertion y → is_deleted part y.id ≡ false
+  pub undeleted : (y : Inserted) → n.entry ≡ Insertion y → is_deleted part y.id ≡ false
   undeleted y is = false_from_ne_true (is_deleted part y.id) (λ e.
       let found = found_by (deletes y.id) part e in
       let by : found.0 ≡ Deletion y.id = deleted_by y.id found.0 found.2 in
@@ -197,7 +199,7 @@ module _ (b : ℕ) (events : List (Applied ℕ)) (notes : List (Noted ℕ)) (g :
       false≢true (sym may.outside ∙ closed source.event source.there (ap (holds names) source.name ∙ h.2) n.name seen))
       (part_cases b notes names found.0 found.1))
 
-  target_there : (t : Id) → n.entry ≡ Deletion t → is_inserted part t ≡ true
+  pub target_there : (t : Id) → n.entry ≡ Deletion t → is_inserted part t ≡ true
   target_there t is =
       let source = g.sources n m in
       let over = source.event.over in
@@ -205,14 +207,15 @@ module _ (b : ℕ) (events : List (Applied ℕ)) (notes : List (Noted ℕ)) (g :
       let here : Among fits.0 (insertions part) = subst (λ ns. Among fits.0 (insertions (entries_over nat_eq b ns names))) (append-nil notes) (part_wider b notes [] over names (λ k h. may.over source.event source.there source.name k h) fits.0 fits.1) in
       ap (is_inserted part) (sym fits.2) ∙ is_inserted_from part fits.0 here
 
-  comes_in : ComesInto part n.entry
+  pub comes_in : ComesInto part n.entry
   comes_in = at n.entry refl
     where
       at : (e : Entry) → n.entry ≡ e → ComesInto part e
       at (Insertion y) is = (not_yet y is, undeleted y is)
       at (Deletion t) is = target_there t is
+      at Mark is = tt
 
-  advanced : records (all_entries b notes) (entries_over nat_eq b notes (n.name ∷ names)) ≡ map (raised n.entry) (records (all_entries b notes) part)
+  pub advanced : records (all_entries b notes) (entries_over nat_eq b notes (n.name ∷ names)) ≡ map (raised n.entry) (records (all_entries b notes) part)
   advanced =
       map_same (record_in (all_entries b notes) (entries_over nat_eq b notes (n.name ∷ names))) (λ z. raised n.entry (record_in (all_entries b notes) part z)) (order (all_entries b notes))
       (λ z i. ap (λ k. record { node = z; prepared = k; effect = not (is_deleted (all_entries b notes) z.id) }) (part_more b notes names n g.single m may.outside comes_in z.id))
@@ -250,14 +253,14 @@ holds_without x k (n ∷ names) = at (nat_eq n x) refl (nat_eq k n) refl (holds_
         ap (λ c. c || holds (without x names) k) f ∙ sym (ap not other)
     at false e false f h = ap (λ c. c || holds (without x names) k) f ∙ h
 
-lowered_back : (e : Entry) (r : Record) → lowered e (raised e r) ≡ r
+pub lowered_back : (e : Entry) (r : Record) → lowered e (raised e r) ≡ r
 lowered_back e r = at (is_about e r.node.id)
   where
     at : (b : Bool) → record { node = r.node; prepared = cond b (one_less (cond b (suc r.prepared) r.prepared)) (cond b (suc r.prepared) r.prepared); effect = r.effect } ≡ r
     at true = refl
     at false = refl
 
-with_without : (x k : ℕ) (names : List ℕ) → holds names x ≡ true → holds (x ∷ without x names) k ≡ holds names k
+pub with_without : (x k : ℕ) (names : List ℕ) → holds names x ≡ true → holds (x ∷ without x names) k ≡ holds names k
 with_without x k names h = ap (λ c. nat_eq k x || c) (holds_without x k names) ∙ at (nat_eq k x) refl (holds names k) refl
   where
     at : (b : Bool) → nat_eq k x ≡ b → (c : Bool) → holds names k ≡ c → (b || (c && not b)) ≡ c
@@ -271,7 +274,7 @@ pub part_same : (b : ℕ) (notes : List (Noted ℕ)) (names others : List ℕ) �
 part_same b notes names others h = ap (all_entries b) (filter_agree (named names) (named others) (λ n. h n.name) notes)
 
 module _ (events : List (Applied ℕ)) (names : List ℕ) (closed : IsClosed events names) (x : ℕ) (may : MayRetreat events names x) where
-  left_in : (k : ℕ) → holds (without x names) k ≡ true → (holds names k ≡ true) × (nat_eq k x ≡ false)
+  pub left_in : (k : ℕ) → holds (without x names) k ≡ true → (holds names k ≡ true) × (nat_eq k x ≡ false)
   left_in k h =
       let parts = and_parts (holds names k) (not (nat_eq k x)) (sym (holds_without x k names) ∙ h) in
       (parts.0, not_true (nat_eq k x) parts.1)
@@ -280,10 +283,10 @@ module _ (events : List (Applied ℕ)) (names : List ℕ) (closed : IsClosed eve
       not_true true e = absurd (false≢true e)
       not_true false e = refl
 
-  in_left : (k : ℕ) → holds names k ≡ true → nat_eq k x ≡ false → holds (without x names) k ≡ true
+  pub in_left : (k : ℕ) → holds names k ≡ true → nat_eq k x ≡ false → holds (without x names) k ≡ true
   in_left k h e = holds_without x k names ∙ and_from (holds names k) (not (nat_eq k x)) h (ap not e)
 
-  seen_left : (c : Applied ℕ) → Among c events → holds names c.name ≡ true → (k : ℕ) → holds c.over k ≡ true → holds (without x names) k ≡ true
+  pub seen_left : (c : Applied ℕ) → Among c events → holds names c.name ≡ true → (k : ℕ) → holds c.over k ≡ true → holds (without x names) k ≡ true
   seen_left c i h k seen =
       in_left k (closed c i h k seen) (false_from_ne_true (nat_eq k x) (λ e. false≢true (sym (may.free c i h) ∙ (ap (holds c.over) (sym (eqb-true k x e)) ∙ seen))))
 
@@ -315,10 +318,10 @@ retreats_tell b events prepared n run closed m may =
     )
 
 -- APPLIES
-abbrev ahead : Ordering → Ordering
+abbrev pub ahead : Ordering → Ordering
 ahead o = cond (is_lt o) Less Greater
 
-put_one_behind : {X : Type 0} (R : X → X → Ordering) (x y : X) (ys : List X) → (R x y ≡ Less → ⊥) → put_in_order R x (y ∷ ys) ≡ y ∷ put_in_order R x ys
+pub put_one_behind : {X : Type 0} (R : X → X → Ordering) (x y : X) (ys : List X) → (R x y ≡ Less → ⊥) → put_in_order R x (y ∷ ys) ≡ y ∷ put_in_order R x ys
 put_one_behind R x y ys n = at (R x y) n
   where
     at : (r : Ordering) → (r ≡ Less → ⊥) → cond (is_lt r) (x ∷ y ∷ ys) (y ∷ put_in_order R x ys) ≡ y ∷ put_in_order R x ys
@@ -326,7 +329,7 @@ put_one_behind R x y ys n = at (R x y) n
     at Equal n = refl
     at Greater n = refl
 
-put_one_before : {X : Type 0} (R : X → X → Ordering) (x y : X) (ys : List X) → R x y ≡ Less → put_in_order R x (y ∷ ys) ≡ x ∷ y ∷ ys
+pub put_one_before : {X : Type 0} (R : X → X → Ordering) (x y : X) (ys : List X) → R x y ≡ Less → put_in_order R x (y ∷ ys) ≡ x ∷ y ∷ ys
 put_one_before R x y ys e = ap (λ r. cond (is_lt r) (x ∷ y ∷ ys) (y ∷ put_in_order R x ys)) e
 
 abbrev pub node_of : Record → Inserted
@@ -340,7 +343,7 @@ pub record_first : (y : Inserted) (qs : List Record) → AllByRecursion (λ z. i
 record_first y [] h = refl
 record_first y (q ∷ qs) h = put_one_before record_cmp (fresh y) q qs h.0
 
-record_behind : (y : Inserted) (rs : List Record) (r : Record) (qs : List Record) → IsStrictlySortedBy inserted_cmp (map node_of (rs ++ r ∷ qs)) → StandsBehind (map node_of (rs ++ r ∷ qs)) y.path r.node.path
+pub record_behind : (y : Inserted) (rs : List Record) (r : Record) (qs : List Record) → IsStrictlySortedBy inserted_cmp (map node_of (rs ++ r ∷ qs)) → StandsBehind (map node_of (rs ++ r ∷ qs)) y.path r.node.path
     → put_in_order record_cmp (fresh y) (rs ++ r ∷ qs) ≡ rs ++ r ∷ fresh y ∷ qs
 unfolding IsStrictlySortedBy
 record_behind y [] r qs s h =
@@ -351,7 +354,7 @@ record_behind y (q ∷ rs) r qs s h =
     (map_among node_of (rs ++ r ∷ qs) r (joined_right rs (r ∷ qs) r (inl refl)))))))
     ∙ ap (λ ws. q ∷ ws) (record_behind y rs r qs s.1 (λ z m. h z (inr m)))
 
-record_ahead : (y : Inserted) (rs : List Record) (r : Record) (qs : List Record) → IsStrictlySortedBy inserted_cmp (map node_of (rs ++ r ∷ qs)) → StandsAhead (map node_of (rs ++ r ∷ qs)) y.path r.node.path
+pub record_ahead : (y : Inserted) (rs : List Record) (r : Record) (qs : List Record) → IsStrictlySortedBy inserted_cmp (map node_of (rs ++ r ∷ qs)) → StandsAhead (map node_of (rs ++ r ∷ qs)) y.path r.node.path
     → put_in_order record_cmp (fresh y) (rs ++ r ∷ qs) ≡ rs ++ fresh y ∷ r ∷ qs
 unfolding IsStrictlySortedBy
 record_ahead y [] r qs s h = put_one_before record_cmp (fresh y) r qs (reversed_at y r.node Greater (h r.node (inl refl) ∙ ap ahead (tied_itself placed_total r.node)))
@@ -360,7 +363,7 @@ record_ahead y (q ∷ rs) r qs s h =
     (map_among node_of (rs ++ r ∷ qs) r (joined_right rs (r ∷ qs) r (inl refl)))))))
     ∙ ap (λ ws. q ∷ ws) (record_ahead y rs r qs s.1 (λ z m. h z (inr m)))
 
-records_put : (all known : List Entry) (y : Inserted) (zs : List Inserted) → map (record_in all known) (put_in_order inserted_cmp y zs) ≡ put_in_order record_cmp (record_in all known y) (map (record_in all known) zs)
+pub records_put : (all known : List Entry) (y : Inserted) (zs : List Inserted) → map (record_in all known) (put_in_order inserted_cmp y zs) ≡ put_in_order record_cmp (record_in all known y) (map (record_in all known) zs)
 records_put all known y [] = refl
 records_put all known y (z ∷ zs) = at (is_lt (inserted_cmp y z)) ∙ ap (λ ws. cond (is_lt (inserted_cmp y z)) (record_in all known y ∷ record_in all known z ∷ map (record_in all known) zs) (record_in all known z ∷ ws)) (records_put all known y zs)
   where
@@ -371,9 +374,13 @@ records_put all known y (z ∷ zs) = at (is_lt (inserted_cmp y z)) ∙ ap (λ ws
 put_record_same : (r s : Record) (rs qs : List Record) → r ≡ s → rs ≡ qs → put_in_order record_cmp r rs ≡ put_in_order record_cmp s qs
 put_record_same r s rs qs e f = λ i. put_in_order record_cmp (e i) (f i)
 
-order-delete : (entries : List Entry) (t : Id) → order (entries ++ Deletion t ∷ []) ≡ order entries
+pub order-delete : (entries : List Entry) (t : Id) → order (entries ++ Deletion t ∷ []) ≡ order entries
 unfolding order
 order-delete entries t = ap (sort_by inserted_cmp) (insertions-append entries (Deletion t ∷ []) ∙ append-nil (insertions entries))
+
+pub order-mark : (entries : List Entry) → order (entries ++ Mark ∷ []) ≡ order entries
+unfolding order
+order-mark entries = ap (sort_by inserted_cmp) (insertions-append entries (Mark ∷ []) ∙ append-nil (insertions entries))
 
 pub nodes_of : (all part : List Entry) → map node_of (records all part) ≡ order all
 nodes_of all part = map_map (record_in all part) node_of (order all) ∙ map_itself (λ z. z) (order all) (λ z. refl)
@@ -383,10 +390,10 @@ some_id x y e = cc
 
 -- the records after an entry, where it may come in
 module _ (all part : List Entry) where
-  number_after : (e : Entry) → ComesInto part e → (x : Id) → prepared_in (part ++ e ∷ []) x ≡ cond (is_about e x) (suc (prepared_in part x)) (prepared_in part x)
+  pub number_after : (e : Entry) → ComesInto part e → (x : Id) → prepared_in (part ++ e ∷ []) x ≡ cond (is_about e x) (suc (prepared_in part x)) (prepared_in part x)
   number_after e h x = prepared_more part [] e x (subst (λ es. ComesInto es e) (sym (append-nil part)) h) ∙ ap (λ es. cond (is_about e x) (suc (prepared_in es x)) (prepared_in es x)) (append-nil part)
 
-  deleted_after : (e : Entry) (x : Id) → is_deleted (all ++ e ∷ []) x ≡ (deletes x e || is_deleted all x)
+  pub deleted_after : (e : Entry) (x : Id) → is_deleted (all ++ e ∷ []) x ≡ (deletes x e || is_deleted all x)
   deleted_after e x = any_more (deletes x) all e [] ∙ ap (λ es. deletes x e || is_deleted es x) (append-nil all)
 
   not_deleted_after : (b c : Bool) → not (b || c) ≡ cond b false (not c)
@@ -403,6 +410,13 @@ module _ (all part : List Entry) where
         effect = (ap not (deleted_after (Deletion t) z.id) ∙ not_deleted_after (id_eq t z.id) (is_deleted all z.id)) i;
       })
       ∙ sym (map_map (record_in all part) (struck t) (order all))
+
+  -- a mark leaves the records as they are
+  pub records_marked : records (all ++ Mark ∷ []) (part ++ Mark ∷ []) ≡ records all part
+  records_marked =
+      ap (map (record_in (all ++ Mark ∷ []) (part ++ Mark ∷ []))) (order-mark all)
+      ∙ map_same (record_in (all ++ Mark ∷ []) (part ++ Mark ∷ [])) (record_in all part) (order all)
+      (λ z m. λ i. record { node = z; prepared = number_after Mark tt z.id i; effect = not (deleted_after Mark z.id i) })
 
   module _ (y : Inserted) (new : (z : Inserted) → Among z (insertions all) → z.id ≡ y.id → ⊥) (ends : last_id None y.path ≡ Some y.id) (own : (z : Inserted) → Among z (insertions all) → last_id None z.path ≡ Some z.id) (h : ComesInto part (Insertion y)) (kept : is_deleted all y.id ≡ false) where
     abbrev entries_after : List Entry
@@ -436,11 +450,11 @@ module _ (all part : List Entry) where
         ∙ put_record_same (record_in entries_after part_after y) (fresh y) (map (record_in entries_after part_after) (order all)) (records all part) new_record (map_same (record_in entries_after part_after) (record_in all part) (order all) old_record)
 
 module _ (b : ℕ) (events : List (Applied ℕ)) (notes : List (Noted ℕ)) (g : Grown b events notes) (a : Applied ℕ) (may : MayApply events a) where
-  abbrev seen_part : List Entry
+  abbrev pub seen_part : List Entry
   seen_part = entries_over nat_eq b notes a.over
 
   -- a new id is deleted nowhere
-  nowhere_deleted : (x : Id) → IsNewId events x → is_deleted (all_entries b notes) x ≡ false
+  pub nowhere_deleted : (x : Id) → IsNewId events x → is_deleted (all_entries b notes) x ≡ false
   nowhere_deleted x new = false_from_ne_true (is_deleted (all_entries b notes) x) (λ e.
       let found = found_by (deletes x) (all_entries b notes) e in
       let by : found.0 ≡ Deletion x = deleted_by x found.0 found.2 in
@@ -454,26 +468,26 @@ module _ (b : ℕ) (events : List (Applied ℕ)) (notes : List (Noted ℕ)) (g :
       old_id b events notes g x new fits.0 (over_insertions nat_eq b notes over fits.0 fits.1) fits.2)
       (among_joined (based b) (map entry_of notes) found.0 found.1))
 
-  part_in_all : (e : Entry) → Among e seen_part → Among e (all_entries b notes)
+  pub part_in_all : (e : Entry) → Among e seen_part → Among e (all_entries b notes)
   part_in_all e m =
       ⊎_elim
       (λ k. joined_left (based b) (map entry_of notes) e k)
       (λ h. joined_right (based b) (map entry_of notes) e (subst (λ w. Among w (map entry_of notes)) (sym h.3) (map_among entry_of notes h.0 h.1)))
       (part_cases b notes a.over e m)
 
-  part_undeleted : (x : Id) → is_deleted (all_entries b notes) x ≡ false → is_deleted seen_part x ≡ false
+  pub part_undeleted : (x : Id) → is_deleted (all_entries b notes) x ≡ false → is_deleted seen_part x ≡ false
   part_undeleted x none = false_from_ne_true (is_deleted seen_part x) (λ e.
       let found = found_by (deletes x) seen_part e in
       false≢true (sym none ∙ any_from (deletes x) (all_entries b notes) found.0 (part_in_all found.0 found.1) found.2))
 
-  part_uninserted : (x : Id) → IsNewId events x → is_inserted seen_part x ≡ false
+  pub part_uninserted : (x : Id) → IsNewId events x → is_inserted seen_part x ≡ false
   part_uninserted x new = false_from_ne_true (is_inserted seen_part x) (λ e.
       let found = found_by (inserts x) seen_part e in
       let by = inserted_by x found.0 found.2 in
       let here : Among by.0 (insertions seen_part) = insertion_among seen_part by.0 (subst (λ w. Among w seen_part) by.1 found.1) in
       old_id b events notes g x new by.0 (over_insertions nat_eq b notes a.over by.0 here) by.2)
 
-  applied_records : (e : Entry) → Fits a.act seen_part e → AppliedRecords e (records (all_entries b notes) seen_part) (records (all_entries b notes ++ e ∷ []) (seen_part ++ e ∷ []))
+  pub applied_records : (e : Entry) → Fits a.act seen_part e → AppliedRecords e (records (all_entries b notes) seen_part) (records (all_entries b notes ++ e ∷ []) (seen_part ++ e ∷ []))
   applied_records (Insertion y) fits =
       let all = all_entries b notes in
       let new : IsNewId events y.id = new_entry_id events a.act y may.act fits.0 in
@@ -487,9 +501,10 @@ module _ (b : ℕ) (events : List (Applied ℕ)) (notes : List (Noted ℕ)) (g :
       )
   applied_records (Deletion t) fits =
       records_struck (all_entries b notes) seen_part t (ap (is_inserted seen_part) (sym fits.2) ∙ is_inserted_from seen_part fits.0 fits.1)
+  applied_records Mark fits = records_marked (all_entries b notes) seen_part
 
   -- the part that is prepared after the apply
-  part_after_apply : (e : Entry) → entries_over nat_eq b (notes ++ record { name = a.name; entry = e } ∷ []) (a.name ∷ a.over) ≡ seen_part ++ e ∷ []
+  pub part_after_apply : (e : Entry) → entries_over nat_eq b (notes ++ record { name = a.name; entry = e } ∷ []) (a.name ∷ a.over) ≡ seen_part ++ e ∷ []
   part_after_apply e =
       ap (all_entries b) (filter-append (named (a.name ∷ a.over)) notes (record { name = a.name; entry = e } ∷ [])
       ∙ ap (λ c. filter (named (a.name ∷ a.over)) notes ++ cond c (record { name = a.name; entry = e } ∷ []) []) (holds_first a.name a.over)
@@ -514,7 +529,7 @@ applies_tell b events prepared name act e run may is =
     let after : records (all_entries b notes ++ e ∷ []) (entries_over nat_eq b notes prepared ++ e ∷ []) ≡ walker_records b (events ++ a ∷ []) (name ∷ prepared) = sym (λ i. records (whole i) (part i)) in
     subst (AppliedRecords e (walker_records b events prepared)) after (applied_records b events notes g a may e (place_fits act (entries_over nat_eq b notes prepared) e is))
 
-run_push : (before later : List (Applied ℕ)) (a : Applied ℕ) → IsRun before later → MayApply (before ++ later) a → IsRun before (later ++ a ∷ [])
+pub run_push : (before later : List (Applied ℕ)) (a : Applied ℕ) → IsRun before later → MayApply (before ++ later) a → IsRun before (later ++ a ∷ [])
 run_push before [] a h may = (subst (λ es. MayApply es a) (append-nil before) may, tt)
 run_push before (c ∷ later) a h may = (h.0, run_push (before ++ c ∷ []) later a h.1 (subst (λ es. MayApply es a) (sym (append_assoc before (c ∷ []) later)) may))
 
@@ -531,7 +546,7 @@ applies_keep events prepared name act run may = (
     in_old c old h =
         ⊎_elim (λ own. absurd (false≢true (sym may.name ∙ any_from (λ (w : Applied ℕ). nat_eq w.name name) events c old own))) (λ k. k) (or_cases (nat_eq c.name name) (holds prepared c.name) h)
 
-all_kept_by : (p : Noted ℕ → Bool) (notes : List (Noted ℕ)) → ((m : Noted ℕ) → Among m notes → p m ≡ true) → filter p notes ≡ notes
+pub all_kept_by : (p : Noted ℕ → Bool) (notes : List (Noted ℕ)) → ((m : Noted ℕ) → Among m notes → p m ≡ true) → filter p notes ≡ notes
 all_kept_by p [] h = refl
 all_kept_by p (n ∷ notes) h = ap (λ c. cond c (n ∷ filter p notes) (filter p notes)) (h n (inl refl)) ∙ ap (λ ws. n ∷ ws) (all_kept_by p notes (λ m i. h m (inr i)))
 

@@ -60,16 +60,16 @@ taken_by_id history named f h m e =
     subst (λ x. Among x (version_events history named)) (sym same) g.1
 
 -- a part of a history in its order is laid out as the history is
-held_less : (before less : List Event) (y : Event) → ((x : Id) → is_held before x ≡ false → is_held less x ≡ false) → (x : Id) → is_held (before ++ y ∷ []) x ≡ false → is_held (less ++ y ∷ []) x ≡ false
+pub held_less : (before less : List Event) (y : Event) → ((x : Id) → is_held before x ≡ false → is_held less x ≡ false) → (x : Id) → is_held (before ++ y ∷ []) x ≡ false → is_held (less ++ y ∷ []) x ≡ false
 held_less before less y f x h =
     ap (λ ids. is_among ids x) (map-append (λ (e : Event). e.id) less (y ∷ [])) ∙ among-append (ids_of less) (y.id ∷ []) x
     ∙ (λ i. f x (not_held_before before y x h) i || ((ids_equal.symm x y.id ∙ other_id before y x h) i || false))
 
-laid_kept : (b : Bool) (before less : List Event) (y : Event) (taken : List Event) → ((x : Id) → is_held before x ≡ false → is_held less x ≡ false) → is_held before y.id ≡ false → AllByRecursion (λ f. is_among y.parents f.id ≡ false) (y ∷ taken) → LaidOut (less ++ y ∷ []) taken → LaidOut less taken → LaidOut less (cond b (y ∷ taken) taken)
+pub laid_kept : (b : Bool) (before less : List Event) (y : Event) (taken : List Event) → ((x : Id) → is_held before x ≡ false → is_held less x ≡ false) → is_held before y.id ≡ false → AllByRecursion (λ f. is_among y.parents f.id ≡ false) (y ∷ taken) → LaidOut (less ++ y ∷ []) taken → LaidOut less taken → LaidOut less (cond b (y ∷ taken) taken)
 laid_kept true before less y taken f new parents h k = (f y.id new, parents, h)
 laid_kept false before less y taken f new parents h k = k
 
-laid_taken : (before less history : List Event) (named : List Id) → ((x : Id) → is_held before x ≡ false → is_held less x ≡ false) → LaidOut before history → LaidOut less (version_events history named)
+pub laid_taken : (before less history : List Event) (named : List Id) → ((x : Id) → is_held before x ≡ false → is_held less x ≡ false) → LaidOut before history → LaidOut less (version_events history named)
 laid_taken before less [] named f h = tt
 laid_taken before less (y ∷ later) named f h =
     let taken = version_events later named in
@@ -83,13 +83,13 @@ pub version_laid_out : (history : List Event) (named : List Id) → LaidOut [] h
 version_laid_out history named h = laid_taken [] [] history named (λ x k. k) h
 
 -- a history xs is a part of ys, with the ancestors of its own events
-record IsPart (xs ys : List Event) : Type 0 where
-  laid : LaidOut [] xs
-  whole : LaidOut [] ys
-  there : (f : Event) → Among f xs → Among f ys
+pub record IsPart (xs ys : List Event) : Type 0 where
+  pub laid : LaidOut [] xs
+  pub whole : LaidOut [] ys
+  pub there : (f : Event) → Among f xs → Among f ys
 
 -- the ids of a version are those of the other's, where both have its events
-alike : (xs ys : List Event) (named : List Id) (z : Id) → IsPart xs ys → ((f : Event) → Among f (version_events ys named) → Among f xs) → is_among (ancestors xs named) z ≡ is_among (ancestors ys named) z
+pub alike : (xs ys : List Event) (named : List Id) (z : Id) → IsPart xs ys → ((f : Event) → Among f (version_events ys named) → Among f xs) → is_among (ancestors xs named) z ≡ is_among (ancestors ys named) z
 alike xs ys named z p back =
     same_any (id_eq z) (ancestors xs named) (ancestors ys named) (same_ids (version_events xs named) (version_events ys named)
     (record {
@@ -98,7 +98,7 @@ alike xs ys named z p back =
     }))
 
 -- the entries of a version are entries of the other's version, where its events are there with the same entries
-over_part : (xs ys : List Event) (named : List Id) → LaidOut [] xs → LaidOut [] ys → ((z : Id) → is_among (ancestors xs named) z ≡ is_among (ancestors ys named) z)
+pub over_part : (xs ys : List Event) (named : List Id) → LaidOut [] xs → LaidOut [] ys → ((z : Id) → is_among (ancestors xs named) z ≡ is_among (ancestors ys named) z)
     → ((f : Event) → Among f xs → is_among (ancestors xs named) f.id ≡ true → Among f ys × (entry_after 0 ys f ≡ entry_after 0 xs f))
     → (w : Entry) → Among w (entries_over id_eq 0 (tree_on 0 xs) (ancestors xs named)) → Among w (entries_over id_eq 0 (tree_on 0 ys) (ancestors ys named))
 over_part xs ys named h k same q w m =
@@ -113,7 +113,7 @@ over_part xs ys named h k same q w m =
     subst (λ v. Among v (entries_over id_eq 0 (tree_on 0 ys) (ancestors ys named))) (sym over.2)
     (map_among (λ (n : Noted Id). n.entry) (filter (λ n. is_among (ancestors ys named) n.name) (tree_on 0 ys)) n (filter_among (λ n. is_among (ancestors ys named) n.name) (tree_on 0 ys) n there (sym (same n.name) ∙ here.1)))
 
-part_over : (xs ys : List Event) (named : List Id) → IsPart xs ys → ((f : Event) → Among f (version_events ys named) → Among f xs) → ((f : Event) → Among f xs → is_among (ancestors xs named) f.id ≡ true → entry_after 0 ys f ≡ entry_after 0 xs f)
+pub part_over : (xs ys : List Event) (named : List Id) → IsPart xs ys → ((f : Event) → Among f (version_events ys named) → Among f xs) → ((f : Event) → Among f xs → is_among (ancestors xs named) f.id ≡ true → entry_after 0 ys f ≡ entry_after 0 xs f)
     → SameElements (entries_over id_eq 0 (tree_on 0 xs) (ancestors xs named)) (entries_over id_eq 0 (tree_on 0 ys) (ancestors ys named))
 part_over xs ys named p back q =
     let same : (z : Id) → is_among (ancestors xs named) z ≡ is_among (ancestors ys named) z = λ z. alike xs ys named z p back in
@@ -125,7 +125,7 @@ part_over xs ys named p back q =
     }
 
 -- each event of a part that has its events' ancestors has its entry of the whole
-part_entries : (xs ys before later : List Event) → IsPart xs ys → ((e f : Event) → Among e xs → Among f (version_events ys e.parents) → Among f xs) → before ++ later ≡ xs → LaidOut before later → ((f : Event) → Among f before → entry_after 0 ys f ≡ entry_after 0 xs f) → (f : Event) → Among f xs → entry_after 0 ys f ≡ entry_after 0 xs f
+pub part_entries : (xs ys before later : List Event) → IsPart xs ys → ((e f : Event) → Among e xs → Among f (version_events ys e.parents) → Among f xs) → before ++ later ≡ xs → LaidOut before later → ((f : Event) → Among f before → entry_after 0 ys f ≡ entry_after 0 xs f) → (f : Event) → Among f xs → entry_after 0 ys f ≡ entry_after 0 xs f
 unfolding next_entry
 part_entries xs ys before [] p closed eq laid q = λ f m. q f (subst (Among f) (sym eq ∙ append-nil before) m)
 part_entries xs ys before (e ∷ later) p closed eq laid q =
@@ -137,11 +137,11 @@ part_entries xs ys before (e ∷ later) p closed eq laid q =
     part_entries xs ys (before ++ e ∷ []) later p closed (append_assoc before (e ∷ []) later ∙ eq) laid.2 (λ f m.
     ⊎_elim (λ j. q f j) (λ j. ⊎_elim (λ same. subst (λ g. entry_after 0 ys g ≡ entry_after 0 xs g) (sym same) mine) (λ no. absurd no) j) (among_joined before (e ∷ []) f m))
 
-version_is_part : (history : List Event) (named : List Id) → LaidOut [] history → IsPart (version_events history named) history
+pub version_is_part : (history : List Event) (named : List Id) → LaidOut [] history → IsPart (version_events history named) history
 version_is_part history named h = record { laid = version_laid_out history named h; whole = h; there = version_held history named }
 
 -- a version has the ancestors of its events
-version_closed : (history : List Event) (named : List Id) → LaidOut [] history → (e f : Event) → Among e (version_events history named) → Among f (version_events history e.parents) → Among f (version_events history named)
+pub version_closed : (history : List Event) (named : List Id) → LaidOut [] history → (e f : Event) → Among e (version_events history named) → Among f (version_events history e.parents) → Among f (version_events history named)
 version_closed history named h e f me mf =
     closed_taken (λ x. Among x (version_events history named)) history e.parents
     (λ x m a. version_parent history named x e (points_back [] history h) me m a)
@@ -163,7 +163,7 @@ subgraph_text history named h =
     (version_apart part (ancestors part named) p.laid) (version_apart history (ancestors history named) h) same)
     ∙ ap visible (all_known part (ancestors part named) p.laid all))
 
-prefixes_along : (xs ys : List Entry) → SameElements xs ys → HasPrefixes (insertions xs) → HasPrefixes (insertions ys)
+pub prefixes_along : (xs ys : List Entry) → SameElements xs ys → HasPrefixes (insertions xs) → HasPrefixes (insertions ys)
 prefixes_along xs ys s h z m front t rest e =
     let y = h z (insertion_among xs z (s.back (Insertion z) (among_insertions ys z m))) front t rest e in
     (y.0, insertion_among ys y.0 (s.there (Insertion y.0) (among_insertions xs y.0 y.1)), y.2)

@@ -17,7 +17,7 @@ use Rattle.ew_model.specs.Sorting.{put_in_order, sort_by}
 use Rattle.ew_model.specs.Ids.{id_eq}
 use Rattle.ew_model.specs.Entries.{Inserted, Entry, inserted_cmp, insertions, deletes, is_deleted, order, visible}
 use Rattle.ew_model.specs.Paths.{path_lt}
-use Rattle.ew_model.specs.Entries.Entry.{Insertion, Deletion}
+use Rattle.ew_model.specs.Entries.Entry.{Insertion, Deletion, Mark}
 use Rattle.ew_model.specs.Operations.{operation_of, deletion_at, changed_by}
 use Rattle.ew_model.proofs.SortingLaws.{NoTie, NoTies, all_at, all_from, all_filter, sort_among, sort_sorted, sort-push, filter-put, put_at_count, not_itself}
 use Rattle.ew_model.proofs.PathOrder.{id_total}
@@ -159,10 +159,19 @@ map-removed : (o : Option ℕ) (chars : List Inserted) → map (λ x. x.ch) (rem
 map-removed None chars = refl
 map-removed (Some i) chars = map-remove (λ x. x.ch) chars i
 
+-- a mark changes nothing that is visible
+visible-mark : (entries : List Entry) → visible (entries ++ Mark ∷ []) ≡ visible entries
+unfolding visible order
+visible-mark entries =
+    filter_agree (λ y. not (is_deleted (entries ++ Mark ∷ []) y.id)) (λ y. not (is_deleted entries y.id))
+    (λ y. ap not (list_any-append (deletes y.id) entries (Mark ∷ []) ∙ or-false (is_deleted entries y.id))) (sort_by inserted_cmp (insertions (entries ++ Mark ∷ [])))
+    ∙ ap (λ ys. filter (λ y. not (is_deleted entries y.id)) (sort_by inserted_cmp ys)) (insertions-append entries (Mark ∷ []) ∙ append-nil (insertions entries))
+
 -- an entry may come next: its characters are apart from those there, and an insertion's id isn't deleted yet
 abbrev pub MayFollow : List Entry → Entry → Type 0
 MayFollow entries (Insertion x) = is_deleted entries x.id ≡ false
 MayFollow entries (Deletion target) = IdsApart (insertions entries)
+MayFollow entries Mark = Unit {0}
 
 -- What one more entry does to the text is its operation.
 pub text-entry : (entries : List Entry) (entry : Entry) → ApartByPath entries → ApartByPath (entries ++ entry ∷ []) → MayFollow entries entry → map (λ x. x.ch) (visible (entries ++ entry ∷ [])) ≡ changed_by (operation_of (visible entries) (Some entry)) (map (λ x. x.ch) (visible entries))
@@ -172,3 +181,4 @@ text-entry entries (Insertion x) before after h =
 text-entry entries (Deletion t) before after h =
     ap (map (λ (y : Inserted). y.ch)) (visible-deletion entries t before h)
     ∙ map-removed (position (λ y. id_eq y.id t) (visible entries)) (visible entries)
+text-entry entries Mark before after h = ap (map (λ (y : Inserted). y.ch)) (visible-mark entries)

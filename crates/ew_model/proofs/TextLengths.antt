@@ -6,7 +6,7 @@ use Rattle.ew_model.specs.declared.text_op.TextOp.{TextOp}
 use Rattle.ew_model.specs.declared.text_op.TextOp.TheVariants.{Ins, Del, Nothing}
 use Rattle.ew_model.specs.Operations.{operations_of, operations, changed_by, changed_by_all}
 use Rattle.ew_model.specs.Entries.{Entry, insertions}
-use Rattle.ew_model.specs.Entries.Entry.{Insertion, Deletion}
+use Rattle.ew_model.specs.Entries.Entry.{Insertion, Deletion, Mark}
 use Rattle.ew_model.specs.Tree.{applied_after}
 use Rattle.ew_model.specs.Texts.{text_of}
 use Rattle.ew_model.specs.Verdicts.{IsGood}
@@ -30,6 +30,7 @@ pub length-insertions-le : (entries : List Entry) → length (insertions entries
 length-insertions-le [] = omega arith
 length-insertions-le (Insertion x ∷ entries) = omega (arith, length-insertions-le entries)
 length-insertions-le (Deletion t ∷ entries) = omega (arith, length-insertions-le entries)
+length-insertions-le (Mark ∷ entries) = omega (arith, length-insertions-le entries)
 
 pub length_operations : (history : List Event) → length (operations history) ≡ length history
 unfolding operations operations_of

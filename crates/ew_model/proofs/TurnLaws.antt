@@ -5,7 +5,7 @@ use Rattle.std.proofs.lemmas.Bool.{false≢true, false_from_ne_true}
 use Rattle.ew_model.specs.Sets.{Among}
 use Rattle.ew_model.specs.Places.{Act}
 use Rattle.ew_model.specs.Tree.{Applied, tree_of}
-use Rattle.ew_model.specs.Places.Act.{InsertAs, DeleteAt}
+use Rattle.ew_model.specs.Places.Act.{InsertAs, DeleteAt, MarkAs}
 use Rattle.ew_model.specs.Operations.{next_operation}
 use Rattle.ew_model.specs.Records.{holds, inserts_as, IsNewAct, IsClosed, MayApply, IsRun, next_of}
 use Rattle.ew_model.specs.Moves.{LookBack, after_retreats, after_advances, AlikeEvents, Moves, WalksTurn}
@@ -53,6 +53,7 @@ new_alike events others (InsertAs x at ch) h new = record {
   agent = new.agent;
 }
 new_alike events others (DeleteAt at) h new = tt
+new_alike events others MarkAs h new = tt
 
 may_alike : (events others : List (Applied ℕ)) (a c : Applied ℕ) → AlikeEvents events others → Alike a c → MayApply others c → MayApply events a
 may_alike events others a c h k may = record {

@@ -4,7 +4,7 @@ use Rattle.std.specs.List.{list_any}
 use Rattle.std.proofs.lemmas.Bool.{false≢true, false_from_ne_true, eq-eqb, eqb-true, or_left, or_right, or_cases}
 use Rattle.ew_model.specs.declared.id.Id.{Id}
 use Rattle.ew_model.specs.declared.event.Op.{Op}
-use Rattle.ew_model.specs.declared.event.Op.TheVariants.{Ins, Del}
+use Rattle.ew_model.specs.declared.event.Op.TheVariants.{Ins, Del, Mark}
 use Rattle.ew_model.specs.declared.event.Event.{Event}
 use Rattle.ew_model.specs.Sets.{Among}
 use Rattle.ew_model.specs.Ids.{id_eq, is_among}
@@ -162,6 +162,7 @@ module _ (k : ℕ) (below : List Event) where
   act_id : (x : Id) (f : Event) (op : Op) → inserts_as x (act_by f.id op) ≡ true → f.id ≡ x
   act_id x f (Ins at ch) h = id_same f.id x h
   act_id x f (Del at) h = absurd (false≢true h)
+  act_id x f (Mark label) h = absurd (false≢true h)
 
   new_id : (between : List Event) (e : Event) → is_held (below ++ between) e.id ≡ false → IsSound e → IsNewId (walk_of between) e.id
   new_id between e new sound = record {
@@ -177,6 +178,7 @@ module _ (k : ℕ) (below : List Event) where
   new_act : (between : List Event) (e : Event) (op : Op) → is_held (below ++ between) e.id ≡ false → IsSound e → IsNewAct (walk_of between) (act_by e.id op)
   new_act between e (Ins at ch) new sound = new_id between e new sound
   new_act between e (Del at) new sound = tt
+  new_act between e (Mark label) new sound = tt
 
   may_apply : (between : List Event) (e : Event) → LaidOut [] (below ++ between) → is_held (below ++ between) e.id ≡ false → IsSound e → MayApply (walk_of between) (walked between e)
   may_apply between e laid new sound = record {

@@ -6,7 +6,7 @@ use Rattle.ew_model.specs.declared.id.Id.{Id}
 use Rattle.ew_model.specs.declared.event.Event.{Event}
 use Rattle.ew_model.specs.Ancestors.{is_held}
 use Rattle.ew_model.specs.Verdicts.{IsGoodAfter, IsGood}
-use Rattle.ew_model.specs.File.{are_writable_after, IsWritable}
+use Rattle.ew_model.specs.Writable.{are_writable_after, IsWritable}
 use Rattle.ew_model.proofs.GoodLaws.{next_from_good}
 
 all_held : (held : List Event) (ps : List Id) → AllByRecursion (λ p. is_held held p ≡ true) ps → list_all (is_held held) ps ≡ true

@@ -13,15 +13,17 @@ pub record Inserted : Type 0 where
   pub path : List Step
   pub ch : ℕ
 
--- what an event leaves in the tree: a character at its path, or that a character is deleted
+-- what an event leaves in the tree: a character at its path, that a character is deleted, or a mark, which changes nothing
 pub data Entry : Type 0 where
   Insertion : (node : Inserted) → Entry
   Deletion : (target : Id) → Entry
+  Mark : Entry
 
 -- the character that an entry inserts
 abbrev pub insertion_in : Entry → Option Inserted
 insertion_in (Insertion x) = Some x
 insertion_in (Deletion target) = None
+insertion_in Mark = None
 
 -- the inserted characters among the entries
 abbrev pub insertions : List Entry → List Inserted
@@ -31,6 +33,7 @@ insertions entries = filter_map insertion_in entries
 abbrev pub deletes : Id → Entry → Bool
 deletes x (Insertion y) = false
 deletes x (Deletion target) = id_eq target x
+deletes x Mark = false
 
 -- a deletion among the entries targets the id: its node is a tombstone
 abbrev pub is_deleted : List Entry → Id → Bool

@@ -2,6 +2,7 @@ pub mod Ancestors
 pub mod Answers
 pub mod Arrival
 pub mod ArrivalLaw
+pub mod Bytes
 pub mod ClearingLaws
 pub mod CutChange
 pub mod CutRule
@@ -11,9 +12,6 @@ pub mod EditLaws
 pub mod Edits
 pub mod Entries
 pub mod Events
-pub mod File
-pub mod FileFaults
-pub mod FileLaws
 pub mod Graph
 pub mod Ids
 pub mod Kept
@@ -50,3 +48,4 @@ pub mod Touches
 pub mod Tree
 pub mod Verdicts
 pub mod Walks
+pub mod Writable

@@ -14,13 +14,13 @@ pub record AreLimits (n : LimitNumbers) : Type 0 where
   pub few_events : n.events ≤ 16777216
   pub few_waiting : n.waiting ≤ 16777216
   pub short_input : n.input ≤ 1073741824
-  pub room_for_an_event : 643 ≤ n.body
+  pub room_for_an_event : 668 ≤ n.body
   pub short_body : n.body ≤ 1073741824
 
 -- the limits of the program
 abbrev pub program_limits : LimitNumbers
 program_limits = record { events = 1000000; waiting = 65536; input = 16777216; body = 1048576 }
 
--- the most bytes of a file of so many events: 48, at most 33 for each agent's name, and at most 82 for each record
+-- the most bytes of a file of so many events: 48, at most 33 for each agent's name, and at most 107 for each record
 abbrev pub most_file_bytes : ℕ → ℕ
-most_file_bytes events = 48 + 115 * events
+most_file_bytes events = 48 + 140 * events

@@ -7,7 +7,7 @@ use Rattle.ew_model.specs.declared.text_op.TextOp.TheVariants.{Ins, Del, Nothing
 use Rattle.ew_model.specs.Ids.{id_eq}
 use Rattle.ew_model.specs.Paths.{path_lt}
 use Rattle.ew_model.specs.Entries.{Inserted, Entry, visible}
-use Rattle.ew_model.specs.Entries.Entry.{Insertion, Deletion}
+use Rattle.ew_model.specs.Entries.Entry.{Insertion, Deletion, Mark}
 use Rattle.ew_model.specs.Tree.{Applied, Noted, all_entries, next_entry, grow, applied_after}
 
 -- a deletion at the place where the target is seen, or nothing where it isn't
@@ -15,11 +15,13 @@ abbrev pub deletion_at : Option ℕ → TextOp
 deletion_at None = Nothing
 deletion_at (Some at) = Del at
 
--- what an entry does to a text, by its visible characters; an event out of range, which leaves none, does nothing
+-- what an entry does to a text, by its visible characters; a mark does nothing, and so does an event out of range, which
+-- leaves none
 abbrev pub operation_of : List Inserted → Option Entry → TextOp
 operation_of chars None = Nothing
 operation_of chars (Some (Insertion x)) = Ins (count_by (λ y. path_lt y.path x.path) chars) x.ch
 operation_of chars (Some (Deletion target)) = deletion_at (position (λ y. id_eq y.id target) chars)
+operation_of chars (Some Mark) = Nothing
 
 -- what the next event does to the text of all events before it
 unfoldable pub next_operation : {N : Type 0} → (N → N → Bool) → ℕ → List (Noted N) → Applied N → TextOp

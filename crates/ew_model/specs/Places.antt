@@ -6,7 +6,7 @@ use Rattle.ew_model.specs.declared.id.Id.{Id}
 use Rattle.ew_model.specs.Paths.{Step, path_lt, is_right_child, step_down}
 use Rattle.ew_model.specs.Paths.Side.{Left, Right}
 use Rattle.ew_model.specs.Entries.{Inserted, Entry, order, visible}
-use Rattle.ew_model.specs.Entries.Entry.{Insertion, Deletion}
+use Rattle.ew_model.specs.Entries.Entry.{Insertion, Deletion, Mark}
 
 -- the path of the visible character before the index: the root's for 0, none where the index is past the end
 abbrev pub path_before : List Inserted → ℕ → Option (List Step)
@@ -27,13 +27,15 @@ new_path walk p x =
     then left_of_or_right_of (find (λ y. path_lt p y.path) walk) p x
     else step_down p Right x
 
--- what is to be done over the entries of some ancestors: a character with this id is inserted, or one is deleted
+-- what is to be done over the entries of some ancestors: a character with this id is inserted, one is deleted, or a mark is left
 pub data Act : Type 0 where
   InsertAs : (id : Id) (at ch : ℕ) → Act
   DeleteAt : (at : ℕ) → Act
+  MarkAs : Act
 
 -- the entry that an act leaves over the entries of its ancestors; none where its index is out of range
 unfoldable pub place : Act → List Entry → Option Entry
 place (InsertAs x at ch) entries =
     option_map (λ p. Insertion (record { id = x; path = new_path (order entries) p x; ch = ch })) (path_before (visible entries) at)
 place (DeleteAt at) entries = option_map (λ target. Deletion target.id) (slice_get (visible entries) at)
+place MarkAs entries = Some Mark

@@ -15,8 +15,8 @@ use Rattle.ew_model.specs.Entries.{Inserted, inserted_cmp, Entry, deletes, is_de
 use Rattle.ew_model.specs.Places.{Act, path_before}
 use Rattle.ew_model.specs.Tree.{Applied, Noted, all_entries, entries_over, next_entry, tree_of, based}
 use Rattle.ew_model.specs.Paths.{Step, path_lt, is_right_child}
-use Rattle.ew_model.specs.Entries.Entry.{Insertion, Deletion}
-use Rattle.ew_model.specs.Places.Act.{InsertAs, DeleteAt}
+use Rattle.ew_model.specs.Entries.Entry.{Insertion, Deletion, Mark}
+use Rattle.ew_model.specs.Places.Act.{InsertAs, DeleteAt, MarkAs}
 
 -- the names hold this one
 abbrev pub holds : List ℕ → ℕ → Bool
@@ -26,16 +26,18 @@ holds names n = list_any (nat_eq n) names
 abbrev pub inserts_as : Id → Act → Bool
 inserts_as x (InsertAs y at ch) = id_eq y x
 inserts_as x (DeleteAt at) = false
+inserts_as x MarkAs = false
 
 -- the id is no base name, and none of the events inserts under it
 pub record IsNewId (events : List (Applied ℕ)) (x : Id) : Type 0 where
   pub unused : list_any (λ (c : Applied ℕ). inserts_as x c.act) events ≡ false
   pub agent : x.agent ≡ [] → ⊥
 
--- the id of an insertion is new; a deletion has none
+-- the id of an insertion is new; a deletion and a mark have none
 abbrev pub IsNewAct : List (Applied ℕ) → Act → Type 0
 IsNewAct events (InsertAs x at ch) = IsNewId events x
 IsNewAct events (DeleteAt at) = Unit {0}
+IsNewAct events MarkAs = Unit {0}
 
 -- The names hold, with an event's name, those of all that it was applied over.
 abbrev pub IsClosed : List (Applied ℕ) → List ℕ → Type 0
@@ -56,6 +58,7 @@ IsRun before (a ∷ later) = MayApply before a × IsRun (before ++ a ∷ []) lat
 abbrev pub inserts : Id → Entry → Bool
 inserts x (Insertion y) = id_eq y.id x
 inserts x (Deletion target) = false
+inserts x Mark = false
 
 abbrev pub is_inserted : List Entry → Id → Bool
 is_inserted entries x = list_any (inserts x) entries
@@ -105,6 +108,7 @@ RecordsTell = (b : ℕ) (events : List (Applied ℕ)) (prepared : List ℕ) → 
 abbrev pub is_about : Entry → Id → Bool
 is_about (Insertion y) x = id_eq y.id x
 is_about (Deletion target) x = id_eq target x
+is_about Mark x = false
 
 -- a record after an event that left the entry came into what is prepared, and after it was taken out
 abbrev pub raised : Entry → Record → Record
@@ -164,6 +168,7 @@ AppliedRecords (Insertion y) before after =
     × ((rs qs : List Record) (r : Record) → before ≡ rs ++ r ∷ qs → StandsBehind (map (λ (r : Record). r.node) before) y.path r.node.path → after ≡ rs ++ r ∷ fresh y ∷ qs)
     × ((rs qs : List Record) (r : Record) → before ≡ rs ++ r ∷ qs → StandsAhead (map (λ (r : Record). r.node) before) y.path r.node.path → after ≡ rs ++ fresh y ∷ r ∷ qs)
 AppliedRecords (Deletion target) before after = after ≡ map (struck target) before
+AppliedRecords Mark before after = after ≡ before
 
 abbrev pub AppliesTell : Type 0
 AppliesTell =
@@ -193,6 +198,7 @@ OperationReads (Insertion y) before rs r qs op =
     (StandsBehind (map (λ (r : Record). r.node) before) y.path r.node.path → op ≡ Ins (effects_in (rs ++ r ∷ [])) y.ch)
     × (StandsAhead (map (λ (r : Record). r.node) before) y.path r.node.path → op ≡ Ins (effects_in rs) y.ch)
 OperationReads (Deletion target) before rs r qs op = r.node.id ≡ target → op ≡ (if r.effect then Del (effects_in rs) else Nothing)
+OperationReads Mark before rs r qs op = op ≡ Nothing
 
 -- an apply's operation is at the number of records with effect before the place
 abbrev pub OperationsRead : Type 0

@@ -4,8 +4,9 @@ use Rattle.std.specs.Char.{encode_utf8}
 use Rattle.std.specs.Str.{all_scalars}
 use Rattle.std.specs.List.{join_by, onto_first}
 use Rattle.ew_model.specs.declared.id.Id.{Id}
+use Rattle.ew_model.specs.Names.{is_name}
 use Rattle.ew_model.specs.Edits.{Edit}
-use Rattle.ew_model.specs.Edits.Edit.{Insert, Delete}
+use Rattle.ew_model.specs.Edits.Edit.{Insert, Delete, Mark}
 
 -- the lines of the bytes: each newline ends one, and what stands behind the last newline is one too, unless it is empty
 abbrev pub lines_of : List ℕ → List (List ℕ)
@@ -37,11 +38,13 @@ version_text (x ∷ ids) = join_by id_text (codes ",") (x ∷ ids)
 abbrev pub edit_line : Edit → List ℕ
 edit_line (Insert at text) = spaced (codes "ins" ∷ decimal at ∷ escaped_text text ∷ [])
 edit_line (Delete at count) = spaced (codes "del" ∷ decimal at ∷ decimal count ∷ [])
+edit_line (Mark label) = spaced (codes "mark" ∷ label ∷ [])
 
--- numbers of 32 bits, and characters that are Unicode scalar values
+-- numbers of 32 bits, characters that are Unicode scalar values, and a label that is a name
 abbrev pub IsSoundEdit : Edit → Type 0
 IsSoundEdit (Insert at text) = (at < 2 ^ 32) × (all_scalars text ≡ true)
 IsSoundEdit (Delete at count) = (at < 2 ^ 32) × (count < 2 ^ 32)
+IsSoundEdit (Mark label) = is_name label ≡ true
 
 -- the line means the edit
 pub record MeansEdit (line : List ℕ) (edit : Edit) : Type 0 where

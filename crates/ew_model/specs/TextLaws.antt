@@ -18,6 +18,7 @@ use Rattle.ew_model.specs.Operations.{operations, changed_by, changed_by_all}
 abbrev pub own_change : Op → TextOp
 own_change (op.Ins at ch) = Ins at ch
 own_change (op.Del at) = Del at
+own_change (op.Mark label) = Nothing
 
 -- An index is meant in the text at the event's parents: the text of the version that ends with the event is that text
 -- with the event's own change.

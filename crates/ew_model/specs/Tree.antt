@@ -4,7 +4,7 @@ use Rattle.std.specs.Prelude.{ℕ, zero, suc, Bool, List, [], ◌∷◌, ◌++�
 use Rattle.std.specs.List.{list_any}
 use Rattle.ew_model.specs.declared.id.Id.{Id}
 use Rattle.ew_model.specs.declared.event.Op.{Op}
-use Rattle.ew_model.specs.declared.event.Op.TheVariants.{Ins, Del}
+use Rattle.ew_model.specs.declared.event.Op.TheVariants.{Ins, Del, Mark}
 use Rattle.ew_model.specs.declared.event.Event.{Event}
 use Rattle.ew_model.specs.Ids.{id_eq}
 use Rattle.ew_model.specs.Ancestors.{ancestors}
@@ -13,7 +13,7 @@ use Rattle.ew_model.specs.Paths.Side.{Right}
 use Rattle.ew_model.specs.Entries.{Entry}
 use Rattle.ew_model.specs.Entries.Entry.{Insertion}
 use Rattle.ew_model.specs.Places.{Act, place}
-use Rattle.ew_model.specs.Places.Act.{InsertAs, DeleteAt}
+use Rattle.ew_model.specs.Places.Act.{InsertAs, DeleteAt, MarkAs}
 
 -- The name of the base character n. It has no agent, so it is below every id that an event can have, and is none.
 abbrev pub base_id : ℕ → Id
@@ -70,6 +70,7 @@ tree_of same b events = fold (grow same b) [] events
 abbrev pub act_by : Id → Op → Act
 act_by x (Ins at ch) = InsertAs x at ch
 act_by x (Del at) = DeleteAt at
+act_by x (Mark label) = MarkAs
 
 -- an event of a history, over its ancestors
 abbrev pub applied : List Event → Event → Applied Id

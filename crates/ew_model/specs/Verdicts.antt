@@ -5,7 +5,7 @@ use Rattle.std.specs.Bool.{then_some}
 use Rattle.std.specs.Option.{option_map}
 use Rattle.ew_model.specs.declared.id.Id.{Id}
 use Rattle.ew_model.specs.declared.event.Op.{Op}
-use Rattle.ew_model.specs.declared.event.Op.TheVariants.{Ins, Del}
+use Rattle.ew_model.specs.declared.event.Op.TheVariants.{Ins, Del, Mark}
 use Rattle.ew_model.specs.declared.event.Event.{Event}
 use Rattle.ew_model.specs.Ids.{is_among, ids_ascend}
 use Rattle.ew_model.specs.Events.{event_eq}
@@ -37,10 +37,11 @@ has_number_below ids agent (suc n) = is_among ids (record { agent = agent; seq =
 unfoldable pub follows_its_agent : List Event → Event → Bool
 follows_its_agent history e = has_number_below (ancestors history e.parents) e.id.agent e.id.seq
 
--- the index is outside a text of this length
+-- the index is outside a text of this length; a mark has none
 abbrev pub is_outside : ℕ → Op → Bool
 is_outside len (Ins at ch) = nat_lt len at
 is_outside len (Del at) = nat_le len at
+is_outside len (Mark label) = false
 
 -- The rows of the table, each with its answer where it holds.
 

@@ -4,15 +4,18 @@ ghost use Rattle.std.specs.Prelude.{◌≡◌, ◌↔◌, IfOk, IsTrue};
 
 use crate::NoMem;
 use crate::id::Id;
+use crate::name::Name;
 use crate::parents::Parents;
 
-/// What an event does to the text at its parents. Indices count Unicode scalar values.
+/// What an event does: it changes the text at its parents, or it is a named save. Indices count Unicode scalar values.
 #[derive(Clone, Copy, Debug, PartialEq, Eq)]
 pub enum Op {
     /// Puts the character at the index.
     Ins { at: u32, ch: char },
     /// Deletes the character at the index.
     Del { at: u32 },
+    /// Changes nothing: a save under a name. Its parents may be heads that it joins.
+    Mark { label: Name },
 }
 
 impl Op {

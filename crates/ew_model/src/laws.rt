@@ -4,7 +4,6 @@ pub mod arrival;
 pub mod clearing;
 pub mod cuts;
 pub mod edits;
-pub mod files;
 pub mod orders;
 pub mod positions;
 pub mod scripts;

@@ -1,15 +1,30 @@
 //! The limits of a replica and of the program.
 
-ghost use Rattle.std.specs.Prelude.{◌≡◌, ◌≤◌, ◌↔◌, IsSome, IfSome};
-ghost use Rattle.ew_model.specs.Limits.{LimitNumbers, AreLimits, program_limits};
+ghost use Rattle.std.specs.Prelude.{◌≡◌, ◌<◌, ◌≤◌, ◌^◌, ◌↔◌, IsSome, IfSome};
+ghost use Rattle.ew_model.specs.Limits.{LimitNumbers, AreLimits, program_limits, most_file_bytes};
 
 use std::marker::Model;
 
-const MOST_EVENTS: u32 = 16_777_216;
+/// The most events of a history, and so the most characters of a text, under any limits.
+pub const MOST_EVENTS: u32 = 16_777_216;
+/// The most bytes of an input or a frame's body, under any limits.
+pub const MOST_BYTES: u32 = 1_073_741_824;
+/// The most parents of an event, and the most heads that one event can join.
+pub const MOST_PARENTS: u32 = 16;
+/// The bytes that tell a number of events, or of anything else, in a file and in a frame.
+pub const COUNT_BYTES: u32 = 4;
+/// The bytes in a frame of the greatest event that a history can hold: 37 for its id, 1 and 37 for each of 16 parents, and 34 for
+/// its kind and a label.
+pub const MOST_EVENT_BYTES: u32 = 664;
+/// How many bytes of an input are asked for at a time.
+pub const INPUT_PIECE: usize = 4096;
 
-const MOST_BYTES: u32 = 1_073_741_824;
 /// An Events frame with the greatest event that a history can hold.
-const LEAST_BODY: u32 = 643;
+const LEAST_BODY: u32 = COUNT_BYTES + MOST_EVENT_BYTES;
+/// The bytes of the empty file.
+const EMPTY_FILE: u64 = 48;
+/// The most bytes that an event adds to a file: 33 for its agent's name, and 107 for its record.
+const MOST_RECORD_BYTES: u64 = 140;
 
 /// The most events of a history, events that wait, bytes of an input, and bytes of a frame's body. Contracts see the four
 /// numbers.
@@ -35,7 +50,7 @@ impl Model for Limits {
 
 impl Limits {
     /// Limits of these numbers. None exactly where one is out of its range: 1 to 16,777,216 events, 0 to 16,777,216 that
-    /// wait, 0 to 1,073,741,824 bytes of input, 643 to 1,073,741,824 bytes of a body.
+    /// wait, 0 to 1,073,741,824 bytes of input, 668 to 1,073,741,824 bytes of a body.
     pub fn new(events: u32, waiting: u32, input: u32, body: u32) -> Option<Limits>
         ensures some { IsSome result ↔ AreLimits (record { events = events; waiting = waiting; input = input; body = body }) }
         ensures value { IfSome result (λ l. l ≡ record { events = events; waiting = waiting; input = input; body = body }) }
@@ -88,6 +103,14 @@ impl Limits {
         ensures range { AreLimits self.now }
     {
         self.input
+    }
+
+    /// The most bytes of a file of such a history.
+    pub fn file_bytes(&self) -> u64
+        ensures value { result ≡ most_file_bytes self.now.events }
+        ensures small { result < 2 ^ 62 }
+    {
+        EMPTY_FILE + MOST_RECORD_BYTES * u64::from(self.events)
     }
 
     /// The most bytes of a frame's body.

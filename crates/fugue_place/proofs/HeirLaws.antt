@@ -8,7 +8,7 @@ use Rattle.std.proofs.lemmas.Option.{slice_get_within, same_Some}
 use Rattle.std.proofs.Math.Seq.{take-length}
 use Rattle.ew_model.specs.declared.node.Node.{Node}
 use Rattle.ew_model.specs.Sets.{Among}
-use Rattle.ew_model.proofs.FileLists.{get-take, get-take_within}
+use Rattle.ew_model.proofs.ListPlaces.{get-take, get-take_within}
 use Rattle.ew_model.proofs.VersionLaws.{found_by}
 use Rattle.fugue_place.specs.declared.child.Side.{Side}
 use Rattle.fugue_place.specs.declared.child.Side.TheVariants.{Right}

@@ -8,7 +8,7 @@ use Rattle.std.proofs.lemmas.Option.{slice_get_within}
 use Rattle.ew_model.specs.declared.node.Node.{Node}
 use Rattle.ew_model.specs.Sets.{Among}
 use Rattle.ew_model.specs.declared.node.Node.TheVariants.{Root}
-use Rattle.ew_model.proofs.FileLists.{get-take_within}
+use Rattle.ew_model.proofs.ListPlaces.{get-take_within}
 use Rattle.ew_model.proofs.OperationLaws.{got}
 use Rattle.ew_model.proofs.VersionLaws.{any_from, found_by}
 use Rattle.fugue_place.specs.declared.child.Attached.{Attached}

@@ -2,20 +2,21 @@
 use Rattle.std.specs.Prelude.{ℕ, List, [], ◌∷◌, ◌++◌, length, flat_map, codes, decimal}
 use Rattle.ew_model.specs.declared.id.Id.{Id}
 use Rattle.ew_model.specs.declared.event.Op.{Op}
-use Rattle.ew_model.specs.declared.event.Op.TheVariants.{Ins, Del}
+use Rattle.ew_model.specs.declared.event.Op.TheVariants.{Ins, Del, Mark}
 use Rattle.ew_model.specs.declared.event.Event.{Event}
 use Rattle.ew_model.specs.Ancestors.{heads}
 use Rattle.ew_model.specs.Cuts.{cuts_of}
-use Rattle.ew_model.specs.File.{agents_of}
+use Rattle.ew_model.specs.Writable.{agents_of}
 use Rattle.ew_model.specs.Ids.{id_cmp}
 use Rattle.ew_model.specs.Scripts.{escaped_char, id_text, spaced, version_text}
 use Rattle.ew_model.specs.Sorting.{sort_by}
 use Rattle.ew_model.specs.Texts.{text_of}
 
--- the words of an operation: what it does, at which index, and the character of an insertion
+-- the words of an operation: what it does, at which index, and the character of an insertion; or a mark's label
 abbrev pub op_words : Op → List (List ℕ)
 op_words (Ins at ch) = codes "ins" ∷ decimal at ∷ escaped_char ch ∷ []
 op_words (Del at) = codes "del" ∷ decimal at ∷ []
+op_words (Mark label) = codes "mark" ∷ label ∷ []
 
 -- the line of an event: its id, its parents, its operation
 unfoldable pub event_line : Event → List ℕ

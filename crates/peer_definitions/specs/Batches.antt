@@ -2,7 +2,7 @@
 use Rattle.std.specs.Prelude.{◌≡◌, ◌<◌, ◌≤◌, ◌^◌, ℕ, List, [], ◌∷◌, ◌++◌, length, flat_map, Option, None, Some}
 use Rattle.std.specs.List.{AllByRecursion}
 use Rattle.ew_model.specs.declared.event.Event.{Event}
-use Rattle.ew_model.specs.File.{four_bytes}
+use Rattle.ew_model.specs.Bytes.{four_bytes}
 use Rattle.ew_model.specs.Sound.{AreSound}
 use Rattle.peer_definitions.specs.Spelling.{events_body}
 

@@ -3,10 +3,10 @@ use Rattle.std.specs.Prelude.{ℕ, zero, suc, ◌-◌, ◌/◌, List, [], ◌∷
 use Rattle.std.specs.Int.{div_ceil}
 use Rattle.ew_model.specs.Limits.{LimitNumbers}
 
--- how many events go into one frame: so many of the greatest that a history can hold, of 639 bytes each, fit into a body after
+-- how many events go into one frame: so many of the greatest that a history can hold, of 664 bytes each, fit into a body after
 -- the four bytes that tell their number
 abbrev pub frame_room : LimitNumbers → ℕ
-frame_room limits = (limits.body - 4) / 639
+frame_room limits = (limits.body - 4) / 664
 
 -- so many pieces of n elements, one after the other from the front of the list
 abbrev pub pieces_from : {X : Type 0} → ℕ → ℕ → List X → List (List X)

@@ -5,7 +5,7 @@ use Rattle.std.specs.Ordering.{is_lt, nat_cmp}
 use Rattle.std.specs.Cmp.Lexicographic.{slice_cmp}
 use Rattle.ew_model.specs.declared.id.Id.{Id}
 use Rattle.ew_model.specs.declared.event.Event.{Event}
-use Rattle.ew_model.specs.File.{four_bytes, name_bytes, op_bytes}
+use Rattle.ew_model.specs.Bytes.{four_bytes, name_bytes, op_bytes}
 use Rattle.ew_model.specs.Names.{is_name}
 use Rattle.ew_model.specs.Sound.{IsSoundId, AreSound}
 use Rattle.peer_definitions.specs.declared.frame.Frame.{Frame}

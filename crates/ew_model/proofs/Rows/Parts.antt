@@ -65,7 +65,7 @@ nothing_at_the_end : edit_refusal program abc (codes "z") (Delete 3 0) ≡ None
 unfolding edit_refusal events_of_ops opened
 nothing_at_the_end = refl
 
-abbrev each_first : List ℕ → List Event
+abbrev pub each_first : List ℕ → List Event
 each_first [] = []
 each_first (agent ∷ agents) = ins agent 0 0 agent [] ∷ each_first agents
 
@@ -77,6 +77,6 @@ no_text : edit_refusal program (each_first (codes "abcdefghijklmnopq")) (codes "
 unfolding edit_refusal events_of_ops opened
 no_text = refl
 
-full : edit_refusal (record { events = 3; waiting = 1; input = 64; body = 643 }) abc (codes "z") (Insert 0 (120 ∷ [])) ≡ Some (Full 3)
+full : edit_refusal (record { events = 3; waiting = 1; input = 64; body = 668 }) abc (codes "z") (Insert 0 (120 ∷ [])) ≡ Some (Full 3)
 unfolding edit_refusal events_of_ops opened
 full = refl

@@ -75,7 +75,7 @@ unfolding judging most_touches round_touches touches is_critical
 batch_bound = refl
 
 abbrev room_for_one : LimitNumbers
-room_for_one = record { events = 3; waiting = 1; input = 64; body = 643 }
+room_for_one = record { events = 3; waiting = 1; input = 64; body = 668 }
 
 pool_full : rulings (arrive room_for_one [] [] (child ∷ ins 98 2 2 122 (id 98 1 ∷ []) ∷ [])) ≡ Unknown (id 98 0) ∷ PoolFull ∷ []
 unfolding judging

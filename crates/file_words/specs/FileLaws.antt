@@ -1,14 +1,12 @@
 -- What the reading of a file promises.
-use Rattle.std.specs.Prelude.{◌≡◌, ℕ, ◌<◌, ◌≤◌, ◌↔◌, List, length, slice_index}
+use Rattle.std.specs.Prelude.{◌≡◌, ℕ, ◌≤◌, ◌↔◌, List, length}
 use Rattle.ew_model.specs.declared.event.Event.{Event}
 use Rattle.ew_model.specs.Sound.{AreSound}
-use Rattle.ew_model.specs.File.{IsWritable, file_of}
-use Rattle.ew_model.specs.FileFaults.{file_finding}
-use Rattle.ew_model.specs.FileFaults.FileFinding.{IsFile}
-
--- each is a byte
-abbrev pub AreBytes : List ℕ → Type 0
-AreBytes bytes = (i : ℕ) → slice_index bytes i < 256
+use Rattle.ew_model.specs.Bytes.{AreBytes}
+use Rattle.ew_model.specs.Writable.{IsWritable}
+use Rattle.file_words.specs.File.{file_of}
+use Rattle.file_words.specs.FileFaults.{file_finding}
+use Rattle.file_words.specs.FileFaults.FileFinding.{IsFile}
 
 -- the bytes are the file of these events, at most so many, of which there is one
 pub record IsFileOf (most : ℕ) (events : List Event) (bytes : List ℕ) : Type 0 where

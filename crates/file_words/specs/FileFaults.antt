@@ -6,12 +6,12 @@ use Rattle.std.specs.List.{list_any}
 use Rattle.sha2.specs.Sha256.{sha256}
 use Rattle.ew_model.specs.declared.id.Id.{Id}
 use Rattle.ew_model.specs.declared.event.Op.{Op}
-use Rattle.ew_model.specs.declared.event.Op.TheVariants.{Ins, Del}
+use Rattle.ew_model.specs.declared.event.Op.TheVariants.{Ins, Del, Mark}
 use Rattle.ew_model.specs.declared.event.Event.{Event}
 use Rattle.ew_model.specs.Ids.{ids_ascend, name_eq}
 use Rattle.ew_model.specs.Ancestors.{ids_of, is_held}
 use Rattle.ew_model.specs.Names.{is_name}
-use Rattle.ew_model.specs.File.{agents_of}
+use Rattle.ew_model.specs.Writable.{agents_of}
 
 -- what may be wrong with a field
 pub data RecordFault : Type 0 where
@@ -111,14 +111,21 @@ read_parents ids parents (suc n) = do
 abbrev pub is_scalar : ℕ → Bool
 is_scalar c = nat_lt c 0xD800 || (nat_le 0xE000 c && nat_lt c 0x110000)
 
--- the kind, the index, and the character of an insertion
+-- a mark by its label
+abbrev pub read_mark : Reader Op
+read_mark = do
+  label ← read_name
+  done (Mark label)
+
+-- the kind, the index, and the character of an insertion; or the label of a mark
 unfoldable pub read_op : Reader Op
 read_op = do
-  kind ← field byte (only (λ kind. nat_lt kind 2)) KindBad
-  at ← number
-  if kind == 1 then done (Del at) else do
-    ch ← field number (only is_scalar) Scalar
-    done (Ins at ch)
+  kind ← field byte (only (λ kind. nat_lt kind 3)) KindBad
+  if kind == 2 then read_mark else do
+    at ← number
+    if kind == 1 then done (Del at) else do
+      ch ← field number (only is_scalar) Scalar
+      done (Ins at ch)
 
 -- the agents that a record may have: those with a record before it, and the next
 abbrev pub open_agents : List (List ℕ) → List Event → List (List ℕ)

@@ -1,33 +1,23 @@
 -- A field that is read is the field that was written, and what was written is read again.
-use Rattle.std.proofs.Common.{◌≡◌, ℕ, zero, suc, ◌+◌, ◌^◌, ◌<◌, ◌≤◌, Bool, true, false, cond, not, ltb, eqb, leb, ◌&&◌, ◌||◌, List, [], ◌∷◌, ◌++◌, length, take, drop, flat_map, Option, Some, None, Result, Ok, Err, refl, sym, ap, subst, ◌∙◌, append_assoc, append-nil, arith, inl, inr}
+use Rattle.std.proofs.Common.{◌≡◌, ℕ, zero, suc, ◌^◌, ◌<◌, ◌≤◌, Bool, true, false, cond, not, ltb, eqb, leb, ◌&&◌, ◌||◌, List, [], ◌∷◌, ◌++◌, length, take, drop, flat_map, Option, Some, None, Result, Ok, Err, refl, sym, ap, subst, ◌∙◌, append_assoc, append-nil, arith, inl, inr}
 use Rattle.std.specs.List.{list_any, list_all, AllByRecursion}
 use Rattle.std.specs.Int.{w32, from_le_bytes}
-use Rattle.std.proofs.lemmas.Bool.{cases_lt, ltb-true, ltb-false, le-ltb, and_parts, and_from, not-true, not_from_false, or_cases}
-use Rattle.std.proofs.lemmas.List.{take_at, drop_at, take-append-drop, length-append, length-take, get_or-drop, get_or-take, get_or_past}
+use Rattle.std.proofs.lemmas.Bool.{ltb-true, ltb-false, le-ltb, and_parts, and_from, not-true, not_from_false, or_cases}
+use Rattle.std.proofs.lemmas.List.{take_at, drop_at, take-append-drop, length-append, length-take}
 use Rattle.std.proofs.lemmas.Nat.{le_bytes_4, from_le_bytes-to_le_bytes_4}
 use Rattle.ew_model.specs.declared.event.Op.{Op}
-use Rattle.ew_model.specs.declared.event.Op.TheVariants.{Ins, Del}
+use Rattle.ew_model.specs.declared.event.Op.TheVariants.{Ins, Del, Mark}
 use Rattle.ew_model.specs.Names.{is_name, is_name_byte, begins_with_dash}
 use Rattle.ew_model.specs.Sound.{IsSoundOp}
-use Rattle.ew_model.specs.File.{four_bytes, name_bytes, op_bytes}
+use Rattle.ew_model.specs.Bytes.{four_bytes, name_bytes, op_bytes, AreBytes}
 use Rattle.ew_model.specs.Ids.{name_eq}
-use Rattle.ew_model.specs.FileFaults.{RecordFault, Stop, Reader, done, go_on, ◌>>=◌, front, byte, number, meant, field, only, fault_at, read_name, read_names, is_scalar, read_op}
-use Rattle.ew_model.specs.FileFaults.Stop.{BadField, OverLimit}
-use Rattle.ew_model.specs.FileFaults.RecordFault.{Cut, NameBad, NameTwice, KindBad, Scalar}
-use Rattle.ew_model.specs.FileLaws.{AreBytes}
+use Rattle.file_words.specs.FileFaults.{RecordFault, Stop, Reader, done, go_on, ◌>>=◌, front, byte, number, meant, field, only, fault_at, read_name, read_mark, read_names, is_scalar, read_op}
+use Rattle.file_words.specs.FileFaults.Stop.{BadField, OverLimit}
+use Rattle.file_words.specs.FileFaults.RecordFault.{Cut, NameBad, NameTwice, KindBad, Scalar}
 use Rattle.ew_model.specs.Distinct.{AllNew}
+use Rattle.ew_model.proofs.ByteLaws.{AreBytes-take, AreBytes-drop}
 
 -- ---- what readers that don't stop have in common
-
-pub AreBytes-drop : (n : ℕ) (bytes : List ℕ) → AreBytes bytes → AreBytes (drop n bytes)
-AreBytes-drop n bytes h i = rw get_or-drop (h (n + i))
-
-pub AreBytes-take : (n : ℕ) (bytes : List ℕ) → AreBytes bytes → AreBytes (take n bytes)
-AreBytes-take n bytes h i =
-    elim (cases_lt i n) [
-      | inl lt ↦ rw (get_or-take n bytes i 0 lt) (h i)
-      | inr le ↦ rw (get_or_past (take n bytes) i 0 (omega (arith, length-take n bytes))) (omega arith)
-    ]
 
 -- the bytes are a text and those left
 pub record Takes (bytes text left : List ℕ) : Type 0 where
@@ -233,16 +223,38 @@ op_of (suc zero) at bytes y small at_fits fits e =
     ([], ap (λ t. 1 ∷ t) (append-nil (four_bytes at)), record { parts = refl; fits = fits }, at_fits)
 op_of (suc (suc k)) at bytes y small at_fits fits e = absurd (omega arith)
 
+-- what follows the kind, up to the end of the operation
+abbrev OpRest : ℕ → List ℕ → Op × List ℕ → Type 0
+OpRest kind bytes y = (rest : List ℕ) × (kind ∷ rest ≡ op_bytes y.0) × Takes bytes rest y.1 × IsSoundOp y.0
+
+indexed : (kind : ℕ) (bytes : List ℕ) (y : Op × List ℕ) → kind < 2 → AreBytes bytes → (number >>= op_behind kind) bytes ≡ Ok y → OpRest kind bytes y
+indexed kind bytes y small fits e =
+    let h = go_ok (number bytes) (op_behind kind) y e in
+    let at = number_takes bytes h.0 fits h.1 in
+    let rest = op_of kind h.0.0 h.0.1 y small at.1 at.0.fits h.2 in
+    (four_bytes h.0.0 ++ rest.0, rest.1, Takes-then bytes (four_bytes h.0.0) h.0.1 rest.0 y.1 at.0 rest.2, rest.3)
+
+labelled : (bytes : List ℕ) (y : Op × List ℕ) → AreBytes bytes → read_mark bytes ≡ Ok y → OpRest 2 bytes y
+labelled bytes y fits e =
+    let g = go_ok (read_name bytes) (λ label. done (Mark label)) y e in
+    let n = name_takes bytes g.0 fits g.1 in
+    let same : (Mark g.0.0, g.0.1) ≡ y = cc in
+    subst (λ (p : Op × List ℕ). OpRest 2 bytes p) same (name_bytes g.0.0, refl, n.0, n.1)
+
+rest_of : (kind : ℕ) (bytes : List ℕ) (y : Op × List ℕ) → kind < 3 → AreBytes bytes → (cond (eqb kind 2) read_mark (number >>= op_behind kind)) bytes ≡ Ok y → OpRest kind bytes y
+rest_of zero bytes y small fits e = indexed 0 bytes y (omega arith) fits e
+rest_of (suc zero) bytes y small fits e = indexed 1 bytes y (omega arith) fits e
+rest_of (suc (suc zero)) bytes y small fits e = labelled bytes y fits e
+rest_of (suc (suc (suc k))) bytes y small fits e = absurd (omega (arith, small))
+
 pub op_takes : (bytes : List ℕ) (y : Op × List ℕ) → AreBytes bytes → read_op bytes ≡ Ok y → Takes bytes (op_bytes y.0) y.1 × IsSoundOp y.0
 unfolding read_op
 op_takes bytes y fits e =
-    let g = go_ok (field byte (only (λ kind. ltb kind 2)) KindBad bytes) (λ kind. number >>= op_behind kind) y e in
-    let kind = tested_ok byte (λ kind. ltb kind 2) KindBad bytes g.0 g.1 in
+    let g = go_ok (field byte (only (λ kind. ltb kind 3)) KindBad bytes) (λ kind. cond (eqb kind 2) read_mark (number >>= op_behind kind)) y e in
+    let kind = tested_ok byte (λ kind. ltb kind 3) KindBad bytes g.0 g.1 in
     let first = byte_takes bytes g.0 fits kind.0 in
-    let h = go_ok (number g.0.1) (op_behind g.0.0) y g.2 in
-    let at = number_takes g.0.1 h.0 first.fits h.1 in
-    let rest = op_of g.0.0 h.0.0 h.0.1 y (ltb-true _ _ kind.1) at.1 at.0.fits h.2 in
-    let both = Takes-then bytes (g.0.0 ∷ []) g.0.1 (four_bytes h.0.0 ++ rest.0) y.1 first (Takes-then g.0.1 (four_bytes h.0.0) h.0.1 rest.0 y.1 at.0 rest.2) in
+    let rest = rest_of g.0.0 g.0.1 y (ltb-true _ _ kind.1) first.fits g.2 in
+    let both = Takes-then bytes (g.0.0 ∷ []) g.0.1 rest.0 y.1 first rest.2 in
     (subst (λ t. Takes bytes t y.1) rest.1 both, rest.3)
 
 pub op_again : (op : Op) (left : List ℕ) → IsSoundOp op → read_op (op_bytes op ++ left) ≡ Ok (op, left)
@@ -255,3 +267,4 @@ op_again (Ins at ch) left sound =
     ap (λ bytes. read_op (0 ∷ bytes)) (append_assoc (four_bytes at) (four_bytes ch) left)
     ∙ ap (λ r. go_on r (op_behind 0)) mid ∙ ap (λ r. go_on r (λ c. done (Ins at c))) last
 op_again (Del at) left sound = ap (λ r. go_on r (op_behind 1)) (number_again at left sound)
+op_again (Mark label) left sound = ap (λ r. go_on r (λ name. done (Mark name))) (name_again label left sound)

@@ -10,17 +10,17 @@ use Rattle.ew_model.specs.Ids.{id_eq, id_lt, is_among, ids_ascend, name_eq}
 use Rattle.ew_model.specs.Ancestors.{ids_of, is_held}
 use Rattle.ew_model.specs.Names.{is_name}
 use Rattle.ew_model.specs.Sound.{IsSoundId, IsSound}
-use Rattle.ew_model.specs.File.{four_bytes, op_bytes, agents_of}
-use Rattle.ew_model.specs.FileFaults.{Reader, done, go_on, ◌>>=◌, byte, number, field, only, read_parents, read_op, read_record, open_agents}
-use Rattle.ew_model.specs.FileFaults.RecordFault.{AgentNumber, IdTwice, ParentCount, ParentPosition, ParentOrder}
-use Rattle.ew_model.specs.FileLaws.{AreBytes}
+use Rattle.ew_model.specs.Bytes.{four_bytes, op_bytes, AreBytes}
+use Rattle.ew_model.specs.Writable.{agents_of}
+use Rattle.file_words.specs.FileFaults.{Reader, done, go_on, ◌>>=◌, byte, number, field, only, read_parents, read_op, read_record, open_agents}
+use Rattle.file_words.specs.FileFaults.RecordFault.{AgentNumber, IdTwice, ParentCount, ParentPosition, ParentOrder}
 pub use Rattle.ew_model.proofs.IdLaws.{names_equal, name_exact}
 use Rattle.ew_model.proofs.PathOrder.{id_exact}
 use Rattle.ew_model.proofs.GapLaws.{eq_from}
 use Rattle.ew_model.proofs.TextLaws.{ids_equal}
 use Rattle.ew_model.specs.Distinct.{AllNew}
-use Rattle.ew_model.proofs.FileLists.{found_there, there_among, place_of, get-take}
-use Rattle.ew_model.proofs.FileFields.{Takes, Takes-then, go_ok, field_ok, only_ok, tested_ok, field_again, only_again, tested_again, byte_takes, number_takes, number_again, op_takes, op_again}
+use Rattle.ew_model.proofs.ListPlaces.{found_there, there_among, place_of, get-take}
+use Rattle.file_words.proofs.FileFields.{Takes, Takes-then, go_ok, field_ok, only_ok, tested_ok, field_again, only_again, tested_again, byte_takes, number_takes, number_again, op_takes, op_again}
 
 -- ---- ids that are equal
 

@@ -1,5 +1,5 @@
 -- The laws of the event file: what is read of bytes is what was written there, and the other way round.
-use Rattle.std.proofs.Common.{◌≡◌, ℕ, zero, suc, ◌+◌, ◌-◌, ◌^◌, ◌<◌, ◌≤◌, Bool, true, false, cond, not, ltb, eqb, List, [], ◌∷◌, ◌++◌, length, take, drop, get_or, flat_map, Result, Ok, Err, refl, sym, ap, ◌∙◌, append_assoc, arith}
+use Rattle.std.proofs.Common.{◌≡◌, ℕ, ◌+◌, ◌-◌, ◌^◌, ◌<◌, ◌≤◌, Bool, true, false, cond, not, ltb, eqb, List, [], ◌∷◌, ◌++◌, length, take, drop, get_or, flat_map, Result, Ok, Err, refl, sym, ap, ◌∙◌, append_assoc, arith}
 use Rattle.std.specs.Prelude.{nat_eq, codes}
 use Rattle.std.specs.Cmp.Lexicographic.{pointwise}
 use Rattle.std.proofs.Math.Seq.{drop-cons}
@@ -10,13 +10,16 @@ use Rattle.sha2.specs.Sha256.{sha256}
 use Rattle.sha2.proofs.Facts256.{length-sha256}
 use Rattle.ew_model.specs.declared.event.Event.{Event}
 use Rattle.ew_model.specs.Sound.{AreSound}
-use Rattle.ew_model.specs.File.{four_bytes, name_bytes, agents_of, record_bytes, file_content, file_of, IsWritable}
-use Rattle.ew_model.specs.FileFaults.{Stop, FileFinding, finding_of, content_finding, file_finding, read_events}
-use Rattle.ew_model.specs.FileFaults.Stop.{BadField, OverLimit}
-use Rattle.ew_model.specs.FileFaults.FileFinding.{IsFile, Short, BadMagic, BadVersion, BadDigest}
-use Rattle.ew_model.specs.FileLaws.{AreBytes, IsFileOf, FilesAreRead, FilesDiffer}
-use Rattle.ew_model.proofs.FileFields.{AreBytes-take, AreBytes-drop}
-use Rattle.ew_model.proofs.FileEvents.{events_text, AreEventsRead, events_take, events_again}
+use Rattle.ew_model.proofs.ListPlaces.{take_first}
+use Rattle.ew_model.specs.Bytes.{four_bytes, name_bytes, AreBytes}
+use Rattle.ew_model.specs.Writable.{agents_of, IsWritable}
+use Rattle.file_words.specs.File.{record_bytes, file_content, file_of}
+use Rattle.file_words.specs.FileFaults.{Stop, FileFinding, finding_of, content_finding, file_finding, read_events}
+use Rattle.file_words.specs.FileFaults.Stop.{BadField, OverLimit}
+use Rattle.file_words.specs.FileFaults.FileFinding.{IsFile, Short, BadMagic, BadVersion, BadDigest}
+use Rattle.file_words.specs.FileLaws.{IsFileOf, FilesAreRead, FilesDiffer}
+use Rattle.ew_model.proofs.ByteLaws.{AreBytes-take, AreBytes-drop}
+use Rattle.file_words.proofs.FileEvents.{events_text, AreEventsRead, events_take, events_again}
 use Rattle.ew_model.proofs.RisingLists.{pointwise_same}
 
 -- the mark and the version
@@ -48,12 +51,6 @@ eight_first : (xs : List ℕ) → 8 ≤ length xs → take 7 xs ≡ mark → get
 eight_first xs long front version =
     let lt : 7 < length xs = omega arith in
     sym (take-append-drop 7 xs) ∙ ap (λ t. t ++ drop 7 xs) front ∙ ap (λ t. mark ++ t) (drop-cons xs 7 0 lt ∙ ap (λ b. b ∷ drop 8 xs) version)
-
-pub take_first : (n m : ℕ) (xs : List ℕ) → n ≤ m → take n (take m xs) ≡ take n xs
-take_first zero m xs le = refl
-take_first (suc n) zero xs le = absurd (omega arith)
-take_first (suc n) (suc m) [] le = refl
-take_first (suc n) (suc m) (x ∷ xs) le = ap (λ t. x ∷ t) (take_first n m xs (omega arith))
 
 content_take : (most : ℕ) (content digest : List ℕ) (events : List Event) → AreBytes content → content_finding most content digest ≡ IsFile events → (digest ≡ sha256 content) × AreEventsRead most (drop 8 content) events
 unfolding content_finding

@@ -1,5 +1,5 @@
 -- Where an element stands in a list that has it, and lists without repeats.
-use Rattle.std.proofs.Common.{◌≡◌, ℕ, zero, suc, ◌+◌, ◌<◌, Bool, true, false, cond, not, ◌||◌, ◌⊎◌, inl, inr, ⊎_elim, List, [], ◌∷◌, ◌++◌, length, take, Some, None, refl, sym, ap, ◌∙◌, append_assoc, append-nil, arith}
+use Rattle.std.proofs.Common.{◌≡◌, ℕ, zero, suc, ◌+◌, ◌<◌, ◌≤◌, Bool, true, false, cond, not, ◌||◌, ◌⊎◌, inl, inr, ⊎_elim, List, [], ◌∷◌, ◌++◌, length, take, Some, None, refl, sym, ap, ◌∙◌, append_assoc, append-nil, arith}
 use Rattle.std.specs.Prelude.{slice_get}
 use Rattle.std.specs.Cmp.{IsEquivalence}
 use Rattle.std.specs.List.{list_any, position_or_len}
@@ -15,6 +15,13 @@ none_is_some x e = absurd cc
 
 pub or_other : (a b : Bool) → a ≡ false → (a || b) ≡ true → b ≡ true
 or_other a b f h = sym (ap (λ c. c || b) f) ∙ h
+
+-- a front of a front
+pub take_first : (n m : ℕ) (xs : List ℕ) → n ≤ m → take n (take m xs) ≡ take n xs
+take_first zero m xs le = refl
+take_first (suc n) zero xs le = absurd (omega arith)
+take_first (suc n) (suc m) [] le = refl
+take_first (suc n) (suc m) (x ∷ xs) le = ap (λ t. x ∷ t) (take_first n m xs (omega arith))
 
 -- what stands in a front stands there in the whole
 pub get-take : {X : Type 0} (n : ℕ) (xs : List X) (i : ℕ) (x : X) → slice_get (take n xs) i ≡ Some x → slice_get xs i ≡ Some x

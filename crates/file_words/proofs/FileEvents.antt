@@ -1,87 +1,28 @@
 -- All records of a file, its agents, and the file.
-use Rattle.std.proofs.Common.{◌≡◌, ℕ, zero, suc, ◌+◌, ◌^◌, ◌<◌, ◌≤◌, Bool, true, false, cond, not, leb, ltb, eqb, ◌&&◌, inl, inr, List, [], ◌∷◌, ◌++◌, length, take, flat_map, fold, Some, Ok, Err, refl, sym, ap, subst, ◌∙◌, append_assoc, append-nil, arith}
+use Rattle.std.proofs.Common.{◌≡◌, ℕ, zero, suc, ◌^◌, ◌<◌, ◌≤◌, Bool, true, false, cond, not, leb, ltb, eqb, ◌&&◌, inl, inr, List, [], ◌∷◌, ◌++◌, length, take, flat_map, Some, Ok, Err, refl, sym, ap, subst, ◌∙◌, append_assoc, append-nil, arith}
 use Rattle.std.specs.Prelude.{slice_get}
 use Rattle.std.specs.List.{list_any, list_all, position_or_len, AllByRecursion}
-use Rattle.std.proofs.lemmas.Bool.{cases_Bool, and_parts, and_from, not-true, not_from_false, ltb-false, le-ltb, eqb-true, eq-eqb, cond-true, cond-false}
+use Rattle.std.proofs.lemmas.Bool.{cases_Bool, and_parts, and_from, not-true, not_from_false, ltb-false, le-ltb, eqb-true, eq-eqb, cond-true}
 use Rattle.std.proofs.lemmas.List.{map-append, length-append, nil_from_length}
-use Rattle.std.proofs.lemmas.List.Sums.{fold_push, fold-append}
 use Rattle.ew_model.specs.declared.id.Id.{Id}
 use Rattle.ew_model.specs.declared.event.Event.{Event}
 use Rattle.ew_model.specs.Ids.{id_eq, ids_ascend, name_eq}
 use Rattle.ew_model.specs.Ancestors.{ids_of, is_held}
-use Rattle.ew_model.specs.Names.{is_name}
 use Rattle.ew_model.specs.Sound.{IsSoundId, IsSound, AreSound}
-use Rattle.ew_model.specs.File.{four_bytes, name_bytes, op_bytes, with_agent, agents_of, record_bytes, are_writable_after, IsWritable}
-use Rattle.ew_model.specs.FileFaults.{Stop, Reader, stops, go_on, ◌>>=◌, number, read_names, read_record, read_records, read_end, read_events, open_agents}
-use Rattle.ew_model.specs.FileFaults.Stop.{BadField, OverLimit}
-use Rattle.ew_model.specs.FileFaults.RecordFault.{UnusedAgent}
-use Rattle.ew_model.specs.FileLaws.{AreBytes}
+use Rattle.ew_model.specs.Bytes.{four_bytes, name_bytes, op_bytes, AreBytes}
+use Rattle.ew_model.specs.Writable.{agents_of, are_writable_after, IsWritable}
+use Rattle.file_words.specs.File.{record_bytes}
+use Rattle.file_words.specs.FileFaults.{Stop, Reader, stops, go_on, ◌>>=◌, number, read_names, read_record, read_records, read_end, read_events, open_agents}
+use Rattle.file_words.specs.FileFaults.Stop.{BadField, OverLimit}
+use Rattle.file_words.specs.FileFaults.RecordFault.{UnusedAgent}
 use Rattle.ew_model.proofs.EntryLaws.{all_joined}
 use Rattle.ew_model.proofs.TextLaws.{ids_equal}
 use Rattle.ew_model.specs.Distinct.{AllNew}
-use Rattle.ew_model.proofs.FileLists.{place_kept, one_more_new, used_or_next, used_is_open, next_is_open}
-use Rattle.ew_model.proofs.FileFields.{Takes, Takes-then, go_ok, number_takes, number_again, names_take, names_again}
-use Rattle.ew_model.proofs.FileRecords.{names_equal, name_exact, id_eq_exact, parent_bytes, record_at, IsSetting, MayFollow, record_takes, record_again}
-
--- ---- agents
-
-pub agents_push : (before : List Event) (e : Event) → agents_of (before ++ e ∷ []) ≡ with_agent (agents_of before) e
-agents_push before e = fold_push with_agent [] before e
-
-known_agent : (agents : List (List ℕ)) (e : Event) → list_any (name_eq e.id.agent) agents ≡ true → with_agent agents e ≡ agents
-known_agent agents e h = cond-true (list_any (name_eq e.id.agent) agents) agents (agents ++ e.id.agent ∷ []) h
-
-next_agent : (agents : List (List ℕ)) (e : Event) → list_any (name_eq e.id.agent) agents ≡ false → with_agent agents e ≡ agents ++ e.id.agent ∷ []
-next_agent agents e h = cond-false (list_any (name_eq e.id.agent) agents) agents (agents ++ e.id.agent ∷ []) h
-
--- later events only add agents
-agents_grow : (agents : List (List ℕ)) (events : List Event) → (more : List (List ℕ)) × (fold with_agent agents events ≡ agents ++ more)
-agents_grow agents [] = ([], sym (append-nil agents))
-agents_grow agents (e ∷ events) =
-    let rest = agents_grow (with_agent agents e) events in
-    elim (cases_Bool (list_any (name_eq e.id.agent) agents)) [
-      | inl t ↦ (rest.0, rest.1 ∙ ap (λ xs. xs ++ rest.0) (known_agent agents e t))
-      | inr f ↦ (e.id.agent ∷ rest.0, rest.1 ∙ ap (λ xs. xs ++ rest.0) (next_agent agents e f) ∙ append_assoc agents (e.id.agent ∷ []) rest.0)
-    ]
-
--- the agents of a history go on from those before an event
-agents_after : (before : List Event) (e : Event) (later : List Event) → (more : List (List ℕ)) × (agents_of (before ++ e ∷ later) ≡ with_agent (agents_of before) e ++ more)
-agents_after before e later =
-    let rest = agents_grow (with_agent (agents_of before) e) later in
-    (rest.0, fold-append with_agent [] before (e ∷ later) ∙ rest.1)
-
-agents_new_from : (agents : List (List ℕ)) (events : List Event) → AllNew name_eq [] agents → AllNew name_eq [] (fold with_agent agents events)
-agents_new_from agents [] h = h
-agents_new_from agents (e ∷ events) h =
-    agents_new_from (with_agent agents e) events (elim (cases_Bool (list_any (name_eq e.id.agent) agents)) [
-      | inl t ↦ subst (AllNew name_eq []) (sym (known_agent agents e t)) h
-      | inr f ↦ subst (AllNew name_eq []) (sym (next_agent agents e f)) (one_more_new name_eq names_equal name_exact [] agents e.id.agent h f)
-    ])
-
-abbrev IsGoodName : List ℕ → Type 0
-IsGoodName x = is_name x ≡ true
-
-agents_good_from : (agents : List (List ℕ)) (events : List Event) → AllByRecursion IsGoodName agents → AreSound events → AllByRecursion IsGoodName (fold with_agent agents events)
-agents_good_from agents [] h sound = h
-agents_good_from agents (e ∷ events) h sound =
-    agents_good_from (with_agent agents e) events (elim (cases_Bool (list_any (name_eq e.id.agent) agents)) [
-      | inl t ↦ subst (AllByRecursion IsGoodName) (sym (known_agent agents e t)) h
-      | inr f ↦ subst (AllByRecursion IsGoodName) (sym (next_agent agents e f)) (all_joined IsGoodName agents (e.id.agent ∷ []) h (sound.0.id.agent, tt))
-    ]) sound.1
-
--- no more agents than events
-pub agents_few_from : (agents : List (List ℕ)) (events : List Event) → length (fold with_agent agents events) ≤ length agents + length events
-agents_few_from agents [] = omega arith
-agents_few_from agents (e ∷ events) =
-    let rest = agents_few_from (with_agent agents e) events in
-    elim (cases_Bool (list_any (name_eq e.id.agent) agents)) [
-      | inl t ↦ let same = ap (λ (xs : List (List ℕ)). length xs) (known_agent agents e t) in omega arith
-      | inr f ↦ let more = ap (λ (xs : List (List ℕ)). length xs) (next_agent agents e f) ∙ length-append agents (e.id.agent ∷ []) in omega arith
-    ]
-
--- no more agents than events
-pub few_agents : (events : List Event) → length (agents_of events) ≤ length events
-few_agents events = omega (arith, agents_few_from [] events)
+use Rattle.ew_model.proofs.AgentLaws.{agents_push, known_agent, next_agent, agents_after, agents_new_from, agents_good_from, agents_few_from, ids_count, IsGoodName}
+use Rattle.ew_model.proofs.ListPlaces.{place_kept, one_more_new, used_or_next, used_is_open, next_is_open}
+use Rattle.file_words.proofs.FileFields.{Takes, Takes-then, go_ok, number_takes, number_again, names_take, names_again}
+use Rattle.ew_model.proofs.IdLaws.{names_equal, name_exact}
+use Rattle.file_words.proofs.FileRecords.{id_eq_exact, parent_bytes, record_at, IsSetting, MayFollow, record_takes, record_again}
 
 -- ---- records
 
@@ -177,10 +118,6 @@ agent_open before e later =
       | inl t ↦ subst P (sym (after.1 ∙ ap (λ xs. xs ++ after.0) (known_agent used e t))) (used_is_open name_eq names_equal name_exact used after.0 e.id.agent t)
       | inr f ↦ subst P (sym (after.1 ∙ ap (λ xs. xs ++ after.0) (next_agent used e f) ∙ append_assoc used (e.id.agent ∷ []) after.0)) (next_is_open name_eq names_equal name_exact used after.0 e.id.agent f)
     ]
-
-pub ids_count : (events : List Event) → length (ids_of events) ≡ length events
-ids_count [] = refl
-ids_count (e ∷ events) = ap suc (ids_count events)
 
 records_again : (later before : List Event) (agents : List (List ℕ)) (left : List ℕ) → agents ≡ agents_of (before ++ later) → AreSound later → are_writable_after before later ≡ true → length agents < 2 ^ 32 → length (before ++ later) < 2 ^ 32 → read_records agents before (length later) (records_at agents before later ++ left) ≡ Ok (before ++ later, left)
 unfolding read_records

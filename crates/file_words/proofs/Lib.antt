@@ -1,0 +1,5 @@
+pub mod FileEvents
+pub mod FileFields
+pub mod FileReading
+pub mod FileRecords
+pub mod Rows

@@ -1,0 +1,3 @@
+-- Worked rows: what the definitions compute to.
+mod File
+mod FileFaults
