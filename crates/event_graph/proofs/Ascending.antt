@@ -7,8 +7,9 @@ use Rattle.std.specs.declared.cmp.Ordering.TheVariants.{Less, Equal, Greater}
 use Rattle.std.proofs.lemmas.Bool.{and_parts}
 use Rattle.ew_model.specs.declared.id.Id.{Id}
 use Rattle.ew_model.specs.Ids.{id_cmp, id_lt, ids_ascend}
+use Rattle.ew_model.proofs.MarkGroups.{ties_sorted}
 use Rattle.ew_model.proofs.PathOrder.{id_total}
-use Rattle.ew_model.proofs.SortingLaws.{NoTies, all_at, all_from, below_all}
+use Rattle.ew_model.proofs.SortingLaws.{NoTies, below_all}
 
 less_of : (r : Ordering) → is_lt r ≡ true → r ≡ Less
 less_of Less h = refl
@@ -25,11 +26,5 @@ strictly (x ∷ y ∷ ids) h =
     let rest = strictly (y ∷ ids) parts.1 in
     ((up, below_all id_total x y ids up rest.0), rest)
 
-no_ties : (ids : List Id) → IsStrictlySortedBy id_cmp ids → NoTies id_cmp ids
-unfolding IsStrictlySortedBy
-no_ties [] h = tt
-no_ties (x ∷ ids) h =
-    (all_from (λ y. id_cmp x y ≡ Equal → ⊥) ids (λ y m tie. let less : id_cmp x y ≡ Less = all_at (λ z. id_cmp x z ≡ Less) ids y h.0 m in cc), no_ties ids h.1)
-
 pub ascending_ties : (ids : List Id) → ids_ascend ids ≡ true → NoTies id_cmp ids
-ascending_ties ids h = no_ties ids (strictly ids h)
+ascending_ties ids h = ties_sorted ids (strictly ids h)

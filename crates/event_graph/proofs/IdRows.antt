@@ -1,16 +1,13 @@
 -- The rows by an event's id.
-use Rattle.std.proofs.Common.{◌≡◌, ℕ, Bool, true, false, ◌&&◌, ◌==◌, List, [], ◌∷◌, ◌++◌, position, Some, None, is_some, refl, sym, ap, ◌∙◌, subst, append-nil}
+use Rattle.std.proofs.Common.{◌≡◌, ℕ, Bool, true, false, List, [], ◌∷◌, ◌++◌, position, Some, None, is_some, refl, sym, ap, ◌∙◌, subst, append-nil}
 use Rattle.std.specs.Prelude.{slice_get}
 use Rattle.std.specs.List.{list_any}
 use Rattle.std.specs.Bool.{then_some}
-use Rattle.std.specs.Cmp.Lexicographic.{pointwise}
-use Rattle.std.proofs.lemmas.Bool.{false≢true, false_from_ne_true, and_parts, eqb-true}
+use Rattle.std.proofs.lemmas.Bool.{false≢true, false_from_ne_true}
 use Rattle.ew_model.specs.declared.id.Id.{Id}
-use Rattle.ew_model.specs.declared.event.Op.{Op}
-use Rattle.ew_model.specs.declared.event.Op.TheVariants.{Ins, Del}
 use Rattle.ew_model.specs.declared.event.Event.{Event}
 use Rattle.ew_model.specs.Ids.{id_eq}
-use Rattle.ew_model.specs.Events.{op_eq, event_eq}
+use Rattle.ew_model.specs.Events.{event_eq}
 use Rattle.ew_model.specs.Ancestors.{ids_of, is_held, ancestors}
 use Rattle.ew_model.specs.Ids.{is_among}
 use Rattle.ew_model.specs.Verdicts.{id_rows}
@@ -25,27 +22,7 @@ use Rattle.ew_model.proofs.VersionLaws.{any_from, found_by}
 use Rattle.event_graph.specs.Rows.{row_in}
 use Rattle.event_graph.proofs.Places.{event_among}
 use Rattle.ew_model.proofs.ListParts.{is_some-position}
-use Rattle.ew_model.proofs.SameEvents.{same_ids}
-
-same_ops : (o p : Op) → op_eq o p ≡ true → o ≡ p
-same_ops (Ins i c) (Ins j d) e =
-    let parts = and_parts (i == j) (c == d) e in
-    let at : i ≡ j = eqb-true i j parts.0 in
-    let ch : c ≡ d = eqb-true c d parts.1 in
-    λ k. Ins (at k) (ch k)
-same_ops (Ins i c) (Del j) e = absurd (false≢true e)
-same_ops (Del i) (Ins j d) e = absurd (false≢true e)
-same_ops (Del i) (Del j) e = let at : i ≡ j = eqb-true i j e in λ k. Del (at k)
-
--- equal by the test, they are one
-event_exact : (e f : Event) → event_eq e f ≡ true → e ≡ f
-event_exact e f h =
-    let parts = and_parts (id_eq e.id f.id && pointwise id_eq e.parents f.parents) (op_eq e.op f.op) h in
-    let first = and_parts (id_eq e.id f.id) (pointwise id_eq e.parents f.parents) parts.0 in
-    let id : e.id ≡ f.id = (is_same_id e.id f.id).0 first.0 in
-    let parents : e.parents ≡ f.parents = same_ids e.parents f.parents first.1 in
-    let op : e.op ≡ f.op = same_ops e.op f.op parts.1 in
-    λ i. record { id = id i; parents = parents i; op = op i }
+use Rattle.ew_model.proofs.SameEvents.{same_events}
 
 repeats : (a b : Bool) → a ≡ true → row_in (then_some a Repeat ∷ then_some b Clash ∷ []) ≡ Some Repeat
 repeats true b h = refl
@@ -78,7 +55,7 @@ row_of_clash history e f place there h id other =
     (ap (λ (l : List Event). list_any (event_eq e) l) (append-nil history)
     ∙ false_from_ne_true (list_any (event_eq e) history) (λ q.
     let g = found_by (event_eq e) history q in
-    let same : e ≡ g.0 = event_exact e g.0 g.2 in
+    let same : e ≡ g.0 = same_events e g.0 g.2 in
     let ids : f.id ≡ g.0.id = sym id ∙ ap (λ (x : Event). x.id) same in
     other (same ∙ sym (one_event [] history f g.0 there m g.1 ((is_same_id f.id g.0.id).1 ids)))))
     (ap (λ (l : List Event). is_held l e.id) (append-nil history) ∙ (ap (is_held history) id ∙ held_of history f m))

@@ -11,7 +11,7 @@ use Rattle.ew_model.specs.Sound.{IsSound, AreSound}
 use Rattle.critical.specs.KeptCuts.{KeptCuts, kept_for}
 use Rattle.event_runs.specs.BareEvents.{BareEvent, bare, parents_in}
 use Rattle.event_graph.specs.Keeping.{AreAdmittedAfter, IsAdmitted, bare_events, IsKeptOf}
-use Rattle.event_graph.specs.Tails.{TailMark, mark_of}
+use Rattle.event_graph.specs.Tails.{Standing, hold_of}
 use Rattle.event_graph.proofs.Admitted.{laid}
 use Rattle.event_graph.proofs.Grown.{bare_grown, parents_kept}
 
@@ -72,17 +72,17 @@ module _ (now : List Event) (n : ℕ) (admitted : IsAdmitted now) (reach : n ≡
     cuts_are = cuts_are;
   }
 
--- what is kept of the events that were marked
-pub kept_front : (now : List Event) (ids : List Id) (events : List BareEvent) (heads : List ℕ) (cuts : KeptCuts) (tail : TailMark) → IsKeptOf now ids events heads cuts → tail ≡ mark_of (take tail.count now)
+-- what is kept of the events that were held on to
+pub kept_front : (now : List Event) (ids : List Id) (events : List BareEvent) (heads : List ℕ) (cuts : KeptCuts) (tail : Standing) → IsKeptOf now ids events heads cuts → tail ≡ hold_of (take tail.count now)
     → IsKeptOf (take tail.count now) (take tail.count ids) (take tail.count events) tail.heads tail.cuts
-kept_front now ids events heads cuts tail kept marked =
-    front_kept now tail.count kept.admitted (ap (λ (t : TailMark). t.count) marked) kept.sound ids events tail.heads tail.cuts kept.ids_are kept.events_are (ap (λ (t : TailMark). t.heads) marked) (ap (λ (t : TailMark). t.cuts) marked)
+kept_front now ids events heads cuts tail kept held_on =
+    front_kept now tail.count kept.admitted (ap (λ (t : Standing). t.count) held_on) kept.sound ids events tail.heads tail.cuts kept.ids_are kept.events_are (ap (λ (t : Standing). t.heads) held_on) (ap (λ (t : Standing). t.cuts) held_on)
 
 -- the parts of a graph that came back
-pub cut_back : (now : List Event) (ids : List Id) (events : List BareEvent) (heads : List ℕ) (cuts : KeptCuts) (tail inside : TailMark) (new_ids : List Id) (new_events : List BareEvent) → IsKeptOf now ids events heads cuts → inside ≡ tail
-    → tail ≡ mark_of (take tail.count now) → new_ids ≡ take inside.count ids → new_events ≡ take inside.count events → IsKeptOf (take tail.count now) new_ids new_events inside.heads inside.cuts
-cut_back now ids events heads cuts tail inside new_ids new_events kept same marked is are =
-    let front = kept_front now ids events heads cuts inside kept (subst (λ (t : TailMark). t ≡ mark_of (take t.count now)) (sym same) marked) in
-    subst (λ (n : ℕ). IsKeptOf (take n now) new_ids new_events inside.heads inside.cuts) (ap (λ (t : TailMark). t.count) same)
+pub cut_back : (now : List Event) (ids : List Id) (events : List BareEvent) (heads : List ℕ) (cuts : KeptCuts) (tail inside : Standing) (new_ids : List Id) (new_events : List BareEvent) → IsKeptOf now ids events heads cuts → inside ≡ tail
+    → tail ≡ hold_of (take tail.count now) → new_ids ≡ take inside.count ids → new_events ≡ take inside.count events → IsKeptOf (take tail.count now) new_ids new_events inside.heads inside.cuts
+cut_back now ids events heads cuts tail inside new_ids new_events kept same held_on is are =
+    let front = kept_front now ids events heads cuts inside kept (subst (λ (t : Standing). t ≡ hold_of (take t.count now)) (sym same) held_on) in
+    subst (λ (n : ℕ). IsKeptOf (take n now) new_ids new_events inside.heads inside.cuts) (ap (λ (t : Standing). t.count) same)
     (subst (λ (xs : List Id). IsKeptOf (take inside.count now) xs new_events inside.heads inside.cuts) (sym is)
     (subst (λ (es : List BareEvent). IsKeptOf (take inside.count now) (take inside.count ids) es inside.heads inside.cuts) (sym are) front))

@@ -5,11 +5,11 @@ use Rattle.ew_model.specs.Positions.{frontier_of, parent_positions}
 use Rattle.critical.specs.KeptCuts.{KeptCuts, kept_for}
 
 -- how many events a history has, the positions of its heads, and its critical cuts
-pub record TailMark : Type 0 where
+pub record Standing : Type 0 where
   pub count : ℕ
   pub heads : List ℕ
   pub cuts : KeptCuts
 
--- the mark of a history
-abbrev pub mark_of : List Event → TailMark
-mark_of history = record { count = length history; heads = frontier_of (parent_positions history); cuts = kept_for (parent_positions history) }
+-- where a history stands
+abbrev pub hold_of : List Event → Standing
+hold_of history = record { count = length history; heads = frontier_of (parent_positions history); cuts = kept_for (parent_positions history) }

@@ -1,9 +1,12 @@
 //! What a type tells of its values.
 
+ghost use Rattle.std.specs.Prelude.{◌≡◌, ◌<◌, ◌^◌, true};
+ghost use Rattle.ew_model.specs.Names.{is_name};
 ghost use Rattle.ew_model.specs.Sound.{IsSoundId, IsSoundOp};
 
 use ew_model::event::Op;
 use ew_model::id::Id;
+use ew_model::name::Name;
 
 /// Values whose parts lie in the ranges of their types. A proof knows how far a number reaches, and how long a name is, only where
 /// code reads it. So `facts` reads each part and says where it lies. When the program runs, it does nothing.
@@ -29,14 +32,27 @@ impl Facts for Op {
     ghost is_sound = { λ op. IsSoundOp op };
 
     fn facts(&self) {
-        match *self {
+        match self {
             Op::Ins { at, ch } => {
-                let _index = at;
-                let _character = ch;
+                let _index = *at;
+                let _character = *ch;
             }
             Op::Del { at } => {
-                let _index = at;
+                let _index = *at;
+            }
+            Op::Mark { label } => {
+                let _label = label.as_slice();
             }
         }
+    }
+}
+
+impl Facts for (Name, u32) {
+    ghost is_sound = { λ own. (is_name own.0 ≡ true) × (own.1 < 2 ^ 32) };
+
+    fn facts(&self) {
+        let (agent, count) = self;
+        let _agent = agent.as_slice();
+        let _count = *count;
     }
 }

@@ -8,10 +8,11 @@ ghost use Rattle.ew_model.specs.declared.event.Event.{Event};
 ghost use Rattle.ew_model.specs.Ancestors as model;
 ghost use Rattle.ew_model.specs.Answers.{ruling_of};
 ghost use Rattle.ew_model.specs.Cuts.{is_critical, latest_cut};
+ghost use Rattle.ew_model.specs.Edits.{count_of};
 ghost use Rattle.ew_model.specs.Ids.{id_eq, is_among, ids_ascend};
 ghost use Rattle.ew_model.specs.Positions.{parents_at, known_alone, positions_in, parent_positions};
 ghost use Rattle.ew_model.specs.Sound.{AreSound};
-ghost use Rattle.ew_model.specs.Verdicts.{id_rows, parent_rows, first_unknown, follows_its_agent, graph_verdict};
+ghost use Rattle.ew_model.specs.Verdicts.{id_rows, parent_rows, first_unknown, has_number_below, follows_its_agent, graph_verdict};
 ghost use Rattle.ew_model.specs.Verdicts.Ruling.{Good};
 ghost use Rattle.frontier.specs.Chains.{IsChain};
 ghost use Rattle.ancestors.specs.Floors.{HasAllBelow};
@@ -45,7 +46,7 @@ use std::alloc::Global;
 use std::marker::Model;
 
 /// The most parents of an event.
-const MOST_PARENTS: usize = 16;
+pub const MOST_PARENTS: usize = 16;
 
 /// A history of events, each of which was judged good when it came. Contracts see the list of its events, the oldest
 /// first. A position is a place in that list, from 0; a parameter that is called `lv`, for local version, is one too.
@@ -365,14 +366,35 @@ impl Graph {
         requires { positions.now ≡ positions_in self.now e.now.parents }
         ensures { IfOk result (λ b. b ≡ follows_its_agent self.now e.now) }
     {
-        if e.id.seq == 0 {
+        self.know_number_below(e.parents.as_slice(), positions, &e.id.agent, e.id.seq)
+    }
+
+    /// Whether one of these ascending ids is the agent's last event, or has it as an ancestor. So it is of any ids where the agent
+    /// has no event.
+    pub fn know_last_of(&self, ids: &[Id], agent: &Name) -> Result<bool, NoMem>
+        requires { ids_ascend ids.now ≡ true }
+        ensures { IfOk result (λ b. b ≡ has_number_below (model.ancestors self.now ids.now) agent.now (count_of self.now agent.now)) }
+    {
+        let positions = self.positions_of(ids)?;
+        self.know_number_below(ids, &positions, agent, self.count_of(agent))
+    }
+
+    /// Whether the number is 0, or the agent's event with the number below is among the ancestors of these ids.
+    fn know_number_below(
+        &self,
+        named: &[Id],
+        positions: &[u32],
+        agent: &Name,
+        n: u32,
+    ) -> Result<bool, NoMem>
+        requires { positions.now ≡ positions_in self.now named.now }
+        ensures { IfOk result (λ b. b ≡ has_number_below (model.ancestors self.now named.now) agent.now n) }
+    {
+        let Some(seq) = n.checked_sub(1) else {
             return Ok(true);
-        }
-        let before = Id {
-            agent: e.id.agent,
-            seq: e.id.seq - 1,
         };
-        self.knows(e.parents.as_slice(), positions, &before)
+        let before = Id { agent: *agent, seq };
+        self.knows(named, positions, &before)
     }
 
     /// Whether an id is held, and is among the ancestors of these.
@@ -396,19 +418,19 @@ impl Graph {
     {
         let parents = e.parents.as_slice();
         match self.find_last(parents) {
-            Some(last) => self.put(e.id, e.op, &[last]),
+            Some(last) => self.put(e.id, &e.op, &[last]),
             None => {
                 let positions = self.positions_of(parents)?;
-                self.put(e.id, e.op, positions.as_slice())
+                self.put(e.id, &e.op, positions.as_slice())
             }
         }
     }
 
     /// Puts the event behind the others that has this id and operation, and whose parents stand at these positions.
-    pub(crate) fn put(&mut self, id: Id, op: Op, positions: &[u32]) -> Result<(), NoMem>
-        requires next { (parents : List Id) × IsGoodBehind self.old positions.now (event_on id op parents) }
+    pub(crate) fn put(&mut self, id: Id, op: &Op, positions: &[u32]) -> Result<(), NoMem>
+        requires next { (parents : List Id) × IsGoodBehind self.old positions.now (event_on id op.now parents) }
         requires room { length self.old + 1 < 2 ^ 32 }
-        ensures ok { OnOk result ((parents : List Id) → IsGoodBehind self.old positions.now (event_on id op parents) → self.new ≡ self.old ++ event_on id op parents ∷ []) }
+        ensures ok { OnOk result ((parents : List Id) → IsGoodBehind self.old positions.now (event_on id op.now parents) → self.new ≡ self.old ++ event_on id op.now parents ∷ []) }
         ensures err { OnErr result (self.new ≡ self.old) }
     {
         id.facts();
@@ -421,11 +443,11 @@ impl Graph {
     }
 
     /// Puts an event behind the others that goes on from the last one, where that is the only head. No id is made.
-    pub(crate) fn put_on_last(&mut self, op: Op) -> Result<(), NoMem>
+    pub(crate) fn put_on_last(&mut self, op: &Op) -> Result<(), NoMem>
         requires some { 0 < length self.old }
         requires room { length self.old + 1 < 2 ^ 32 }
         requires head { positions_in self.old (model.heads self.old) ≡ (length self.old - 1) ∷ [] }
-        ensures ok { OnOk result ((x : Id) × (last_id self.old ≡ Some x) × (self.new ≡ self.old ++ event_behind x op ∷ [])) }
+        ensures ok { OnOk result ((x : Id) × (last_id self.old ≡ Some x) × (self.new ≡ self.old ++ event_behind x op.now ∷ [])) }
         ensures err { OnErr result (self.new ≡ self.old) }
     {
         op.facts();
@@ -434,10 +456,10 @@ impl Graph {
     }
 
     /// Puts an event after the others that was judged good, and whose parents stand at these positions.
-    fn append(&mut self, after: &After, op: Op, positions: &[u32]) -> Result<(), NoMem>
-        requires next { (e : Event) × IsNextAfter self.old after.now positions.now op e }
+    fn append(&mut self, after: &After, op: &Op, positions: &[u32]) -> Result<(), NoMem>
+        requires next { (e : Event) × IsNextAfter self.old after.now positions.now op.now e }
         requires room { length self.old + 1 < 2 ^ 32 }
-        ensures ok { OnOk result ((e : Event) → IsNextAfter self.old after.now positions.now op e → self.new ≡ self.old ++ e ∷ []) }
+        ensures ok { OnOk result ((e : Event) → IsNextAfter self.old after.now positions.now op.now e → self.new ≡ self.old ++ e ∷ []) }
         ensures err { OnErr result (self.new ≡ self.old) }
     {
         append(
@@ -482,27 +504,27 @@ impl Parentage for Graph {
     }
 }
 
-/// Where a graph stood once: the events that came since are its tail. Contracts see how many events there were, the
-/// positions of the heads, and the critical cuts.
+/// A hold on a graph: what is needed to come back to where it stood. Contracts see how many events there were, the positions of the
+/// heads, and the critical cuts.
 #[derive(Drop)]
-pub struct Tail {
+pub struct Hold {
     count: u32,
     heads: Frontier,
     cuts: Cuts,
 }
 
-impl Model for Tail {
-    ghost use Rattle.event_graph.specs.Tails.{TailMark};
+impl Model for Hold {
+    ghost use Rattle.event_graph.specs.Tails.{Standing};
 
-    ghost Value = { TailMark };
+    ghost Value = { Standing };
 
-    ghost view = { λ t. record { count = t.count; heads = t.heads; cuts = t.cuts } };
+    ghost view = { λ h. record { count = h.count; heads = h.heads; cuts = h.cuts } };
 }
 
 impl Graph {
     ghost use Rattle.std.specs.Prelude.{take};
     ghost use Rattle.ew_model.specs.Edits.{count_of};
-    ghost use Rattle.event_graph.specs.Tails.{mark_of};
+    ghost use Rattle.event_graph.specs.Tails.{hold_of};
 
     /// How many events of the agent there are, which is the number of its next one.
     pub fn count_of(&self, agent: &Name) -> u32
@@ -527,25 +549,32 @@ impl Graph {
         }
     }
 
-    /// Remembers where the graph stands, so that it can come back.
-    pub fn mark(&self) -> Result<Tail, NoMem>
-        ensures { IfOk result (λ t. t ≡ mark_of self.now) }
+    /// Holds on to where the graph stands, so that it can come back.
+    pub fn hold(&self) -> Result<Hold, NoMem>
+        ensures { IfOk result (λ h. h ≡ hold_of self.now) }
     {
-        Ok(Tail {
+        Ok(Hold {
             count: self.events.count(),
             heads: self.heads.copy()?,
             cuts: self.cuts.copy()?,
         })
     }
 
-    /// Takes out all events that came since the tail was marked. It takes no memory.
-    pub fn drop_tail(&mut self, tail: Tail)
-        requires { tail ≡ mark_of (take tail.count self.old) }
-        ensures { self.new ≡ take tail.count self.old }
+    /// Takes out all events that came since the hold. It ends the hold, and takes no memory.
+    pub fn drop_tail(&mut self, hold: Hold)
+        requires { hold ≡ hold_of (take hold.count self.old) }
+        ensures { self.new ≡ take hold.count self.old }
     {
-        self.ids.truncate(tail.count);
-        self.events.truncate(tail.count);
-        self.heads = tail.heads;
-        self.cuts = tail.cuts;
+        self.ids.truncate(hold.count);
+        self.events.truncate(hold.count);
+        self.heads = hold.heads;
+        self.cuts = hold.cuts;
+    }
+
+    /// Keeps all events that came since the hold, and ends it.
+    pub fn keep(&self, hold: Hold)
+        requires { hold ≡ hold_of (take hold.count self.now) }
+    {
+        drop(hold);
     }
 }

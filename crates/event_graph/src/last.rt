@@ -56,14 +56,14 @@ impl Graph {
     {
         let position = self.count() - 1;
         if is_only_place(self.frontier().as_slice(), position) {
-            return self.put_on_last(op);
+            return self.put_on_last(&op);
         }
         let last = self.id_from_end(position);
         let next = Id {
             agent: last.agent,
             seq: last.seq + 1,
         };
-        self.put(next, op, &[position])?;
+        self.put(next, &op, &[position])?;
         Ok(())
     }
 }

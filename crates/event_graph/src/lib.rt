@@ -10,6 +10,7 @@ pub mod near;
 mod parts;
 mod subgraph;
 
-pub use graph::{Graph, Tail};
+pub use facts::Facts;
+pub use graph::{Graph, Hold, MOST_PARENTS};
 pub use last::is_next;
 pub use near::Near;

@@ -40,7 +40,7 @@ pub fn append(
     heads: &mut Frontier,
     cuts: &mut Cuts,
     after: &After,
-    op: Op,
+    op: &Op,
     parents: &[u32],
 ) -> Result<(), NoMem>
     requires some { (x : Id) × (id_after after.now ids.old ≡ Some x) }
@@ -52,7 +52,7 @@ pub fn append(
     requires few { after.now ≡ Last → 0 < length runs.old }
     requires room { length runs.old + 1 < 2 ^ 32 }
     ensures ids { OnOk result ((x : Id) → id_after after.now ids.old ≡ Some x → ids.new ≡ ids.old ++ x ∷ []) }
-    ensures runs { OnOk result (runs.new ≡ runs.old ++ bare op parents.now ∷ []) }
+    ensures runs { OnOk result (runs.new ≡ runs.old ++ bare op.now parents.now ∷ []) }
     ensures heads { OnOk result ((history : List (List ℕ)) → IsHistoryOfParents history → length runs.old ≡ length history → heads.old ≡ frontier_of history → StandsOn after.now (length runs.old) heads.old parents.now → heads.new ≡ frontier_of (history ++ parents.now ∷ [])) }
     ensures cuts { OnOk result ((history : List (List ℕ)) → IsHistoryOfParents history → cuts.old ≡ kept_for history → heads.old ≡ frontier_of history → StandsOn after.now (length runs.old) heads.old parents.now → is_reduced_at history parents.now ≡ true → cuts.new ≡ kept_for (history ++ parents.now ∷ [])) }
     ensures same_ids { OnErr result (ids.new ≡ ids.old) }
@@ -90,7 +90,7 @@ fn append_bare(
     heads: &mut Frontier,
     cuts: &mut Cuts,
     after: &After,
-    op: Op,
+    op: &Op,
     parents: &[u32],
 ) -> Result<(), NoMem>
     requires cut_count { cuts.old.count ≡ length runs.old }
@@ -98,7 +98,7 @@ fn append_bare(
     requires parents { AreParents (length runs.old) parents.now }
     requires few { after.now ≡ Last → 0 < length runs.old }
     requires room { length runs.old + 1 < 2 ^ 32 }
-    ensures runs { OnOk result (runs.new ≡ runs.old ++ bare op parents.now ∷ []) }
+    ensures runs { OnOk result (runs.new ≡ runs.old ++ bare op.now parents.now ∷ []) }
     ensures heads { OnOk result ((history : List (List ℕ)) → IsHistoryOfParents history → length runs.old ≡ length history → heads.old ≡ frontier_of history → StandsOn after.now (length runs.old) heads.old parents.now → heads.new ≡ frontier_of (history ++ parents.now ∷ [])) }
     ensures cuts { OnOk result ((history : List (List ℕ)) → IsHistoryOfParents history → cuts.old ≡ kept_for history → heads.old ≡ frontier_of history → StandsOn after.now (length runs.old) heads.old parents.now → is_reduced_at history parents.now ≡ true → cuts.new ≡ kept_for (history ++ parents.now ∷ [])) }
     ensures same_runs { OnErr result (runs.new ≡ runs.old) }
@@ -106,7 +106,7 @@ fn append_bare(
     ensures same_cuts { OnErr result (cuts.new ≡ cuts.old) }
 {
     let count = runs.count();
-    runs.append(op, parents)?;
+    runs.append(*op, parents)?;
     if let Err(fault) = move_heads(alloc, heads, cuts, after, count, parents) {
         runs.truncate(count);
         return Err(fault);

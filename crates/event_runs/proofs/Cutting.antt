@@ -2,7 +2,7 @@
 use Rattle.std.proofs.Common.{◌≡◌, ℕ, zero, suc, ◌+◌, ◌-◌, ◌<◌, ◌≤◌, List, [], ◌∷◌, ◌++◌, length, get_or, slice_range, slice_index_or, take, drop, refl, sym, ap, ◌∙◌, arith, length-append}
 use Rattle.std.proofs.Math.Seq.{take-append_seam, drop-append_seam, take-length}
 use Rattle.event_runs.specs.Pieces.{pieces, start_of, AreEnds}
-use Rattle.ew_model.proofs.FileReading.{take_first}
+use Rattle.ew_model.proofs.ListPlaces.{take_first}
 
 pub length-pieces : (start : ℕ) (ends numbers : List ℕ) → length (pieces start ends numbers) ≡ length ends
 length-pieces start [] numbers = refl

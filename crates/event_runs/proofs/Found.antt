@@ -6,23 +6,28 @@ use Rattle.ew_model.specs.Positions.{AreParents, IsHistoryOfParents, parents_at}
 use Rattle.frontier.specs.Chains.{IsChain}
 use Rattle.event_runs.specs.declared.runs.Run.{Run}
 use Rattle.event_runs.specs.BareEvents.{BareEvent, parents_in}
-use Rattle.event_runs.specs.KeptRuns.{parents_behind, event_in, events_in, AreKept, IsHeldAt}
+use Rattle.event_runs.specs.KeptRuns.{Told, HasLabel, parents_behind, event_in, events_in, AreKept, IsHeldAt}
 use Rattle.event_runs.specs.Runs.{AreRunsOf, IsRunStart}
 use Rattle.event_runs.proofs.Maximal.{parted, are_runs_of}
-use Rattle.event_runs.proofs.RunEvents.{IsWithin, length-events_in, run_within, read_events}
+use Rattle.event_runs.proofs.RunEvents.{IsWithin, length-events_in, run_within, label_within, read_events}
+
+-- the characters and the labels together
+abbrev pub told_by : List ℕ → List (List ℕ) → Told
+told_by chars labels = record { chars = chars; labels = labels }
 
 -- the run that has the event at a position
-pub record HasFound (cs : List ℕ) (runs : List Run) (lists : List (List ℕ)) (count place lv : ℕ) (run : Run) : Type 0 where
+pub record HasFound (cs : Told) (runs : List Run) (lists : List (List ℕ)) (count place lv : ℕ) (run : Run) : Type 0 where
   pub there : slice_get runs place ≡ Some run
   pub from : run.start ≤ lv
   pub to : lv ≤ run.start + run.more
-  pub within : IsWithin run 0 count (length cs)
+  pub within : IsWithin run 0 count (length cs.chars)
+  pub label : HasLabel run.kind run.at (length cs.labels)
   pub event : slice_get (events_in cs runs lists) lv ≡ Some (event_in cs run (slice_index_or lists place []) (lv - run.start))
 
 pub held_within : (runs seen : List Run) (place lv : ℕ) → seen ≡ runs → IsHeldAt seen place lv → place < length runs
 held_within runs seen place lv same h = slice_get_within runs place h.run (ap (λ (rs : List Run). slice_get rs place) (sym same) ∙ h.there)
 
-pub found : (cs : List ℕ) (runs seen : List Run) (lists : List (List ℕ)) (count place lv : ℕ) (run : Run) → AreKept runs lists cs count → seen ≡ runs → IsHeldAt seen place lv → run ≡ get_or runs place run → HasFound cs runs lists count place lv run
+pub found : (cs : Told) (runs seen : List Run) (lists : List (List ℕ)) (count place lv : ℕ) (run : Run) → AreKept runs lists cs count → seen ≡ runs → IsHeldAt seen place lv → run ≡ get_or runs place run → HasFound cs runs lists count place lv run
 found cs runs seen lists count place lv run k same h read =
     let there : slice_get runs place ≡ Some h.run = ap (λ (rs : List Run). slice_get rs place) (sym same) ∙ h.there in
     let held : h.run ≡ run = sym (read ∙ get_or_from_slice_get runs place h.run run there) in
@@ -30,16 +35,17 @@ found cs runs seen lists count place lv run k same h read =
       there = there;
       from = h.from;
       to = h.to;
-      within = run_within runs lists 0 0 count (length cs) place h.run k.in_line there;
-      event = read_events cs runs lists 0 0 count (length cs) lv place lv h.run k.in_line there h.from h.to (omega arith);
+      within = run_within runs lists 0 0 count (length cs.chars) place h.run k.in_line there;
+      label = label_within runs 0 (length cs.labels) place h.run k.labelled there;
+      event = read_events cs runs lists 0 0 count (length cs.chars) lv place lv h.run k.in_line there h.from h.to (omega arith);
     })
 
-pub within_count : (cs : List ℕ) (runs : List Run) (lists : List (List ℕ)) (count lv : ℕ) (events : List BareEvent) → AreKept runs lists cs count → events_in cs runs lists ≡ events → lv < length events → lv < count
+pub within_count : (cs : Told) (runs : List Run) (lists : List (List ℕ)) (count lv : ℕ) (events : List BareEvent) → AreKept runs lists cs count → events_in cs runs lists ≡ events → lv < length events → lv < count
 within_count cs runs lists count lv events k e l =
-    let all = length-events_in cs runs lists 0 0 count (length cs) k.in_line in
+    let all = length-events_in cs runs lists 0 0 count (length cs.chars) k.in_line in
     let same = ap (length {A = BareEvent}) e in omega (arith, all, same, l)
 
-pub found_parents : (cs : List ℕ) (runs : List Run) (lists : List (List ℕ)) (count place lv : ℕ) (run : Run) → HasFound cs runs lists count place lv run
+pub found_parents : (cs : Told) (runs : List Run) (lists : List (List ℕ)) (count place lv : ℕ) (run : Run) → HasFound cs runs lists count place lv run
     → parents_at (parents_in (events_in cs runs lists)) lv ≡ parents_behind (slice_index_or lists place []) run.start (lv - run.start)
 found_parents cs runs lists count place lv run f =
     get_or_from_slice_get (parents_in (events_in cs runs lists)) lv (parents_behind (slice_index_or lists place []) run.start (lv - run.start)) [] (slice_get-map (λ (e : BareEvent). e.parents) (events_in cs runs lists) lv ∙ ap (option_map (λ (e : BareEvent). e.parents)) f.event)
@@ -54,7 +60,7 @@ later_parents first start lv l =
     ap (parents_behind first start) some ∙ ap (λ n. n ∷ []) last
 
 -- the run's events up to this one are each on the one before
-pub chained : (cs : List ℕ) (runs : List Run) (lists : List (List ℕ)) (count place lv : ℕ) (run : Run) → AreKept runs lists cs count → HasFound cs runs lists count place lv run → IsChain (parents_in (events_in cs runs lists)) run.start lv
+pub chained : (cs : Told) (runs : List Run) (lists : List (List ℕ)) (count place lv : ℕ) (run : Run) → AreKept runs lists cs count → HasFound cs runs lists count place lv run → IsChain (parents_in (events_in cs runs lists)) run.start lv
 chained cs runs lists count place lv run k f = record {
   order = f.from;
   links = λ p from to.
@@ -65,22 +71,22 @@ chained cs runs lists count place lv run k f = record {
 }
 
 -- the run is one of the history's, and begins there
-pub begun : (cs : List ℕ) (runs : List Run) (lists : List (List ℕ)) (count place lv : ℕ) (run : Run) → AreKept runs lists cs count → HasFound cs runs lists count place lv run → IsRunStart (events_in cs runs lists) lv run.start
+pub begun : (cs : Told) (runs : List Run) (lists : List (List ℕ)) (count place lv : ℕ) (run : Run) → AreKept runs lists cs count → HasFound cs runs lists count place lv run → IsRunStart (events_in cs runs lists) lv run.start
 begun cs runs lists count place lv run k f =
-    let parts = parted cs runs lists 0 0 count (length cs) place run k.in_line f.there in
+    let parts = parted cs runs lists 0 0 count (length cs.chars) place run k.in_line f.there in
     record {
       before = parts.before;
       run = parts.run;
       after = parts.after;
-      runs = subst (AreRunsOf (events_in cs runs lists)) (sym parts.parts) (are_runs_of cs runs lists count (length cs) k.in_line);
+      runs = subst (AreRunsOf (events_in cs runs lists)) (sym parts.parts) (are_runs_of cs runs lists count (length cs.chars) k.in_line);
       starts = let at = parts.starts in omega (arith, at);
       from = f.from;
       to = let long = parts.long in let to = f.to in omega (arith, long, to);
     }
 
-pub lower_parents : (cs : List ℕ) (runs : List Run) (lists : List (List ℕ)) (count lv : ℕ) → AreKept runs lists cs count → lv < count → AreParents lv (parents_at (parents_in (events_in cs runs lists)) lv)
+pub lower_parents : (cs : Told) (runs : List Run) (lists : List (List ℕ)) (count lv : ℕ) → AreKept runs lists cs count → lv < count → AreParents lv (parents_at (parents_in (events_in cs runs lists)) lv)
 lower_parents cs runs lists count lv k l =
-    let all = length-events_in cs runs lists 0 0 count (length cs) k.in_line in
+    let all = length-events_in cs runs lists 0 0 count (length cs.chars) k.in_line in
     let same = length-map (events_in cs runs lists) (λ (e : BareEvent). e.parents) in
     k.history lv (omega (arith, all, same, l))
 
@@ -98,17 +104,17 @@ history_front lists n l h = λ j m.
     subst (AreParents j) (sym (read_take lists n j low)) (h j (omega (arith, low, l)))
 
 -- THE PARENTS of the event that was looked for: of a run's first event, and of any other
-pub parents_first : (cs : List ℕ) (runs : List Run) (lists : List (List ℕ)) (count place lv : ℕ) (run : Run) (events : List BareEvent) → HasFound cs runs lists count place lv run → events_in cs runs lists ≡ events → run.start ≡ lv
+pub parents_first : (cs : Told) (runs : List Run) (lists : List (List ℕ)) (count place lv : ℕ) (run : Run) (events : List BareEvent) → HasFound cs runs lists count place lv run → events_in cs runs lists ≡ events → run.start ≡ lv
     → slice_index_or lists place [] ≡ parents_at (parents_in events) lv
 parents_first cs runs lists count place lv run events f e at =
     sym (found_parents cs runs lists count place lv run f ∙ first_parents (slice_index_or lists place []) run.start lv at) ∙ ap (λ (es : List BareEvent). parents_at (parents_in es) lv) e
 
-pub parents_later : (cs : List ℕ) (runs : List Run) (lists : List (List ℕ)) (count place lv : ℕ) (run : Run) (events : List BareEvent) → HasFound cs runs lists count place lv run → events_in cs runs lists ≡ events → (run.start ≡ lv → ⊥)
+pub parents_later : (cs : Told) (runs : List Run) (lists : List (List ℕ)) (count place lv : ℕ) (run : Run) (events : List BareEvent) → HasFound cs runs lists count place lv run → events_in cs runs lists ≡ events → (run.start ≡ lv → ⊥)
     → (lv - 1) ∷ [] ≡ parents_at (parents_in events) lv
 parents_later cs runs lists count place lv run events f e apart =
     let from = f.from in
     sym (found_parents cs runs lists count place lv run f ∙ later_parents (slice_index_or lists place []) run.start lv (omega (arith, from, apart))) ∙ ap (λ (es : List BareEvent). parents_at (parents_in es) lv) e
 
-pub lower_in : (cs : List ℕ) (runs : List Run) (lists : List (List ℕ)) (count lv : ℕ) (events : List BareEvent) → AreKept runs lists cs count → events_in cs runs lists ≡ events → lv < length events → AreParents lv (parents_at (parents_in events) lv)
+pub lower_in : (cs : Told) (runs : List Run) (lists : List (List ℕ)) (count lv : ℕ) (events : List BareEvent) → AreKept runs lists cs count → events_in cs runs lists ≡ events → lv < length events → AreParents lv (parents_at (parents_in events) lv)
 lower_in cs runs lists count lv events k e l =
     subst (λ (es : List BareEvent). AreParents lv (parents_at (parents_in es) lv)) e (lower_parents cs runs lists count lv k (within_count cs runs lists count lv events k e l))

@@ -4,18 +4,18 @@ use Rattle.std.specs.List.{AllWithin, range_with_len}
 use Rattle.std.proofs.lemmas.List.FromFn.{length-map-range_with_len}
 use Rattle.std.proofs.lemmas.Option.{same_Some, slice_get-get_or, get_or_from_slice_get}
 use Rattle.ew_model.specs.declared.event.Op.{Op}
-use Rattle.ew_model.specs.declared.event.Op.TheVariants.{Ins}
+use Rattle.ew_model.specs.declared.event.Op.TheVariants.{Ins, Mark}
 use Rattle.event_runs.specs.declared.runs.Run.{Run}
 use Rattle.event_runs.specs.declared.runs.RunKind.{RunKind}
-use Rattle.event_runs.specs.declared.runs.RunKind.TheVariants.{Insertions, Deletions, BackDeletions}
+use Rattle.event_runs.specs.declared.runs.RunKind.TheVariants.{Insertions, Deletions, BackDeletions, Marks}
 use Rattle.event_runs.specs.BareEvents.{BareEvent, bare}
-use Rattle.event_runs.specs.KeptRuns.{op_in, parents_behind, event_in, run_events, events_in, chars_of, chars_to_end, Fits, AreRuns}
+use Rattle.event_runs.specs.KeptRuns.{Told, op_in, parents_behind, event_in, run_events, events_in, chars_of, chars_to_end, Fits, AreRuns, labels_of, IsLabel, AreLabelled, HasLabel}
 
 -- HOW MANY there are
-pub length-run_events : (chars : List ℕ) (r : Run) (first : List ℕ) → length (run_events chars r first) ≡ suc r.more
+pub length-run_events : (chars : Told) (r : Run) (first : List ℕ) → length (run_events chars r first) ≡ suc r.more
 length-run_events chars r first = length-map-range_with_len (event_in chars r first) 0 (suc r.more)
 
-pub length-events_in : (cs : List ℕ) (runs : List Run) (lists : List (List ℕ)) (start place end long : ℕ) → AreRuns start place runs lists end long → start + length (events_in cs runs lists) ≡ end
+pub length-events_in : (cs : Told) (runs : List Run) (lists : List (List ℕ)) (start place end long : ℕ) → AreRuns start place runs lists end long → start + length (events_in cs runs lists) ≡ end
 length-events_in cs [] [] start place end long r = let stop = r.0 in omega (arith, stop)
 length-events_in cs [] (f ∷ lists) start place end long r = absurd r
 length-events_in cs (x ∷ runs) [] start place end long r = absurd r
@@ -42,6 +42,7 @@ few_chars : (kind : RunKind) (n : ℕ) → chars_of kind n ≤ n
 few_chars Insertions n = omega arith
 few_chars Deletions n = omega arith
 few_chars BackDeletions n = omega arith
+few_chars Marks n = omega arith
 
 pub chars_within : (runs : List Run) (lists : List (List ℕ)) (start place end long : ℕ) → AreRuns start place runs lists end long → place ≤ start → long ≤ end
 chars_within [] [] start place end long r l = let stop = r.0 in let all = r.1 in omega (arith, stop, all, l)
@@ -135,10 +136,10 @@ skip_part f a zero rest p q e = let same : q ≡ p = omega (arith, e) in ap (sli
 skip_part f a (suc n) rest p zero e = absurd (omega (arith, e))
 skip_part f a (suc n) rest p (suc q) e = skip_part f (a + 1) n rest p q (omega (arith, e))
 
-pub read_run : (cs : List ℕ) (r : Run) (first : List ℕ) (rest : List BareEvent) (k : ℕ) → k ≤ r.more → slice_get (run_events cs r first ++ rest) k ≡ Some (event_in cs r first k)
+pub read_run : (cs : Told) (r : Run) (first : List ℕ) (rest : List BareEvent) (k : ℕ) → k ≤ r.more → slice_get (run_events cs r first ++ rest) k ≡ Some (event_in cs r first k)
 read_run cs r first rest k l = let e : 0 + k ≡ k = omega arith in read_part (event_in cs r first) 0 (suc r.more) rest k (omega (arith, l)) ∙ ap (λ j. Some (event_in cs r first j)) e
 
-pub read_events : (cs : List ℕ) (runs : List Run) (lists : List (List ℕ)) (start place end long position i p : ℕ) (x : Run) → AreRuns start place runs lists end long → slice_get runs i ≡ Some x
+pub read_events : (cs : Told) (runs : List Run) (lists : List (List ℕ)) (start place end long position i p : ℕ) (x : Run) → AreRuns start place runs lists end long → slice_get runs i ≡ Some x
     → x.start ≤ position → position ≤ x.start + x.more → start + p ≡ position → slice_get (events_in cs runs lists) p ≡ Some (event_in cs x (slice_index_or lists i []) (position - x.start))
 read_events cs [] lists start place end long position i p x r e l h q = let no : ⊥ = cc in absurd no
 read_events cs (y ∷ runs) [] start place end long position i p x r e l h q = absurd r
@@ -155,27 +156,60 @@ read_events cs (y ∷ runs) (f ∷ lists) start place end long position (suc i) 
     skip_part (event_in cs y f) 0 (suc y.more) (events_in cs runs lists) (p - suc y.more) p (omega (arith, high, l, q))
     ∙ read_events cs runs lists (start + suc y.more) (place + chars_of y.kind (suc y.more)) end long position i (p - suc y.more) x r.4 e l h back
 
--- THEIR OWN CHARACTERS are enough
+-- THE LABELS of the marks
+pub labels_end : (runs : List Run) (n end : ℕ) → AreLabelled n runs end → (n ≤ end) × (end ≤ n + length runs)
+labels_end [] n end a = (omega (arith, a), omega (arith, a))
+labels_end (r ∷ runs) n end a =
+    let more = labels_end runs (n + labels_of r.kind) end a.1 in
+    let one = few_labels r.kind in
+    (omega (arith, more.0), omega (arith, more.1, one))
+  where
+    few_labels : (kind : RunKind) → labels_of kind ≤ 1
+    few_labels Insertions = omega arith
+    few_labels Deletions = omega arith
+    few_labels BackDeletions = omega arith
+    few_labels Marks = omega arith
+
+label_here : (kind : RunKind) (at n end : ℕ) → IsLabel kind at n → n + labels_of kind ≤ end → HasLabel kind at end
+label_here Insertions at n end is low = tt
+label_here Deletions at n end is low = tt
+label_here BackDeletions at n end is low = tt
+label_here Marks at n end is low = omega (arith, is, low)
+
+pub label_within : (runs : List Run) (n end i : ℕ) (x : Run) → AreLabelled n runs end → slice_get runs i ≡ Some x → HasLabel x.kind x.at end
+label_within [] n end i x a e = let no : ⊥ = cc in absurd no
+label_within (y ∷ runs) n end zero x a e =
+    subst (λ (z : Run). HasLabel z.kind z.at end) (same_Some y x e) (label_here y.kind y.at n end a.0 (labels_end runs (n + labels_of y.kind) end a.1).0)
+label_within (y ∷ runs) n end (suc i) x a e = label_within runs (n + labels_of y.kind) end i x a.1 e
+
+-- THEIR OWN CHARACTERS and labels are enough
 pub map_same : {X : Type 0} (f g : ℕ → X) (a n : ℕ) → ((k : ℕ) → k < n → f (a + k) ≡ g (a + k)) → map f (range_with_len a n) ≡ map g (range_with_len a n)
 map_same f g a zero h = refl
 map_same f g a (suc n) h =
     let e : a + 0 ≡ a = omega arith in
     λ i. subst (λ k. f k ≡ g k) e (h 0 (omega arith)) i ∷ map_same f g (a + 1) n (λ k l. let s : a + suc k ≡ a + 1 + k = omega arith in subst (λ j. f j ≡ g j) s (h (suc k) (omega (arith, l)))) i
 
-pub op_same : (kind : RunKind) (at place : ℕ) (cs ds : List ℕ) (k n long : ℕ) → k < n → place + chars_of kind n ≤ long → ((j : ℕ) → j < long → get_or cs j 0 ≡ get_or ds j 0) → op_in kind at place cs k ≡ op_in kind at place ds k
-op_same Insertions at place cs ds k n long l m h = ap (λ c. Ins (at + k) c) (h (place + k) (omega (arith, l, m)))
-op_same Deletions at place cs ds k n long l m h = refl
-op_same BackDeletions at place cs ds k n long l m h = refl
+-- characters up to a number, and labels up to one, are the same in both
+pub record AgreeTo (cs ds : Told) (long most : ℕ) : Type 0 where
+  pub chars : (j : ℕ) → j < long → get_or cs.chars j 0 ≡ get_or ds.chars j 0
+  pub labels : (j : ℕ) → j < most → get_or cs.labels j [] ≡ get_or ds.labels j []
 
-pub run_same : (cs ds : List ℕ) (r : Run) (first : List ℕ) (long : ℕ) → chars_to_end r ≤ long → ((j : ℕ) → j < long → get_or cs j 0 ≡ get_or ds j 0) → run_events cs r first ≡ run_events ds r first
-run_same cs ds r first long m h =
+pub op_same : (kind : RunKind) (at place : ℕ) (cs ds : Told) (k n long labels : ℕ) → k < n → place + chars_of kind n ≤ long → HasLabel kind at labels → AgreeTo cs ds long labels → op_in kind at place cs k ≡ op_in kind at place ds k
+op_same Insertions at place cs ds k n long labels l m has h = ap (λ c. Ins (at + k) c) (h.chars (place + k) (omega (arith, l, m)))
+op_same Deletions at place cs ds k n long labels l m has h = refl
+op_same BackDeletions at place cs ds k n long labels l m has h = refl
+op_same Marks at place cs ds k n long labels l m has h = ap Mark (h.labels at has)
+
+pub run_same : (cs ds : Told) (r : Run) (first : List ℕ) (long labels : ℕ) → chars_to_end r ≤ long → HasLabel r.kind r.at labels → AgreeTo cs ds long labels → run_events cs r first ≡ run_events ds r first
+run_same cs ds r first long labels m has h =
     map_same (event_in cs r first) (event_in ds r first) 0 (suc r.more) (λ k l.
-    ap (λ (op : Op). bare op (parents_behind first r.start (0 + k))) (op_same r.kind r.at r.chars_before cs ds (0 + k) (suc r.more) long (omega (arith, l)) m h))
+    ap (λ (op : Op). bare op (parents_behind first r.start (0 + k))) (op_same r.kind r.at r.chars_before cs ds (0 + k) (suc r.more) long labels (omega (arith, l)) m has h))
 
-pub events_same : (cs ds : List ℕ) (runs : List Run) (lists : List (List ℕ)) (start place end long : ℕ) → AreRuns start place runs lists end long → ((j : ℕ) → j < long → get_or cs j 0 ≡ get_or ds j 0)
+pub events_same : (cs ds : Told) (runs : List Run) (lists : List (List ℕ)) (start place n end long labels : ℕ) → AreRuns start place runs lists end long → AreLabelled n runs labels → AgreeTo cs ds long labels
     → events_in cs runs lists ≡ events_in ds runs lists
-events_same cs ds [] lists start place end long r h = refl
-events_same cs ds (x ∷ runs) [] start place end long r h = refl
-events_same cs ds (x ∷ runs) (f ∷ lists) start place end long r h =
+events_same cs ds [] lists start place n end long labels r b h = refl
+events_same cs ds (x ∷ runs) [] start place n end long labels r b h = refl
+events_same cs ds (x ∷ runs) (f ∷ lists) start place n end long labels r b h =
     let within = run_within (x ∷ runs) (f ∷ lists) start place end long 0 x r refl in
-    λ i. run_same cs ds x f long within.chars h i ++ events_same cs ds runs lists (start + suc x.more) (place + chars_of x.kind (suc x.more)) end long r.4 h i
+    let has = label_within (x ∷ runs) n labels 0 x b refl in
+    λ i. run_same cs ds x f long labels within.chars has h i ++ events_same cs ds runs lists (start + suc x.more) (place + chars_of x.kind (suc x.more)) (n + labels_of x.kind) end long labels r.4 b.1 h i

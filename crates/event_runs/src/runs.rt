@@ -1,14 +1,16 @@
 //! Runs of neighbouring events.
 
-ghost use Rattle.std.specs.Prelude.{◌≡◌, ◌↔◌, ℕ, suc, ◌+◌, ◌<◌, ◌≤◌, ◌^◌, List, [], ◌∷◌, ◌++◌, length, slice_set, slice_get, Some, IsTrue, IfSome, IfNone, OnOk, OnErr};
-ghost use Rattle.std.specs.List.{AllWithin};
+ghost use Rattle.std.specs.Prelude.{◌≡◌, ◌↔◌, ℕ, suc, ◌+◌, ◌<◌, ◌≤◌, ◌^◌, List, [], ◌∷◌, ◌++◌, length, take, slice_set, slice_get, Some, IsTrue, IfSome, IfNone, OnOk, OnErr};
+ghost use Rattle.std.specs.List.{AllWithin, find};
+ghost use Rattle.std.specs.Option.{option_copied};
 ghost use Rattle.event_runs.specs.declared.runs.Run.{Run};
 ghost use Rattle.event_runs.specs.declared.runs.RunKind.{RunKind};
-ghost use Rattle.event_runs.specs.KeptRuns.{op_in, run_of_one, inserts, other_kind, longer, shorter, chars_to_end, IsNext, JoinsAs, LastJoinsAs, Fits, AreRuns, IsHeldAt, GrowBy, AreCutAt};
+ghost use Rattle.event_runs.specs.KeptRuns.{op_in, run_of_one, sort_of, is_mark, other_kind, longer, shorter, chars_to_end, IsNext, JoinsAs, LastJoinsAs, Fits, HasLabel, AreRuns, AreLabelled, first_label, IsHeldAt, GrowBy, AreCutAt};
 
 use crate::lists::NumberLists;
 use ew_model::NoMem;
 use ew_model::event::Op;
+use ew_model::name::Name;
 
 /// How the operations of a run go on from one another.
 #[derive(Clone, Copy)]
@@ -19,6 +21,16 @@ pub enum RunKind {
     Deletions,
     /// Deletions, each at the index right before that of the one before.
     BackDeletions,
+    /// One mark: none goes on from another.
+    Marks,
+}
+
+/// What the events of a run do: only runs of one sort can be one.
+#[derive(Clone, Copy, PartialEq, Eq)]
+pub enum Sort {
+    Inserting,
+    Deleting,
+    Marking,
 }
 
 /// Neighbouring events, each on the one before, of one kind.
@@ -29,22 +41,29 @@ pub struct Run {
     /// How many more there are.
     pub more: u32,
     pub kind: RunKind,
-    /// The index of the first operation.
+    /// The index of the first operation; of a mark, the place of its label.
     pub at: u32,
     /// How many characters the runs before this one insert: the place of its own first one.
     pub chars_before: u32,
 }
 
 impl RunKind {
-    /// Whether a run of the kind inserts characters.
-    fn inserts(self) -> bool
-        ensures { result ≡ inserts self }
+    /// What the events of a run of the kind do.
+    fn sort(self) -> Sort
+        ensures { result ≡ sort_of self }
     {
         match self {
-            RunKind::Insertions => true,
-            RunKind::Deletions => false,
-            RunKind::BackDeletions => false,
+            RunKind::Insertions => Sort::Inserting,
+            RunKind::Deletions => Sort::Deleting,
+            RunKind::BackDeletions => Sort::Deleting,
+            RunKind::Marks => Sort::Marking,
         }
+    }
+
+    fn is_mark(self) -> bool
+        ensures { result ≡ is_mark self }
+    {
+        self.sort() == Sort::Marking
     }
 
     /// The kind that a run of one event could be of as well.
@@ -55,6 +74,7 @@ impl RunKind {
             RunKind::Insertions => RunKind::Insertions,
             RunKind::Deletions => RunKind::BackDeletions,
             RunKind::BackDeletions => RunKind::Deletions,
+            RunKind::Marks => RunKind::Marks,
         }
     }
 
@@ -66,18 +86,20 @@ impl RunKind {
             RunKind::Insertions => next > at && next - at - 1 == more,
             RunKind::Deletions => next == at,
             RunKind::BackDeletions => at > next && at - next - 1 == more,
+            RunKind::Marks => false,
         }
     }
 }
 
 impl Run {
-    /// The run of one event, so many characters being inserted before it.
-    pub fn of_one(start: u32, op: Op, chars_before: u32) -> Run
-        ensures { result ≡ run_of_one start op chars_before }
+    /// The run of one event, so many characters being inserted before it, and so many marks standing there.
+    pub fn of_one(start: u32, op: &Op, chars_before: u32, marks_before: u32) -> Run
+        ensures { result ≡ run_of_one start op.now chars_before marks_before }
     {
         let (kind, at) = match op {
-            Op::Ins { at, .. } => (RunKind::Insertions, at),
-            Op::Del { at } => (RunKind::Deletions, at),
+            Op::Ins { at, .. } => (RunKind::Insertions, *at),
+            Op::Del { at } => (RunKind::Deletions, *at),
+            Op::Mark { .. } => (RunKind::Marks, marks_before),
         };
         Run {
             start,
@@ -97,15 +119,17 @@ impl Run {
             RunKind::Insertions => before + self.more as usize + 1,
             RunKind::Deletions => before,
             RunKind::BackDeletions => before,
+            RunKind::Marks => before,
         }
     }
 
     /// The operation so many places behind the first one.
-    pub fn op_behind(&self, offset: u32, chars: &[char]) -> Op
+    pub fn op_behind(&self, offset: u32, chars: &[char], labels: &[Name]) -> Op
         requires within { offset ≤ self.now.more }
         requires fits { Fits self.now.kind self.now.at self.now.more }
         requires chars { chars_to_end self.now ≤ length chars.now }
-        ensures { result ≡ op_in self.now.kind self.now.at self.now.chars_before chars.now offset }
+        requires label { HasLabel self.now.kind self.now.at (length labels.now) }
+        ensures { result ≡ op_in self.now.kind self.now.at self.now.chars_before (record { chars = chars.now; labels = labels.now }) offset }
     {
         match self.kind {
             RunKind::Insertions => Op::Ins {
@@ -116,6 +140,9 @@ impl Run {
             RunKind::BackDeletions => Op::Del {
                 at: self.at - offset,
             },
+            RunKind::Marks => Op::Mark {
+                label: labels[self.at as usize],
+            },
         }
     }
 
@@ -124,7 +151,7 @@ impl Run {
         ensures some { IfSome result (λ kind. JoinsAs self.now one.now kind) }
         ensures none { IfNone result ((kind : RunKind) → JoinsAs self.now one.now kind → ⊥) }
     {
-        if self.kind.inserts() != one.kind.inserts() {
+        if self.kind.sort() != one.kind.sort() {
             None
         } else if self.kind.has_next(self.at, self.more, one.at) {
             Some(self.kind)
@@ -273,14 +300,33 @@ fn start_run(
     Ok(())
 }
 
-/// Leaves the events below a position, and says how many characters they insert.
-pub fn keep_below(runs: &mut Vec<Run>, end: u32) -> usize
+/// Leaves the events below a position with their labels, and says how many characters they insert.
+pub fn keep_below(runs: &mut Vec<Run>, labels: &mut Vec<Name>, end: u32) -> usize
     requires { (lists : List (List ℕ)) × (count : ℕ) × (chars : ℕ) × AreRuns 0 0 runs.old.items lists count chars }
-    ensures { (lists : List (List ℕ)) (count chars : ℕ) → AreRuns 0 0 runs.old.items lists count chars → end ≤ count → AreCutAt runs.old.items runs.new.items lists chars end result }
+    ensures events { (lists : List (List ℕ)) (count chars : ℕ) → AreRuns 0 0 runs.old.items lists count chars → end ≤ count → AreCutAt runs.old.items runs.new.items lists chars end result }
+    ensures labels { AreLabelled 0 runs.old.items (length labels.old.items) → AreLabelled 0 runs.new.items (length labels.new.items) }
+    ensures front { (n : ℕ) × (labels.new.items ≡ take n labels.old.items) }
 {
     let kept = count_below(runs, end);
+    labels.truncate(first_label(&runs[kept..], labels.len()));
     runs.truncate(kept);
     shorten_last(runs, end)
+}
+
+/// The place of the first mark's label, or else the one behind the last.
+fn first_label(runs: &[Run], all: usize) -> usize
+    ensures { result ≡ first_label runs.now all }
+{
+    match first_mark(runs) {
+        Some(run) => run.at as usize,
+        None => all,
+    }
+}
+
+fn first_mark(runs: &[Run]) -> Option<&Run>
+    ensures { option_copied result ≡ find (λ r. is_mark r.kind) runs.now }
+{
+    runs.iter().find(|run| run.kind.is_mark())
 }
 
 /// Leaves the events of the last run below a position, and says how many characters there are up to their end.

@@ -3,7 +3,7 @@
 ghost use Rattle.std.specs.Prelude.{◌≡◌, ℕ, ◌+◌, ◌<◌, ◌≤◌, ◌^◌, List, [], ◌∷◌, ◌++◌, length, take, Some, slice_get, vec_len, vec_capacity, OnOk, OnErr, IsOkAnd};
 ghost use Rattle.ew_model.specs.Positions.{AreParents, IsHistoryOfParents, parents_at};
 ghost use Rattle.event_runs.specs.BareEvents.{BareEvent, bare, ops_in, parents_in};
-ghost use Rattle.event_runs.specs.KeptRuns.{op_chars};
+ghost use Rattle.event_runs.specs.KeptRuns.{op_chars, op_labels};
 ghost use Rattle.event_runs.specs.Runs.{AreRunsOf, IsRunCount, IsRunStart};
 ghost use Rattle.frontier.specs.Chains.{IsChain};
 
@@ -11,6 +11,7 @@ use crate::lists::NumberLists;
 use crate::runs::{Run, find_run, find_run_near, keep_below, put};
 use ew_model::NoMem;
 use ew_model::event::Op;
+use ew_model::name::Name;
 use frontier::Parentage;
 use smallvec::SmallVec;
 use std::alloc::Global;
@@ -24,6 +25,8 @@ pub struct EventRuns {
     parents: NumberLists,
     /// The characters of all insertions.
     chars: Vec<char>,
+    /// The labels of all marks.
+    labels: Vec<Name>,
     count: u32,
 }
 
@@ -34,9 +37,9 @@ impl Model for EventRuns {
 
     ghost Value = { List BareEvent };
 
-    ghost view = { λ r. events_in r.chars.items r.runs.items r.parents };
+    ghost view = { λ r. events_in (record { chars = r.chars.items; labels = r.labels.items }) r.runs.items r.parents };
 
-    ghost invariant = { λ r. AreKept r.runs.items r.parents r.chars.items r.count };
+    ghost invariant = { λ r. AreKept r.runs.items r.parents (record { chars = r.chars.items; labels = r.labels.items }) r.count };
 }
 
 impl EventRuns {
@@ -48,6 +51,7 @@ impl EventRuns {
             runs: Vec::new(alloc),
             parents: NumberLists::new(alloc),
             chars: Vec::new(alloc),
+            labels: Vec::new(alloc),
             count: 0,
         })
     }
@@ -76,11 +80,18 @@ impl EventRuns {
         ensures ok { OnOk result (self.new ≡ self.old ++ bare op parents.now ∷ []) }
         ensures err { OnErr result (self.new ≡ self.old) }
     {
-        // Room for a character, used or not: behind `put` nothing fails.
+        // Room for a character and a label, used or not: behind `put` nothing fails.
         self.chars.reserve(1)?;
-        let one = Run::of_one(self.count, op, self.chars.len() as u32);
+        self.labels.reserve(1)?;
+        let one = Run::of_one(
+            self.count,
+            &op,
+            self.chars.len() as u32,
+            self.labels.len() as u32,
+        );
         put(&mut self.runs, &mut self.parents, one, parents)?;
-        put_char(&mut self.chars, op);
+        put_char(&mut self.chars, &op);
+        put_label(&mut self.labels, &op);
         self.count += 1;
         Ok(())
     }
@@ -104,7 +115,7 @@ impl EventRuns {
         let place = find_run_near(&self.runs, lv, *near);
         *near = place;
         let run = self.runs[place];
-        run.op_behind(lv - run.start, &self.chars)
+        run.op_behind(lv - run.start, &self.chars, &self.labels)
     }
 
     /// The position of the first event in the run of an event. The run at the place `near`, which is that of the run found last,
@@ -150,7 +161,7 @@ impl EventRuns {
         let place = find_run_near(&self.runs, lv, *near);
         *near = place;
         let run = self.runs[place];
-        let op = run.op_behind(lv - run.start, &self.chars);
+        let op = run.op_behind(lv - run.start, &self.chars, &self.labels);
         if run.start == lv {
             (op, inline_from(alloc, self.parents.get(place)))
         } else {
@@ -163,7 +174,7 @@ impl EventRuns {
         ensures { self.new ≡ take n self.old }
     {
         if n < self.count {
-            let chars = keep_below(&mut self.runs, n);
+            let chars = keep_below(&mut self.runs, &mut self.labels, n);
             self.parents.truncate(self.runs.len());
             self.chars.truncate(chars);
             self.count = n;
@@ -200,12 +211,22 @@ impl Parentage for EventRuns {
 }
 
 /// Puts the operation's character, if it inserts one, behind the others, where there is room for it.
-fn put_char(chars: &mut Vec<char>, op: Op)
+fn put_char(chars: &mut Vec<char>, op: &Op)
     requires { vec_len chars.old < vec_capacity chars.old }
-    ensures { chars.new.items ≡ chars.old.items ++ op_chars op }
+    ensures { chars.new.items ≡ chars.old.items ++ op_chars op.now }
 {
     if let Op::Ins { ch, .. } = op {
-        chars.push_reserved(ch);
+        chars.push_reserved(*ch);
+    }
+}
+
+/// Puts the operation's label, if it is a mark, behind the others, where there is room for it.
+fn put_label(labels: &mut Vec<Name>, op: &Op)
+    requires { vec_len labels.old < vec_capacity labels.old }
+    ensures { labels.new.items ≡ labels.old.items ++ op_labels op.now }
+{
+    if let Op::Mark { label } = op {
+        labels.push_reserved(*label);
     }
 }
 

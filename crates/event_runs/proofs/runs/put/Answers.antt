@@ -4,16 +4,21 @@ use Rattle.std.specs.Prelude.{OnOk}
 use Rattle.event_runs.specs.declared.runs.Run.{Run}
 use Rattle.event_runs.specs.declared.runs.RunKind.{RunKind}
 use Rattle.event_runs.specs.BareEvents.{BareEvent}
-use Rattle.event_runs.specs.KeptRuns.{event_in, chars_of, AreRuns, LastJoinsAs, GrowBy}
+use Rattle.event_runs.specs.KeptRuns.{event_in, chars_of, labels_of, IsLabel, AreRuns, AreLabelled, LastJoinsAs, with_more, GrowBy}
 use Rattle.event_runs.proofs.RunEvents.{events_same}
-use Rattle.event_runs.proofs.RunLines.{HasMore, more_in, started_in}
+use Rattle.event_runs.proofs.RunLines.{HasMore, more_in, started_in, labelled_more, labelled_own}
 use Rattle.event_runs.proofs.runs.put.Goals as goal
 
-grown : (runs new : List Run) (lists more : List (List ℕ)) (s : Run) (parents : List ℕ) → AreRuns 0 0 runs lists s.start s.chars_before → s.more ≡ 0 → HasMore runs new lists more s parents 0 0 s.start s.chars_before → GrowBy runs new lists more s parents
-grown runs new lists more s parents a none h = record {
-  events = λ chars c long. h.events (chars ++ c) ∙ ap (λ (es : List BareEvent). es ++ event_in (chars ++ c) s parents 0 ∷ [])
-      (events_same (chars ++ c) chars runs lists 0 0 s.start s.chars_before a (λ j l. get_or_append_left chars c 0 j (omega (arith, l, long))));
+grown : (runs new : List Run) (lists more : List (List ℕ)) (s : Run) (parents : List ℕ) → AreRuns 0 0 runs lists s.start s.chars_before → s.more ≡ 0 → HasMore runs new lists more s parents 0 0 s.start s.chars_before
+    → ((n : ℕ) → AreLabelled 0 runs n → IsLabel s.kind s.at n → AreLabelled 0 new (n + labels_of s.kind)) → GrowBy runs new lists more s parents
+grown runs new lists more s parents a none h labelled = record {
+  events = λ told c l long are. h.events (with_more told c l) ∙ ap (λ (es : List BareEvent). es ++ event_in (with_more told c l) s parents 0 ∷ [])
+      (events_same (with_more told c l) told runs lists 0 0 0 s.start s.chars_before (length told.labels) a are (record {
+        chars = λ j low. get_or_append_left told.chars c 0 j (omega (arith, low, long));
+        labels = λ j low. get_or_append_left told.labels l [] j low;
+      }));
   in_line = let one : 1 ≡ suc s.more = omega (arith, none) in subst (λ n. AreRuns 0 0 new more (s.start + 1) (s.chars_before + chars_of s.kind n)) one h.in_line;
+  labelled = labelled;
 }
 
 pub returns-in-Some-clause-ok : goal.returns-in-Some-clause-ok
@@ -25,7 +30,8 @@ returns-in-Some-clause-ok c =
     let there = ap (λ (rs : List Run). slice_get rs last.place) (sym same) ∙ last.there in
     subst (λ (rs : List Run). GrowBy runs rs c.args.lists.now c.args.lists.now c.args.one c.args.parents.now) (sym (c.lengthen_last.ensures last.place last.run at there))
     (grown runs _ c.args.lists.now c.args.lists.now c.args.one c.args.parents.now c.requires.runs c.requires.one
-    (more_in runs c.args.lists.now 0 0 c.args.one.start c.args.one.chars_before last.place last.run c.args.one c.args.parents.now c.in-Some.kind c.requires.runs at there last.joins last.only refl c.requires.fits))
+    (more_in runs c.args.lists.now 0 0 c.args.one.start c.args.one.chars_before last.place last.run c.args.one c.args.parents.now c.in-Some.kind c.requires.runs at there last.joins last.only refl c.requires.fits)
+    (λ n labelled is. labelled_more runs 0 n last.place last.run c.args.one c.in-Some.kind labelled there last.joins))
 
 on_both : {T E A B C : Type 0} (r : Result T E) → (A → B → C) → OnOk r A → OnOk r B → OnOk r C
 on_both (Ok t) h a b = h a b
@@ -41,5 +47,6 @@ returns-in-None-clause-ok c =
     subst (λ (rs : List Run). GrowBy runs rs c.args.lists.now c.start_run.new.lists c.args.one c.args.parents.now) (sym more_runs)
     (subst (λ (ls : List (List ℕ)). GrowBy runs (runs ++ c.args.one ∷ []) c.args.lists.now ls c.args.one c.args.parents.now) (sym more_lists)
     (grown runs (runs ++ c.args.one ∷ []) c.args.lists.now (c.args.lists.now ++ c.args.parents.now ∷ []) c.args.one c.args.parents.now c.requires.runs c.requires.one
-    (started_in runs c.args.lists.now 0 0 c.args.one.start c.args.one.chars_before c.args.one c.args.parents.now c.requires.runs never c.requires.one refl refl c.requires.fits))))
+    (started_in runs c.args.lists.now 0 0 c.args.one.start c.args.one.chars_before c.args.one c.args.parents.now c.requires.runs never c.requires.one refl refl c.requires.fits)
+    (λ n labelled is. labelled_own runs 0 n c.args.one labelled is))))
     c.start_run.ensures.runs c.start_run.ensures.lists

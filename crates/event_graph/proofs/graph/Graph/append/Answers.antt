@@ -71,7 +71,7 @@ invariant_of-self-2 c =
     let parts = c.append.new in
     let told_of = c.in_ok-append.ensures in
     let e = c.requires.next.0 in
-    let all = kept_after now inside.ids inside.events inside.heads inside.cuts kept c.args.after.now c.args.positions.now c.args.op e c.requires.next.1 parts.ids parts.runs parts.heads parts.cuts told_of.ids told_of.runs told_of.heads told_of.cuts in
+    let all = kept_after now inside.ids inside.events inside.heads inside.cuts kept c.args.after.now c.args.positions.now c.args.op.now e c.requires.next.1 parts.ids parts.runs parts.heads parts.cuts told_of.ids told_of.runs told_of.heads told_of.cuts in
     subst (λ (h : List Event). IsKeptOf h parts.ids parts.runs parts.heads parts.cuts) (sym (told (now ++ e ∷ []) parts.ids parts.runs parts.heads parts.cuts all)) all
 
 pub returns-clause-ok : goal.returns-clause-ok
@@ -82,4 +82,4 @@ returns-clause-ok c e next =
     let parts = c.append.new in
     let told_of = c.in_ok-append.ensures in
     told (now ++ e ∷ []) parts.ids parts.runs parts.heads parts.cuts
-    (kept_after now inside.ids inside.events inside.heads inside.cuts kept c.args.after.now c.args.positions.now c.args.op e next parts.ids parts.runs parts.heads parts.cuts told_of.ids told_of.runs told_of.heads told_of.cuts)
+    (kept_after now inside.ids inside.events inside.heads inside.cuts kept c.args.after.now c.args.positions.now c.args.op.now e next parts.ids parts.runs parts.heads parts.cuts told_of.ids told_of.runs told_of.heads told_of.cuts)

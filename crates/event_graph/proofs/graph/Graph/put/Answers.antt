@@ -16,7 +16,7 @@ append-requires-clause-next c =
     let kept : IsKeptOf now inside.ids inside.events inside.heads inside.cuts = subst (λ (h : List Event). IsKeptOf h inside.ids inside.events inside.heads inside.cuts) c.self.view_is c.self.invariant in
     let all : inside.heads ≡ positions_in now (heads now) = kept.heads_are ∙ (agreement now inside.ids inside.events inside.heads inside.cuts kept).heads in
     let next = c.requires.next.1 in
-    let e = event_on c.args.id c.args.op c.requires.next.0 in
+    let e = event_on c.args.id c.args.op.now c.requires.next.0 in
     (e, record { good = next; sound = next_sound now e kept.sound next.good c.facts.ensures c.facts-2.ensures; id = refl; op_is = refl; stands = sym (c.equals.ensures.0 c.if-equals.true) ∙ all })
 
 pub append-requires-else-equals-clause-next : goal.append-requires-else-equals-clause-next
@@ -26,7 +26,7 @@ append-requires-else-equals-clause-next c =
     let kept : IsKeptOf now inside.ids inside.events inside.heads inside.cuts = subst (λ (h : List Event). IsKeptOf h inside.ids inside.events inside.heads inside.cuts) c.self.view_is c.self.invariant in
     let all : inside.heads ≡ positions_in now (heads now) = kept.heads_are ∙ (agreement now inside.ids inside.events inside.heads inside.cuts kept).heads in
     let next = c.requires.next.1 in
-    let e = event_on c.args.id c.args.op c.requires.next.0 in
+    let e = event_on c.args.id c.args.op.now c.requires.next.0 in
     (e, record { good = next; sound = next_sound now e kept.sound next.good c.facts.ensures c.facts-2.ensures; id = refl; op_is = refl; stands = λ same. true≢false (sym (c.equals.ensures.1 (all ∙ sym same)) ∙ c.if-equals.false) })
 
 pub returns-then-equals-clause-ok : goal.returns-then-equals-clause-ok
@@ -37,7 +37,7 @@ returns-then-equals-clause-ok c =
     let all : inside.heads ≡ positions_in now (heads now) = kept.heads_are ∙ (agreement now inside.ids inside.events inside.heads inside.cuts kept).heads in
     on_ok_weaker c.append.result
     (λ added parents next.
-    let e = event_on c.args.id c.args.op parents in
+    let e = event_on c.args.id c.args.op.now parents in
     added e (record { good = next; sound = next_sound now e kept.sound next.good c.facts.ensures c.facts-2.ensures; id = refl; op_is = refl; stands = sym (c.equals.ensures.0 c.if-equals.true) ∙ all }))
     c.append.ensures.ok
 
@@ -49,6 +49,6 @@ returns-else-equals-clause-ok c =
     let all : inside.heads ≡ positions_in now (heads now) = kept.heads_are ∙ (agreement now inside.ids inside.events inside.heads inside.cuts kept).heads in
     on_ok_weaker c.append-else-equals.result
     (λ added parents next.
-    let e = event_on c.args.id c.args.op parents in
+    let e = event_on c.args.id c.args.op.now parents in
     added e (record { good = next; sound = next_sound now e kept.sound next.good c.facts.ensures c.facts-2.ensures; id = refl; op_is = refl; stands = λ same. true≢false (sym (c.equals.ensures.1 (all ∙ sym same)) ∙ c.if-equals.false) }))
     c.append-else-equals.ensures.ok

@@ -2,7 +2,7 @@ use Rattle.std.proofs.Common.{◌∙◌, List, subst}
 use Rattle.ew_model.specs.declared.event.Event.{Event}
 use Rattle.event_graph.specs.Keeping.{IsKeptOf}
 use Rattle.event_graph.proofs.Kept.{length_events}
-use Rattle.event_graph.proofs.graph.Graph.mark.Goals as goal
+use Rattle.event_graph.proofs.graph.Graph.hold.Goals as goal
 
 pub returns : goal.returns
 returns c =
