@@ -1,18 +1,25 @@
 -- What stands after any apply.
-use Rattle.std.proofs.Common.{◌≡◌, ℕ, ◌<◌, ◌≤◌, true, inl, ⊎_elim, List, [], ◌∷◌, ◌++◌, map, filter, length, Some, nat_eq, refl, sym, ap, ◌∙◌, arith}
-use Rattle.std.proofs.lemmas.Bool.{or_cases, eq-eqb, eqb-true}
+use Rattle.std.proofs.Common.{◌≡◌, ℕ, ◌<◌, ◌≤◌, true, false, inl, ⊎_elim, List, [], ◌∷◌, ◌++◌, map, filter, length, Some, nat_eq, refl, sym, ap, ◌∙◌, subst, arith}
+use Rattle.std.proofs.lemmas.Bool.{or_cases, eq-eqb, eqb-true, false≢true}
 use Rattle.std.proofs.lemmas.List.{map-append}
-use Rattle.ew_model.specs.Entries.{Entry, visible}
+use Rattle.ew_model.specs.declared.id.Id.{Id}
+use Rattle.ew_model.specs.Sets.{Among}
+use Rattle.ew_model.specs.Entries.{Inserted, Entry, visible}
+use Rattle.ew_model.specs.Entries.Entry.{Insertion}
 use Rattle.ew_model.specs.Places.{Act}
 use Rattle.ew_model.specs.Tree.{Applied, Noted, next_entry, noted_as, tree_of}
-use Rattle.ew_model.specs.Records.{Record, IsRun, IsClosed, MayApply, holds, next_of, walker_records, applied_entries}
-use Rattle.ew_model.proofs.SetLaws.{joined_left, joined_right}
+use Rattle.ew_model.specs.Records.{Record, IsRun, IsClosed, MayApply, holds, inserts, next_of, walker_records, applied_entries}
+use Rattle.ew_model.proofs.SetLaws.{among_joined, joined_left, joined_right}
 use Rattle.ew_model.proofs.ListTests.{any_from, found_by}
 use Rattle.ew_model.proofs.TreeLaws.{tree_of-push}
-use Rattle.ew_model.proofs.RecordLaws.{records_tell}
+use Rattle.ew_model.proofs.RunLaws.{id_itself}
+use Rattle.ew_model.proofs.RecordLaws.{map_same, records_tell}
 use Rattle.ew_model.proofs.StateLaws.{node_of as record_node, applies_keep}
 use Rattle.advance_retreat.specs.Kept.{Kept}
-use Rattle.advance_retreat.specs.Standing.{most, is_applied, StandsFor}
+use Rattle.advance_retreat.specs.Standing.{most, kept_record, kept_target, AreChildren, is_applied, StandsFor}
+use Rattle.character_runs.specs.States.{single}
+use Rattle.advance_retreat.proofs.Keeping.{notes}
+use Rattle.advance_retreat.proofs.Nodes.{node_of-more, about-more}
 use Rattle.character_runs.proofs.Lists.{count, length-push}
 use Rattle.character_runs.proofs.Cuts.{length-mapped}
 
@@ -55,3 +62,40 @@ module _ (s : Kept) (b : ℕ) (events : List (Applied ℕ)) (prepared : List ℕ
 
   pub short_kept : length later ≤ most
   short_kept = let long = length-push events event in omega (arith, long, room)
+
+  -- where no character comes in
+  module _ (none : (x : Id) → inserts x e ≡ false) where
+    abbrev more : List (Noted ℕ)
+    more = notes s b events prepared st ++ note ∷ []
+
+    pub record_kept : (r : Record) → kept_record (notes s b events prepared st) r ≡ kept_record more r
+    record_kept r = ap (λ v. single v r.prepared r.effect) (sym (node_of-more note none (notes s b events prepared st) r.node.id))
+
+    target_kept : (n : Noted ℕ) → kept_target (notes s b events prepared st) n ≡ kept_target more n
+    target_kept n = ap (λ v. record { lv = n.name; node = v }) (sym (about-more note none (notes s b events prepared st) n.entry))
+
+    pub targets_kept : s.targets ++ kept_target (notes s b events prepared st) note ∷ [] ≡ map (kept_target (tree_of nat_eq b later)) (tree_of nat_eq b later)
+    targets_kept =
+        (λ i. old i ++ target_kept note i ∷ []) ∙ sym (map-append (kept_target more) (notes s b events prepared st) (note ∷ [])) ∙ sym (ap (λ ms. map (kept_target ms) ms) grows)
+      where
+        old : s.targets ≡ map (kept_target more) (notes s b events prepared st)
+        old = st.targets ∙ map_same (kept_target (notes s b events prepared st)) (kept_target more) (notes s b events prepared st) (λ n m. target_kept n)
+
+    pub children_kept : AreChildren b (tree_of nat_eq b later) s.attached
+    children_kept = subst (λ ms. AreChildren b ms s.attached) (sym grows) (record {
+      sound = st.children.sound;
+      paths = λ n y m h. st.children.paths n y (older n y m h) h;
+      there = λ n y m h. st.children.there n y (older n y m h) h;
+      only = λ a m. let o = st.children.only a m in (o.0, joined_left (notes s b events prepared st) (note ∷ []) o.0 o.1, o.2, o.3);
+      enough = st.children.enough;
+    })
+      where
+        older : (n : Noted ℕ) (y : Inserted) → Among n more → n.entry ≡ Insertion y → Among n (notes s b events prepared st)
+        older n y m h =
+            ⊎_elim
+            (λ old. old)
+            (λ new. ⊎_elim
+            (λ is. absurd (false≢true (sym (none y.id) ∙ ap (inserts y.id) (sym (ap (λ (w : Noted ℕ). w.entry) is) ∙ h) ∙ id_itself y.id)))
+            (λ no. absurd no)
+            new)
+            (among_joined (notes s b events prepared st) (note ∷ []) n m)

@@ -1,7 +1,6 @@
 -- What the apply of a deletion leaves, and does to the text.
-use Rattle.std.proofs.Common.{◌≡◌, ℕ, suc, ◌<◌, ◌≤◌, Bool, true, false, cond, inl, ⊎_elim, List, [], ◌∷◌, ◌++◌, map, filter, length, take, Some, option_map, slice_get, nat_eq, refl, sym, ap, ◌∙◌, subst, arith}
+use Rattle.std.proofs.Common.{◌≡◌, ℕ, suc, ◌<◌, ◌≤◌, Bool, true, false, cond, inl, List, [], ◌∷◌, ◌++◌, map, filter, length, take, Some, option_map, slice_get, nat_eq, refl, sym, ap, ◌∙◌, subst, arith}
 use Rattle.std.proofs.lemmas.Bool.{eq-eqb, false≢true}
-use Rattle.std.proofs.lemmas.List.{map-append}
 use Rattle.ew_model.specs.declared.id.Id.{Id}
 use Rattle.ew_model.specs.declared.node.Node.{Node}
 use Rattle.ew_model.specs.declared.text_op.TextOp.TheVariants.{Del, Nothing}
@@ -9,31 +8,28 @@ use Rattle.ew_model.specs.Ids.{id_eq}
 use Rattle.ew_model.specs.Sets.{Among}
 use Rattle.ew_model.specs.Operations.{next_operation}
 use Rattle.ew_model.specs.Entries.{Inserted, visible}
-use Rattle.ew_model.specs.Entries.Entry.{Insertion, Deletion}
+use Rattle.ew_model.specs.Entries.Entry.{Deletion}
 use Rattle.ew_model.specs.Places.{place}
 use Rattle.ew_model.specs.Places.Act.{DeleteAt}
 use Rattle.ew_model.specs.Tree.{Applied, Noted, next_entry, tree_of}
 use Rattle.ew_model.specs.Records.{Record, MayApply, struck, next_of, walker_records, applied_entries, prepared_entries, is_one, ones_in, effects_in}
-use Rattle.ew_model.proofs.SetLaws.{among_joined, joined_left, joined_right}
-use Rattle.ew_model.proofs.RecordLaws.{map_same}
+use Rattle.ew_model.proofs.SetLaws.{joined_right}
 use Rattle.ew_model.proofs.ReadLaws.{operations_read}
 use Rattle.ew_model.proofs.PlaceReads.{records_place}
 use Rattle.ew_model.proofs.StateLaws.{applies_tell}
 use Rattle.walker_record.specs.Stretches.{Stretch}
 use Rattle.fugue_place.specs.Attachments.{node_eq}
-use Rattle.advance_retreat.specs.declared.target.Target.{Target}
 use Rattle.character_runs.specs.declared.change.Change.TheVariants.{Strike}
 use Rattle.advance_retreat.specs.Kept.{Kept, with_deletion}
 use Rattle.character_runs.specs.States.{deletion_by, single, is_visible, visible_in, shown_in, changed, changed_at}
 use Rattle.character_runs.specs.Spots.{IsVisibleAt}
-use Rattle.advance_retreat.specs.Standing.{most, node_of, kept_record, kept_target, about, AreChildren, StandsFor}
+use Rattle.advance_retreat.specs.Standing.{most, node_of, kept_record, StandsFor}
 use Rattle.character_runs.proofs.Lists.{count, count_above}
 use Rattle.character_runs.proofs.Cuts.{count-mapped, mapped_alike, Cut, cut_at, taken}
-use Rattle.advance_retreat.proofs.Room.{CanDelete}
-use Rattle.advance_retreat.proofs.Nodes.{node_of-delete}
+use Rattle.advance_retreat.proofs.Room.{CanFollow}
+use Rattle.advance_retreat.proofs.Nodes.{node_of-more}
 use Rattle.advance_retreat.proofs.Keeping.{notes, rs, part, record_char, visible_told, about_told}
 use Rattle.advance_retreat.proofs.Applying as apply
-use Rattle.ew_model.proofs.RunLaws.{not_insertion}
 
 count_fewer : {X : Type 0} (p q : X → Bool) (xs : List X) → ((x : X) → p x ≡ true → q x ≡ true) → count p xs ≤ count q xs
 count_fewer p q [] f = omega arith
@@ -53,16 +49,13 @@ strike_one : (ns : List (Noted ℕ)) (lv : ℕ) (t : Id) (v : Node) (r : Record)
     → changed_at v Strike (kept_record ns r) ≡ kept_record (ns ++ record { name = lv; entry = Deletion t } ∷ []) (struck t r)
 strike_one ns lv t v r h =
     ap (λ c. cond c (changed Strike (kept_record ns r)) (kept_record ns r)) h ∙ at (id_eq t r.node.id)
-    ∙ sym (ap (λ w. single w (struck t r).prepared (struck t r).effect) (node_of-delete ns lv t r.node.id))
+    ∙ sym (ap (λ w. single w (struck t r).prepared (struck t r).effect) (node_of-more (record { name = lv; entry = Deletion t }) (λ x. refl) ns r.node.id))
   where
     at : (c : Bool) → cond c (changed Strike (kept_record ns r)) (kept_record ns r) ≡ single (node_of ns r.node.id) (cond c (suc r.prepared) r.prepared) (cond c false r.effect)
     at true = refl
     at false = refl
 
-abbrev about_node : ℕ → Node → Target
-about_node lv v = record { lv = lv; node = v }
-
-module _ (s : Kept) (b : ℕ) (events : List (Applied ℕ)) (prepared : List ℕ) (st : StandsFor s b events prepared) (lv : ℕ) (may : CanDelete events lv) (at k : ℕ) (found : IsVisibleAt s.records at k) where
+module _ (s : Kept) (b : ℕ) (events : List (Applied ℕ)) (prepared : List ℕ) (st : StandsFor s b events prepared) (lv : ℕ) (may : CanFollow events lv) (at k : ℕ) (found : IsVisibleAt s.records at k) where
   abbrev ns : List (Noted ℕ)
   ns = notes s b events prepared st
 
@@ -115,39 +108,13 @@ module _ (s : Kept) (b : ℕ) (events : List (Applied ℕ)) (prepared : List ℕ
   same_node : (x : Record) → Among x (rs s b events prepared st) → node_eq (node_of ns x.node.id) found.0.from ≡ id_eq t x.node.id
   same_node x m =
       ap (node_eq (node_of ns x.node.id)) (sym from_is)
-      ∙ about_told s b events prepared st (Deletion t) r.node (record_char s b events prepared st r here) refl x m
+      ∙ about_told s b events prepared st (Deletion t) (r.node, record_char s b events prepared st r here, refl) x m
 
   records_kept : map (changed_at found.0.from Strike) s.records ≡ map (kept_record (tree_of nat_eq b (events ++ next_of lv (DeleteAt at) prepared ∷ []))) (walker_records b (events ++ next_of lv (DeleteAt at) prepared ∷ []) (lv ∷ prepared))
   records_kept =
       ap (map (changed_at found.0.from Strike)) st.records
       ∙ mapped_alike kept (changed_at found.0.from Strike) (struck t) (kept_record more) (rs s b events prepared st) (λ x m. strike_one ns lv t found.0.from x (same_node x m))
       ∙ (λ i. map (kept_record (sym grows i)) (sym tells i))
-
-  targets_kept : s.targets ++ record { lv = lv; node = found.0.from } ∷ [] ≡ map (kept_target more) more
-  targets_kept =
-      (λ i. old i ++ last i ∷ []) ∙ sym (map-append (kept_target more) ns (record { name = lv; entry = Deletion t } ∷ []))
-    where
-      old : s.targets ≡ map (kept_target more) ns
-      old = st.targets ∙ map_same (kept_target ns) (kept_target more) ns (λ n m. ap (about_node n.name) (sym (node_of-delete ns lv t (about n.entry))))
-
-      last : record { lv = lv; node = found.0.from } ≡ kept_target more (record { name = lv; entry = Deletion t })
-      last = ap (about_node lv) (sym (node_of-delete ns lv t t ∙ from_is))
-
-  children_kept : AreChildren b more s.attached
-  children_kept = record {
-    sound = st.children.sound;
-    paths = λ n y m e. st.children.paths n y (older n y m e) e;
-    there = λ n y m e. st.children.there n y (older n y m e) e;
-    only = λ a m. let o = st.children.only a m in (o.0, joined_left ns (record { name = lv; entry = Deletion t } ∷ []) o.0 o.1, o.2, o.3);
-    enough = st.children.enough;
-  }
-    where
-      older : (n : Noted ℕ) (y : Inserted) → Among n more → n.entry ≡ Insertion y → Among n ns
-      older n y m e =
-          ⊎_elim
-          (λ old. old)
-          (λ new. ⊎_elim (λ is. absurd (not_insertion y t (sym (ap (λ (w : Noted ℕ). w.entry) is) ∙ e))) (λ no. absurd no) new)
-          (among_joined ns (record { name = lv; entry = Deletion t } ∷ []) n m)
 
   text_kept : length (visible (applied_entries b (events ++ next_of lv (DeleteAt at) prepared ∷ []))) ≤ most
   text_kept =
@@ -168,8 +135,9 @@ module _ (s : Kept) (b : ℕ) (events : List (Applied ℕ)) (prepared : List ℕ
     placed = apply.placed_kept s b events prepared st lv (DeleteAt at) (Deletion t) may_apply entry may.room;
     base = st.base;
     records = records_kept;
-    children = subst (λ ms. AreChildren b ms s.attached) (sym grows) children_kept;
-    targets = targets_kept ∙ sym (ap (λ ms. map (kept_target ms) ms) grows);
+    children = apply.children_kept s b events prepared st lv (DeleteAt at) (Deletion t) may_apply entry may.room (λ x. refl);
+    targets = ap (λ (v : Node). s.targets ++ record { lv = lv; node = v } ∷ []) (sym from_is)
+        ∙ apply.targets_kept s b events prepared st lv (DeleteAt at) (Deletion t) may_apply entry may.room (λ x. refl);
     short_base = st.short_base;
     short_history = apply.short_kept s b events prepared st lv (DeleteAt at) (Deletion t) may_apply entry may.room;
     short_text = text_kept;

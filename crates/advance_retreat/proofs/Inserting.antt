@@ -13,8 +13,8 @@ use Rattle.ew_model.specs.declared.text_op.TextOp.TheVariants.{Ins}
 use Rattle.ew_model.specs.Ids.{id_eq}
 use Rattle.ew_model.specs.Sets.{Among}
 use Rattle.ew_model.specs.Operations.{next_operation}
-use Rattle.ew_model.specs.Entries.{Inserted, insertions, order, visible}
-use Rattle.ew_model.specs.Entries.Entry.{Insertion}
+use Rattle.ew_model.specs.Entries.{Inserted, Entry, insertions, order, visible}
+use Rattle.ew_model.specs.Entries.Entry.{Insertion, Deletion, Mark}
 use Rattle.ew_model.specs.Paths.{Step, path_cmp}
 use Rattle.ew_model.specs.Places.{path_before, new_path, place}
 use Rattle.ew_model.specs.Places.Act.{InsertAs}
@@ -45,11 +45,11 @@ use Rattle.advance_retreat.specs.Kept.{Kept}
 use Rattle.character_runs.specs.States.{single, is_of, is_visible, shown_in}
 use Rattle.character_runs.specs.Spots.{Left, IsLeft, IsIndex}
 use Rattle.advance_retreat.specs.Hanging.{slot_of, kept_with, MayHang, Puts}
-use Rattle.advance_retreat.specs.Standing.{most, node_of, kept_record, kept_target, AreChildren, StandsFor}
+use Rattle.advance_retreat.specs.Standing.{most, node_of, about, kept_record, kept_target, AreChildren, StandsFor}
 use Rattle.advance_retreat.proofs.Room.{CanInsert}
 use Rattle.character_runs.proofs.Lists.{count, count_above}
 use Rattle.character_runs.proofs.Cuts.{count-mapped, Cut, cut_at, taken, taken_next, dropped_here, dropped_next}
-use Rattle.advance_retreat.proofs.Nodes.{base_node, base_event, same_event, note_char, node_event, about_char, char_cases}
+use Rattle.advance_retreat.proofs.Nodes.{base_node, base_event, same_event, IsOfTree, note_char, node_event, about_char, char_cases}
 use Rattle.advance_retreat.proofs.Keeping.{notes, rs, all, part, grown, visible_told, records_few}
 use Rattle.advance_retreat.proofs.CharLaws.{IsOwn, own_char, own_event, char_path, record_of, base_in_tree}
 use Rattle.advance_retreat.proofs.SlotLaws.{left_told, SlotIs, slot_told}
@@ -167,6 +167,14 @@ module _ (s : Kept) (b : ℕ) (events : List (Applied ℕ)) (prepared : List ℕ
         (λ i. ap (λ (w : Inserted). node_of more w.id) i.2 ∙ sym (ap (λ (w : Inserted). node_of ns w.id) i.2))
         (λ n. node_event b later more more_grown n.0 z (in_more n.0 n.1) n.2 ∙ sym (own_event s b events prepared st n.0 z n.1 n.2))
         own
+
+    in_tree_kept : (z : Inserted) → Among z (insertions (all s b events prepared st)) → node_of ns z.id ≡ node_of more z.id
+    in_tree_kept z m = sym (node_kept z (char_cases b events ns (grown s b events prepared st) z m))
+
+    about_kept : (e : Entry) → IsOfTree b ns e → about ns e ≡ about more e
+    about_kept (Insertion z) m = in_tree_kept z m
+    about_kept (Deletion t) z = ap (node_of ns) (sym z.2) ∙ in_tree_kept z.0 z.1 ∙ ap (node_of more) z.2
+    about_kept Mark m = refl
 
     kept_alike : (xs : List Record) → ((r : Record) → Among r xs → Among r records) → map kept xs ≡ map (kept_record more) xs
     kept_alike xs sub = map_same kept (kept_record more) xs (λ r m. ap (λ v. single v r.prepared r.effect) (sym (node_kept r.node (own_char s b events prepared st r (sub r m)))))
@@ -337,8 +345,7 @@ module _ (s : Kept) (b : ℕ) (events : List (Applied ℕ)) (prepared : List ℕ
         where
           old : s.targets ≡ map (kept_target more) ns
           old = st.targets ∙ map_same (kept_target ns) (kept_target more) ns (λ n m.
-              let z = about_char b events ns (grown s b events prepared st) n m in
-              ap (about_node n.name) (ap (node_of ns) (sym z.2) ∙ sym (node_kept z.0 (char_cases b events ns (grown s b events prepared st) z.0 z.1)) ∙ ap (node_of more) z.2))
+              ap (about_node n.name) (about_kept n.entry (about_char b events ns (grown s b events prepared st) n m)))
 
       records_kept : (i : ℕ) → Spot i → insert s.records i (single (Event lv) 1 true) ≡ map (kept_record more) after
       records_kept i spot =

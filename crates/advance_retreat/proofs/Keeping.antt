@@ -3,10 +3,11 @@ use Rattle.std.proofs.Common.{◌≡◌, ℕ, zero, suc, ◌+◌, ◌≤◌, Boo
 use Rattle.std.specs.List.{AllByRecursion}
 use Rattle.std.proofs.lemmas.Bool.{false≢true, eq-eqb, eqb-true}
 use Rattle.ew_model.specs.declared.id.Id.{Id}
+use Rattle.ew_model.specs.declared.node.Node.TheVariants.{Root}
 use Rattle.ew_model.specs.Ids.{id_eq}
 use Rattle.ew_model.specs.Sets.{Among}
 use Rattle.ew_model.specs.Entries.{Inserted, Entry, insertions, deletes, order, visible}
-use Rattle.ew_model.specs.Entries.Entry.{Insertion}
+use Rattle.ew_model.specs.Entries.Entry.{Insertion, Deletion, Mark}
 use Rattle.ew_model.specs.Tree.{based, Applied, Noted, all_entries, entries_over, tree_of}
 use Rattle.ew_model.specs.Records.{Record, record_in, walker_records, applied_entries, prepared_entries, prepared_in, is_inserted, deletions_of, is_about, is_one}
 use Rattle.ew_model.proofs.SetLaws.{among_map, map_among}
@@ -24,7 +25,7 @@ use Rattle.character_runs.specs.States.{is_visible, visible_in, shown_in, HasRoo
 use Rattle.advance_retreat.specs.Standing.{node_of, kept_record, kept_target, about, is_applied, StandsFor}
 use Rattle.character_runs.proofs.Lists.{count_few, length-push}
 use Rattle.character_runs.proofs.Cuts.{length-mapped, count-mapped}
-use Rattle.advance_retreat.proofs.Nodes.{base_node, char_cases, nodes_by_ids, is_about_id, same_name}
+use Rattle.advance_retreat.proofs.Nodes.{base_node, IsOfTree, char_cases, char_apart, nodes_by_ids, same_name}
 use Rattle.std.proofs.lemmas.List.{length-append}
 use Rattle.ew_model.proofs.TextLengths.{length-insertions-le}
 
@@ -106,21 +107,28 @@ module _ (s : Kept) (b : ℕ) (events : List (Applied ℕ)) (prepared : List ℕ
       let n = among_map (λ (n : Noted ℕ). n.name) notes c.0.name there in
       (n.0, n.1, sym n.2 ∙ eqb-true c.0.name lv c.2)
 
-  found_target : (n : Noted ℕ) → Among n notes → (ms : List (Noted ℕ)) → ((m : Noted ℕ) → Among m ms → Among m notes) → Among n ms → target_at (map (kept_target notes) ms) n.name ≡ Some (node_of notes (about n.entry))
+  found_target : (n : Noted ℕ) → Among n notes → (ms : List (Noted ℕ)) → ((m : Noted ℕ) → Among m ms → Among m notes) → Among n ms → target_at (map (kept_target notes) ms) n.name ≡ Some (about notes n.entry)
   found_target n mn [] sub i = absurd i
   found_target n mn (m ∷ ms) sub i = at (nat_eq m.name n.name) refl (λ later. found_target n mn ms (λ k j. sub k (inr j)) later)
     where
-      at : (c : Bool) → nat_eq m.name n.name ≡ c → (Among n ms → target_at (map (kept_target notes) ms) n.name ≡ Some (node_of notes (about n.entry)))
-          → option_map (λ (t : Target). t.node) (cond c (Some (kept_target notes m)) (find (λ (t : Target). nat_eq t.lv n.name) (map (kept_target notes) ms))) ≡ Some (node_of notes (about n.entry))
-      at true h rest = ap (λ (w : Noted ℕ). Some (node_of notes (about w.entry))) (same_name notes grown.single m n (sub m (inl refl)) mn (eqb-true m.name n.name h))
+      at : (c : Bool) → nat_eq m.name n.name ≡ c → (Among n ms → target_at (map (kept_target notes) ms) n.name ≡ Some (about notes n.entry))
+          → option_map (λ (t : Target). t.node) (cond c (Some (kept_target notes m)) (find (λ (t : Target). nat_eq t.lv n.name) (map (kept_target notes) ms))) ≡ Some (about notes n.entry)
+      at true h rest = ap (λ (w : Noted ℕ). Some (about notes w.entry)) (same_name notes grown.single m n (sub m (inl refl)) mn (eqb-true m.name n.name h))
       at false h rest = ⊎_elim (λ same. absurd (false≢true (sym h ∙ eq-eqb m.name n.name (sym (ap (λ (w : Noted ℕ). w.name) same))))) rest i
 
-  pub target_told : (n : Noted ℕ) → Among n notes → target_at s.targets n.name ≡ Some (node_of notes (about n.entry))
+  pub target_told : (n : Noted ℕ) → Among n notes → target_at s.targets n.name ≡ Some (about notes n.entry)
   target_told n m = ap (λ ts. target_at ts n.name) st.targets ∙ found_target n m notes (λ k i. i) m
 
+  same_char : (z : Inserted) → Among z (insertions all) → (r : Record) → Among r rs → node_eq (node_of notes r.node.id) (node_of notes z.id) ≡ id_eq z.id r.node.id
+  same_char z there r m = nodes_by_ids b events notes grown r.node z (char_cases b events notes grown r.node (record_char r m)) (char_cases b events notes grown z there)
+
+  -- no record is the root's
+  pub root_apart : (r : Record) → Among r rs → node_eq (node_of notes r.node.id) Root ≡ false
+  root_apart r m = char_apart b events notes grown r.node (char_cases b events notes grown r.node (record_char r m))
+
   -- its record is the one of its node
-  pub about_told : (e : Entry) (z : Inserted) → Among z (insertions all) → z.id ≡ about e → (r : Record) → Among r rs → node_eq (node_of notes r.node.id) (node_of notes (about e)) ≡ is_about e r.node.id
-  about_told e z mz is r m =
-      ap (λ x. node_eq (node_of notes r.node.id) (node_of notes x)) (sym is)
-      ∙ nodes_by_ids b events notes grown r.node z (char_cases b events notes grown r.node (record_char r m)) (char_cases b events notes grown z mz)
-      ∙ ap (λ x. id_eq x r.node.id) is ∙ sym (is_about_id e r.node.id)
+  pub about_told : (e : Entry) → IsOfTree b notes e → (r : Record) → Among r rs → node_eq (node_of notes r.node.id) (about notes e) ≡ is_about e r.node.id
+  about_told (Insertion y) there r m = same_char y there r m
+  about_told (Deletion t) there r m =
+      ap (λ x. node_eq (node_of notes r.node.id) (node_of notes x)) (sym there.2) ∙ same_char there.0 there.1 r m ∙ ap (λ x. id_eq x r.node.id) there.2
+  about_told Mark there r m = root_apart r m

@@ -11,6 +11,7 @@ pub mod Inserting
 pub mod Keeping
 pub mod LooseEvents
 pub mod Losses
+pub mod Marking
 pub mod Moving
 pub mod Nodes
 pub mod Putting

@@ -4,13 +4,13 @@ use Rattle.std.proofs.lemmas.Bool.{false≢true, eq-eqb}
 use Rattle.std.proofs.lemmas.Bool.{cases_order}
 use Rattle.ew_model.specs.declared.id.Id.{Id}
 use Rattle.ew_model.specs.declared.node.Node.{Node}
-use Rattle.ew_model.specs.declared.node.Node.TheVariants.{Base, Event}
+use Rattle.ew_model.specs.declared.node.Node.TheVariants.{Root, Base, Event}
 use Rattle.ew_model.specs.Ids.{id_eq}
 use Rattle.ew_model.specs.Sets.{Among}
 use Rattle.ew_model.specs.Entries.{Inserted, Entry, insertions}
-use Rattle.ew_model.specs.Entries.Entry.{Insertion, Deletion}
+use Rattle.ew_model.specs.Entries.Entry.{Insertion, Deletion, Mark}
 use Rattle.ew_model.specs.Tree.{base_id, base_path, based, Applied, Noted, all_entries, entries_over}
-use Rattle.ew_model.specs.Records.{inserts, is_about}
+use Rattle.ew_model.specs.Records.{inserts}
 use Rattle.ew_model.proofs.SetLaws.{among_joined, joined_left, joined_right, among_map, map_among}
 use Rattle.ew_model.proofs.SortingLaws.{all_at}
 use Rattle.ew_model.proofs.ListTests.{same_truth}
@@ -77,6 +77,12 @@ same_name (k ∷ ns) s m n i j e =
     j)
     i
 
+-- the character that an entry is about is one of the tree's
+abbrev pub IsOfTree : ℕ → List (Noted ℕ) → Entry → Type 0
+IsOfTree b notes (Insertion y) = Among y (insertions (all_entries b notes))
+IsOfTree b notes (Deletion t) = (z : Inserted) × Among z (insertions (all_entries b notes)) × (z.id ≡ t)
+IsOfTree b notes Mark = Unit {0}
+
 module _ (b : ℕ) (events : List (Applied ℕ)) (notes : List (Noted ℕ)) (g : Grown b events notes) where
   -- a character of the base, or of an event's note
   abbrev pub IsChar : Inserted → Type 0
@@ -131,26 +137,37 @@ module _ (b : ℕ) (events : List (Applied ℕ)) (notes : List (Noted ℕ)) (g :
       (λ h. ap (id_eq t.id) (ids_by_nodes z t cz ct (node_same (node_of notes z.id) (node_of notes t.id) h)) ∙ id_itself t.id)
       (λ h. ap (λ x. node_eq (node_of notes z.id) (node_of notes x)) (id_same t.id z.id h) ∙ node_itself (node_of notes z.id))
 
+  -- none of them has the root as its node
+  pub char_apart : (z : Inserted) → IsChar z → node_eq (node_of notes z.id) Root ≡ false
+  char_apart z own =
+      ⊎_elim
+      (λ i. ap (λ (v : Node). node_eq v Root) (node_base i.0 z i.2))
+      (λ n. ap (λ (v : Node). node_eq v Root) (node_event n.0 z n.1 n.2))
+      own
+
   -- the character that a note is about
-  about_at : (n : Noted ℕ) → Among n notes → (e : Entry) → n.entry ≡ e → (z : Inserted) × Among z (insertions (all_entries b notes)) × (z.id ≡ about e)
-  about_at n m (Insertion y) e = (y, note_char n y m e, refl)
+  about_at : (n : Noted ℕ) → Among n notes → (e : Entry) → n.entry ≡ e → IsOfTree b notes e
+  about_at n m (Insertion y) e = note_char n y m e
   about_at n m (Deletion t) e =
       let source = g.sources n m in
       let fits : Fits source.event.act (entries_over nat_eq b notes source.event.over) (Deletion t) = subst (Fits source.event.act (entries_over nat_eq b notes source.event.over)) e source.fits in
       (fits.0, over_insertions nat_eq b notes source.event.over fits.0 fits.1, fits.2)
+  about_at n m Mark e = tt
 
-  pub about_char : (n : Noted ℕ) → Among n notes → (z : Inserted) × Among z (insertions (all_entries b notes)) × (z.id ≡ about n.entry)
+  pub about_char : (n : Noted ℕ) → Among n notes → IsOfTree b notes n.entry
   about_char n m = about_at n m n.entry refl
 
-pub is_about_id : (e : Entry) (x : Id) → is_about e x ≡ id_eq (about e) x
-is_about_id (Insertion y) x = refl
-is_about_id (Deletion t) x = refl
-
 -- ONE MORE NOTE
--- a deletion's note changes no node
-pub event_of-delete : (notes : List (Noted ℕ)) (name : ℕ) (t x : Id) → event_of (notes ++ record { name = name; entry = Deletion t } ∷ []) x ≡ event_of notes x
-event_of-delete [] name t x = refl
-event_of-delete (n ∷ notes) name t x = ap (cond (inserts x n.entry) (Event n.name)) (event_of-delete notes name t x)
+-- where it inserts no character, it changes no node
+module _ (note : Noted ℕ) (none : (x : Id) → inserts x note.entry ≡ false) where
+  event_of-more : (notes : List (Noted ℕ)) (x : Id) → event_of (notes ++ note ∷ []) x ≡ event_of notes x
+  event_of-more [] x = ap (λ (c : Bool). cond c (Event note.name) Root) (none x)
+  event_of-more (n ∷ notes) x = ap (cond (inserts x n.entry) (Event n.name)) (event_of-more notes x)
 
-pub node_of-delete : (notes : List (Noted ℕ)) (name : ℕ) (t x : Id) → node_of (notes ++ record { name = name; entry = Deletion t } ∷ []) x ≡ node_of notes x
-node_of-delete notes name t x = ap (base_or x.agent x.seq) (event_of-delete notes name t x)
+  pub node_of-more : (notes : List (Noted ℕ)) (x : Id) → node_of (notes ++ note ∷ []) x ≡ node_of notes x
+  node_of-more notes x = ap (base_or x.agent x.seq) (event_of-more notes x)
+
+  pub about-more : (notes : List (Noted ℕ)) (e : Entry) → about (notes ++ note ∷ []) e ≡ about notes e
+  about-more notes (Insertion y) = node_of-more notes y.id
+  about-more notes (Deletion t) = node_of-more notes t
+  about-more notes Mark = refl

@@ -45,7 +45,7 @@ module _ (s : Kept) (b : ℕ) (events : List (Applied ℕ)) (prepared : List ℕ
       let node : node_of ns own.record_of.node.id ≡ Event m.name = own_event s b events prepared st m own.record_of.node there entry in
       let name : m.name ≡ n = same_event m.name n (sym node ∙ own.node) in
       ap (target_at s.targets) (sym name) ∙ target_told s b events prepared st m there
-      ∙ ap (λ e. Some (node_of ns (about e))) entry ∙ ap (λ (v : Node). Some v) own.node
+      ∙ ap (λ e. Some (about ns e)) entry ∙ ap (λ (v : Node). Some v) own.node
 
   -- the event is about it
   pub recorded_told : target_at s.targets n ≡ Some (Event n)

@@ -83,14 +83,14 @@ module _ (s : Kept) (b : ℕ) (events : List (Applied ℕ)) (prepared : List ℕ
     pub hang_within : HangWithin at.from at.to s.attached
     hang_within a m =
         let o = st.children.only a m in
-        let place = within o.0.name (node_of ns (about o.0.entry)) (target_told s b events prepared st o.0 o.1) in
+        let place = within o.0.name (about ns o.0.entry) (target_told s b events prepared st o.0 o.1) in
         (o.0.name, place.0, place.1, o.2)
 
     prepared_within : (n : ℕ) → holds prepared n ≡ true → (at.from ≤ n) × (n < at.to)
     prepared_within n h =
         let applied = st.part n h in
         let named = note_named s b events prepared st n applied in
-        within n (node_of ns (about named.0.entry)) (found_node s b events prepared st n applied)
+        within n (about ns named.0.entry) (found_node s b events prepared st n applied)
 
 -- WHAT IS PREPARED
 held_after : (xs prepared : List ℕ) (n : ℕ) → holds (after_retreats prepared xs) n ≡ true → (holds prepared n ≡ true) × (holds xs n ≡ true → ⊥)

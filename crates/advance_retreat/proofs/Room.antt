@@ -7,10 +7,10 @@ use Rattle.ew_model.specs.Entries.{visible}
 use Rattle.ew_model.specs.Tree.{Applied}
 use Rattle.ew_model.specs.Records.{inserts_as, applied_entries}
 use Rattle.advance_retreat.specs.Standing.{most}
-use Rattle.advance_retreat.specs.Conditions.{IsNewPosition, MayDelete, MayInsert}
+use Rattle.advance_retreat.specs.Conditions.{IsNewPosition, MayInsert}
 
--- a deletion may be applied, and the history has room
-pub record CanDelete (events : List (Applied ℕ)) (lv : ℕ) : Type 0 where
+-- a deletion or a mark may be applied, and the history has room
+pub record CanFollow (events : List (Applied ℕ)) (lv : ℕ) : Type 0 where
   pub position : IsNewPosition events lv
   pub room : length events < most
 
@@ -21,8 +21,8 @@ pub record CanInsert (b : ℕ) (events : List (Applied ℕ)) (lv : ℕ) (x : Id)
   pub room : length events < most
   pub room_in_text : length (visible (applied_entries b events)) < most
 
-pub can_delete : (events : List (Applied ℕ)) (lv : ℕ) → MayDelete events lv → nat_lt (length events) most ≡ true → CanDelete events lv
-can_delete events lv may room = record { position = may; room = ltb-true (length events) most room }
+pub can_follow : (events : List (Applied ℕ)) (lv : ℕ) → IsNewPosition events lv → nat_lt (length events) most ≡ true → CanFollow events lv
+can_follow events lv new room = record { position = new; room = ltb-true (length events) most room }
 
 pub can_insert : (b : ℕ) (events : List (Applied ℕ)) (lv : ℕ) (x : Id) → MayInsert events lv x → (nat_lt (length events) most && nat_lt (length (visible (applied_entries b events))) most) ≡ true → CanInsert b events lv x
 can_insert b events lv x may room =

@@ -17,6 +17,10 @@ IsNewPosition events lv = list_any (λ (c : Applied ℕ). nat_eq c.name lv) even
 abbrev pub MayDelete : List (Applied ℕ) → ℕ → Type 0
 MayDelete events lv = IsNewPosition events lv
 
+-- a mark may be applied where its position is new
+abbrev pub MayMark : List (Applied ℕ) → ℕ → Type 0
+MayMark events lv = IsNewPosition events lv
+
 -- an insertion may be applied where its position and id are new
 pub record MayInsert (events : List (Applied ℕ)) (lv : ℕ) (x : Id) : Type 0 where
   pub position : IsNewPosition events lv
@@ -56,7 +60,7 @@ pub record Retreated (s : Kept) (b : ℕ) (events : List (Applied ℕ)) (prepare
   pub stands : StandsFor s b events now
   pub may : MayRetreatEach events now rest
 
--- a front of all these advances was made, the next of them wasn't, and nothing else has changed
+-- a front of all these advances was made, and not all of them: the state stands for what is prepared then
 pub record PartAdvanced (s : Kept) (b : ℕ) (events : List (Applied ℕ)) (prepared all : List ℕ) : Type 0 where
   pub made : List ℕ
   pub next : ℕ

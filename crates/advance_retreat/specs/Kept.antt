@@ -1,7 +1,8 @@
--- What a state keeps: a record for each character, in order, and which character each event is about.
+-- What a state keeps: a record for each character, in order, and which character each event is about: a mark is about none, and the root stands in its place.
 use Rattle.std.specs.Prelude.{◌≡◌, ℕ, ◌-◌, ◌<◌, ◌≤◌, nat_eq, Bool, if◌then◌else◌, List, [], ◌∷◌, ◌++◌, map, find, length, Option, Some, None, option_map, slice_get}
 use Rattle.std.specs.Option.{option_or, option_map_or}
 use Rattle.ew_model.specs.declared.node.Node.{Node}
+use Rattle.ew_model.specs.declared.node.Node.TheVariants.{Root}
 use Rattle.walker_record.specs.Stretches.{Stretch}
 use Rattle.fugue_place.specs.declared.child.Attached.{Attached}
 use Rattle.character_runs.specs.declared.change.Change.TheVariants.{Strike}
@@ -50,6 +51,16 @@ AreFound targets node_at = (n : ℕ) → node_at n ≡ target_at targets n
 -- each event that such a search finds is at one of these positions
 abbrev pub AreWithin : Positions → (ℕ → Option Node) → Type 0
 AreWithin at node_at = (n : ℕ) (v : Node) → node_at n ≡ Some v → (at.from ≤ n) × (n < at.to)
+
+-- the same but that the event at this position, the latest, is a mark
+abbrev pub with_mark : Kept → ℕ → Kept
+with_mark s lv = record {
+  base = s.base;
+  records = s.records;
+  attached = s.attached;
+  targets = s.targets ++ record { lv = lv; node = Root } ∷ [];
+  lost = s.lost;
+}
 
 -- the same but that the event at this position, the latest, deletes the character
 abbrev pub with_deletion : Kept → ℕ → Node → Kept

@@ -6,7 +6,7 @@ use Rattle.ew_model.specs.declared.node.Node.{Node}
 use Rattle.ew_model.specs.declared.node.Node.TheVariants.{Root, Base, Event}
 use Rattle.ew_model.specs.Sets.{Among}
 use Rattle.ew_model.specs.Entries.{Inserted, Entry, visible}
-use Rattle.ew_model.specs.Entries.Entry.{Insertion, Deletion}
+use Rattle.ew_model.specs.Entries.Entry.{Insertion, Deletion, Mark}
 use Rattle.ew_model.specs.Tree.{Applied, Noted, tree_of}
 use Rattle.ew_model.specs.Records.{Record, IsRun, IsClosed, holds, inserts, walker_records, applied_entries}
 use Rattle.walker_record.specs.Stretches.{Stretch}
@@ -38,13 +38,14 @@ node_of notes x = base_or x.agent x.seq (event_of notes x)
 abbrev pub kept_record : List (Noted ℕ) → Record → Stretch
 kept_record notes r = single (node_of notes r.node.id) r.prepared r.effect
 
--- the character that an entry is about
-abbrev pub about : Entry → Id
-about (Insertion y) = y.id
-about (Deletion target) = target
+-- the node of the character that an entry is about; a mark is about none, and the root stands in its place
+abbrev pub about : List (Noted ℕ) → Entry → Node
+about notes (Insertion y) = node_of notes y.id
+about notes (Deletion target) = node_of notes target
+about notes Mark = Root
 
 abbrev pub kept_target : List (Noted ℕ) → Noted ℕ → Target
-kept_target notes n = record { lv = n.name; node = node_of notes (about n.entry) }
+kept_target notes n = record { lv = n.name; node = about notes n.entry }
 
 -- the event's position is one of these events'
 abbrev pub is_applied : List (Applied ℕ) → ℕ → Type 0

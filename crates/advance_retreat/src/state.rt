@@ -4,19 +4,19 @@ ghost use Rattle.std.specs.Prelude.{◌≡◌, ℕ, None, ◌+◌, ◌-◌, ◌*
 ghost use Rattle.std.specs.List.{AllByRecursion, range_with_len};
 ghost use Rattle.ew_model.specs.Operations.{next_operation};
 ghost use Rattle.ew_model.specs.Entries.{visible};
-ghost use Rattle.ew_model.specs.Places.Act.{InsertAs, DeleteAt};
+ghost use Rattle.ew_model.specs.Places.Act.{InsertAs, DeleteAt, MarkAs};
 ghost use Rattle.ew_model.specs.Tree.{Applied, tree_of};
 ghost use Rattle.ew_model.specs.Moves.{after_advances, after_retreats};
 ghost use Rattle.ew_model.specs.Records.{next_of, without, prepared_entries, applied_entries};
 ghost use Rattle.walker_record.specs.Stretches.{Stretch};
 ghost use Rattle.fugue_place.specs.Attachments.{is_there, AreAttached};
 ghost use Rattle.advance_retreat.specs.declared.fault.ApplyFault.TheVariants as apply;
-ghost use Rattle.advance_retreat.specs.Kept.{with_lost, with_deletion, target_at, AreWithin};
+ghost use Rattle.advance_retreat.specs.Kept.{with_lost, with_deletion, with_mark, target_at, AreWithin};
 ghost use Rattle.character_runs.specs.States.{HasRoom};
 ghost use Rattle.character_runs.specs.Laid.{records_in};
 ghost use Rattle.advance_retreat.specs.Standing.{most, StandsFor};
 ghost use Rattle.advance_retreat.specs.Refusals.{lost_after, one_more};
-ghost use Rattle.advance_retreat.specs.Conditions.{MayInsert, MayDelete, MayAdvanceTo, MayRetreatFrom, MayAdvanceEach, MayRetreatEach, Advanced, Retreated, PartAdvanced, PartRetreated, AllPrepared};
+ghost use Rattle.advance_retreat.specs.Conditions.{MayInsert, MayDelete, MayMark, MayAdvanceTo, MayRetreatFrom, MayAdvanceEach, MayRetreatEach, Advanced, Retreated, PartAdvanced, PartRetreated, AllPrepared};
 ghost use Rattle.advance_retreat.specs.Hanging.{MayHang, Puts};
 
 use crate::fault::ApplyFault;
@@ -268,6 +268,41 @@ impl State {
         }
     }
 
+    /// Applies a mark, and prepares it too. Answers that it does nothing to the text.
+    ///
+    /// An error for want of memory, or where the state holds 2^24 events. After it the state is as it was before, but that
+    /// `lost` counts it.
+    pub fn apply_mark<L: Ledger>(&mut self, lv: u32, steps: &mut Steps<L>) -> Result<TextOp, NoMem>
+        requires { (b : ℕ) × (events : List (Applied ℕ)) × (prepared : List ℕ) × StandsFor self.old b events prepared × MayMark events lv }
+        ensures op { (b : ℕ) (events : List (Applied ℕ)) (prepared : List ℕ) → StandsFor self.old b events prepared → MayMark events lv → IfOk result (λ op. op ≡ next_operation nat_eq b (tree_of nat_eq b events) (next_of lv MarkAs prepared)) }
+        ensures ok { (b : ℕ) (events : List (Applied ℕ)) (prepared : List ℕ) → StandsFor self.old b events prepared → MayMark events lv → OnOk result (StandsFor self.new b (events ++ next_of lv MarkAs prepared ∷ []) (lv ∷ prepared)) }
+        ensures err { OnErr result (self.new ≡ with_lost self.old (one_more self.old.lost)) }
+        ensures lost { OnOk result (self.new.lost ≡ self.old.lost) }
+        ensures steps { steps.new ≡ steps.old + 1 }
+    {
+        steps.tick();
+        self.note_mark(lv)?;
+        Ok(TextOp::Nothing)
+    }
+
+    /// Notes a mark. Counts a want of memory.
+    fn note_mark(&mut self, lv: u32) -> Result<(), NoMem>
+        requires { (b : ℕ) × (events : List (Applied ℕ)) × (prepared : List ℕ) × StandsFor self.old b events prepared × MayMark events lv }
+        ensures ok { OnOk result (self.new ≡ with_mark self.old lv) }
+        ensures room { (b : ℕ) (events : List (Applied ℕ)) (prepared : List ℕ) → StandsFor self.old b events prepared → OnOk result (length events < most) }
+        ensures err { OnErr result (self.new ≡ with_lost self.old (one_more self.old.lost)) }
+    {
+        if !self.has_room_for_event() {
+            self.lost = one_more(self.lost);
+            return Err(NoMem);
+        }
+        if let Err(e) = self.targets.add(lv, Node::Root) {
+            self.lost = one_more(self.lost);
+            return Err(e);
+        }
+        Ok(())
+    }
+
     /// Puts an applied event into the prepared version.
     pub fn advance<L: Ledger>(&mut self, lv: u32, steps: &mut Steps<L>) -> Result<(), NoMem>
         requires { (b : ℕ) × (events : List (Applied ℕ)) × (prepared : List ℕ) × StandsFor self.old b events prepared × MayAdvanceTo events prepared lv }
@@ -278,7 +313,10 @@ impl State {
     {
         steps.tick();
         if let Some(node) = self.targets.node(lv) {
-            self.tree.change(node, Change::Raise)?;
+            // A mark is about no character.
+            if node != Node::Root {
+                self.tree.change(node, Change::Raise)?;
+            }
         }
         Ok(())
     }
@@ -293,7 +331,10 @@ impl State {
     {
         steps.tick();
         if let Some(node) = self.targets.node(lv) {
-            self.tree.change(node, Change::Lower)?;
+            // A mark is about no character.
+            if node != Node::Root {
+                self.tree.change(node, Change::Lower)?;
+            }
         }
         Ok(())
     }

@@ -1,4 +1,4 @@
-//! Which character each applied event is about.
+//! Which character each applied event is about. A mark is about none: the root stands in its place.
 
 ghost use Rattle.std.specs.Prelude.{◌≡◌, true, None, Some, [], ◌∷◌, ◌++◌, List, length, OnOk, OnErr, ℕ, nat_eq, if◌then◌else◌};
 ghost use Rattle.std.specs.Ordering.{nat_cmp};
@@ -13,7 +13,7 @@ use std::alloc::Global;
 use std::collections::BTreeMap;
 use std::marker::Model;
 
-/// An applied event, by its position, and the character that it inserts or deletes.
+/// An applied event, by its position, and the character that it inserts or deletes; the root for a mark.
 #[derive(Clone, Copy)]
 pub struct Target {
     pub lv: u32,
@@ -66,7 +66,7 @@ impl Targets {
         self.applied.len()
     }
 
-    /// The character that the event at a position is about.
+    /// The character that the event at a position is about; the root for a mark.
     pub fn node(&self, lv: u32) -> Option<Node>
         ensures { result ≡ target_at self.now lv }
     {

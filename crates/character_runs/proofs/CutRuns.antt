@@ -1,5 +1,6 @@
 -- Labels after a run was cut.
 use Rattle.std.proofs.Common.{◌≡◌, ℕ, ◌+◌, ◌-◌, ◌<◌, ◌≤◌, ◌⊎◌, Bool, true, false, List, [], ◌∷◌, Option, Some, Contains, if◌then◌else◌, refl, sym, ap, ◌∙◌, subst, arith, inl, inr}
+use Rattle.std.proofs.lemmas.Bool.{false≢true}
 use Rattle.ew_model.specs.declared.node.Node.{Node}
 use Rattle.ew_model.specs.declared.node.Node.TheVariants.{Root}
 use Rattle.walker_record.specs.Stretches.{Stretch, node_on, first_part, second_part}
@@ -29,6 +30,21 @@ alike v w = by (node_eq v w) refl
     by : (b : Bool) → node_eq v w ≡ b → (v ≡ w) ⊎ (node_eq v w ≡ false)
     by true e = inl (node_same v w e)
     by false e = inr e
+
+-- other nodes than one, and whether one is another
+pub unlike : (v w : Node) → (v ≡ w → ⊥) → node_eq v w ≡ false
+unlike v w other = by (alike v w)
+  where
+    by : (v ≡ w) ⊎ (node_eq v w ≡ false) → node_eq v w ≡ false
+    by (inl e) = absurd (other e)
+    by (inr e) = e
+
+pub decide : (v w : Node) → (v ≡ w) ⊎ (v ≡ w → ⊥)
+decide v w = by (alike v w)
+  where
+    by : (v ≡ w) ⊎ (node_eq v w ≡ false) → (v ≡ w) ⊎ (v ≡ w → ⊥)
+    by (inl e) = inl e
+    by (inr e) = inr (λ same. false≢true (sym e ∙ ap (node_eq v) (sym same) ∙ node_itself v))
 
 module _ (t u : Labels) (v : Node) (to : Option ℕ) (sets : Sets t u v to) where
   pub set_own : label_of u v ≡ to

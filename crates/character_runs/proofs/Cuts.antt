@@ -4,7 +4,7 @@ use Rattle.ew_model.specs.Sets.{Among}
 use Rattle.ew_model.proofs.RecordLaws.{map_same, map_map}
 use Rattle.character_runs.proofs.Lists.{count}
 use Rattle.ew_model.proofs.StateLaws.{length_kept}
-use Rattle.ew_model.proofs.FileLists.{some_is}
+use Rattle.ew_model.proofs.ListPlaces.{some_is}
 
 pub length-mapped : {X Y : Type 0} (f : X → Y) (xs : List X) → length (map f xs) ≡ length xs
 length-mapped f [] = refl

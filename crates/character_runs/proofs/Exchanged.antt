@@ -1,35 +1,17 @@
 -- Labels after a run went to the place behind it, and a new one came in its place.
-use Rattle.std.proofs.Common.{◌≡◌, ℕ, ◌<◌, ◌⊎◌, false, List, Some, Contains, sym, ap, ◌∙◌, subst, inl, inr, arith}
-use Rattle.std.proofs.lemmas.Bool.{false≢true}
+use Rattle.std.proofs.Common.{◌≡◌, ℕ, ◌<◌, ◌⊎◌, List, Some, Contains, sym, ap, ◌∙◌, subst, inl, inr, arith}
 use Rattle.ew_model.specs.declared.node.Node.{Node}
 use Rattle.ew_model.specs.declared.node.Node.TheVariants.{Root}
 use Rattle.walker_record.specs.Stretches.{Stretch, node_on}
-use Rattle.fugue_place.specs.Attachments.{node_eq}
-use Rattle.fugue_place.proofs.NodeLaws.{node_itself}
 use Rattle.order_tree.specs.Pairs.{IsRising, changed}
 use Rattle.character_runs.specs.declared.labels.Labels.{Labels}
 use Rattle.character_runs.specs.Labelled.{label_of, Sets}
 use Rattle.character_runs.specs.Laid.{Stands, AreLabelled}
 use Rattle.character_runs.proofs.PartedRuns.{same_run}
-use Rattle.character_runs.proofs.CutRuns.{In, alike, set_own, set_other}
+use Rattle.character_runs.proofs.CutRuns.{In, unlike, decide, set_own, set_other}
 use Rattle.character_runs.proofs.RunChars.{node_on_none}
 use Rattle.character_runs.proofs.Standings.{some_same}
 use Rattle.character_runs.proofs.ChangedAt.{changed_each, changed_kept, changed_come}
-
--- other nodes than one, and whether one is another
-pub unlike : (v w : Node) → (v ≡ w → ⊥) → node_eq v w ≡ false
-unlike v w other = by (alike v w)
-  where
-    by : (v ≡ w) ⊎ (node_eq v w ≡ false) → node_eq v w ≡ false
-    by (inl e) = absurd (other e)
-    by (inr e) = e
-
-pub decide : (v w : Node) → (v ≡ w) ⊎ (v ≡ w → ⊥)
-decide v w = by (alike v w)
-  where
-    by : (v ≡ w) ⊎ (node_eq v w ≡ false) → (v ≡ w) ⊎ (v ≡ w → ⊥)
-    by (inl e) = inl e
-    by (inr e) = inr (λ same. false≢true (sym e ∙ ap (node_eq v) (sym same) ∙ node_itself v))
 
 -- a run without characters has another label
 pub two_labels : (ps : List (ℕ × Stretch)) (label own : ℕ) (run empty : Stretch) → IsRising ps → Contains ps (label, run) → Contains ps (own, empty) → 0 < run.len → empty.len ≡ 0 → label ≡ own → ⊥

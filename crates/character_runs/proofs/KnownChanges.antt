@@ -13,14 +13,11 @@ use Rattle.character_runs.specs.States.{is_of, is_inserted, knows, single, chang
 use Rattle.fugue_place.specs.declared.neighbour.Place.{Place}
 use Rattle.character_runs.specs.Spots.{Comes}
 use Rattle.character_runs.proofs.Changing.{change_from}
+use Rattle.character_runs.proofs.CutRuns.{unlike}
 
 and_first : (b c : Bool) → b ≡ false → (b && c) ≡ false
 and_first true c e = absurd (false≢true (sym e))
 and_first false c e = refl
-
-pub not_same : (v w : Node) → (v ≡ w → ⊥) → (b : Bool) → node_eq v w ≡ b → b ≡ false
-not_same v w other true e = absurd (other (node_same v w e))
-not_same v w other false e = refl
 
 module _ (u : Node) where
   abbrev tells : Stretch → Bool
@@ -31,7 +28,7 @@ module _ (u : Node) where
   still w c other r false e = refl
   still w c other r true e =
       let own : r.from ≡ w = node_same r.from w e in
-      let differs : node_eq r.from u ≡ false = not_same r.from u (λ is. false≢true (sym other ∙ ap (λ (v : Node). node_eq v w) (sym is ∙ own) ∙ node_itself w)) (node_eq r.from u) refl in
+      let differs : node_eq r.from u ≡ false = unlike r.from u (λ is. false≢true (sym other ∙ ap (λ (v : Node). node_eq v w) (sym is ∙ own) ∙ node_itself w)) in
       and_first (is_of u (changed c r)) (is_inserted (changed c r)) (ap (λ (v : Node). node_eq v u) (change_from c r) ∙ differs) ∙ sym (and_first (is_of u r) (is_inserted r) differs)
 
   pub known_changed : (w : Node) (c : Change) → node_eq u w ≡ false → (rs : List Stretch) → knows (map (changed_at w c) rs) u ≡ knows rs u
@@ -61,7 +58,7 @@ module _ (rs ss : List Stretch) (place : Place) (n at : ℕ) (came : Comes rs ss
 
   pub known_else : (u : Node) → node_eq u (Event n) ≡ false → knows ss u ≡ knows rs u
   known_else u e =
-      let other : node_eq (Event n) u ≡ false = not_same (Event n) u (λ is. false≢true (sym e ∙ ap (λ (v : Node). node_eq v (Event n)) (sym is) ∙ node_itself (Event n))) (node_eq (Event n) u) refl in
+      let other : node_eq (Event n) u ≡ false = unlike (Event n) u (λ is. false≢true (sym e ∙ ap (λ (v : Node). node_eq v (Event n)) (sym is) ∙ node_itself (Event n))) in
       tells_new u ∙ ap (λ (b : Bool). (b && true) || knows rs u) other
 
   pub known_now : knows ss (Event n) ≡ true

@@ -1,5 +1,5 @@
 -- Whether a node is inserted, by where its character stands.
-use Rattle.std.proofs.Common.{◌≡◌, ℕ, zero, suc, ◌+◌, ◌<◌, ◌⊎◌, Bool, true, false, ◌&&◌, ◌||◌, List, [], ◌∷◌, ◌++◌, map, Contains, nat_lt, refl, sym, ap, ◌∙◌, subst, arith, inl, inr}
+use Rattle.std.proofs.Common.{◌≡◌, ℕ, zero, suc, ◌+◌, ◌<◌, Bool, true, false, ◌&&◌, ◌||◌, List, [], ◌∷◌, ◌++◌, map, Contains, nat_lt, refl, sym, ap, ◌∙◌, subst, arith}
 use Rattle.std.specs.List.{list_any}
 use Rattle.std.proofs.lemmas.List.Elements.{All-contains, Contains-append_left, Contains-append_right}
 use Rattle.std.proofs.lemmas.List.Folds.{list_any-append}
@@ -11,7 +11,7 @@ use Rattle.order_tree.specs.Pairs.{IsRising}
 use Rattle.character_runs.specs.declared.labels.Labels.{Labels}
 use Rattle.character_runs.specs.States.{is_of, is_inserted, knows}
 use Rattle.character_runs.specs.Laid.{Stands, AreLabelled, record_of, records_of, chars_in}
-use Rattle.character_runs.proofs.CutRuns.{alike}
+use Rattle.character_runs.proofs.CutRuns.{unlike}
 use Rattle.character_runs.proofs.Moves.{is_first}
 use Rattle.character_runs.proofs.PartedRuns.{Parted, parted}
 use Rattle.character_runs.proofs.Places.{one_label, on_on}
@@ -25,15 +25,11 @@ module _ (v : Node) where
   abbrev tells : Stretch → Bool
   tells r = is_of v r && is_inserted r
 
-  apart : (w : Node) → (w ≡ v → ⊥) → (w ≡ v) ⊎ (node_eq w v ≡ false) → node_eq w v ≡ false
-  apart w other (inl e) = absurd (other e)
-  apart w other (inr e) = e
-
   -- A RUN
   none_in : (n : ℕ) (w : Node) (p : ℕ) (e : Bool) → ((k : ℕ) → k < n → node_on w k ≡ v → ⊥) → list_any tells (map record_of (states_from w n p e)) ≡ false
   none_in zero w p e none = refl
   none_in (suc n) w p e none =
-      let other : node_eq w v ≡ false = apart w (λ is. none 0 (omega arith) (node_on_none w ∙ is)) (alike w v) in
+      let other : node_eq w v ≡ false = unlike w v (λ is. none 0 (omega arith) (node_on_none w ∙ is)) in
       ap (λ (b : Bool). (b && nat_lt 0 p) || list_any tells (map record_of (states_from (node_on w 1) n p e))) other
       ∙ none_in n (node_on w 1) p e (λ k lt is. none (suc k) (omega (arith, lt)) (ap (node_on w) (sym (next_to k)) ∙ sym (on_on w 1 k) ∙ is))
 

@@ -11,12 +11,11 @@ use Rattle.character_runs.specs.Cursors.{last_of, shorter}
 use Rattle.character_runs.specs.Labelled.{label_of, GoesOver}
 use Rattle.character_runs.specs.Laid.{Stands, AreLabelled}
 use Rattle.character_runs.proofs.PartedRuns.{same_run}
-use Rattle.character_runs.proofs.CutRuns.{In}
+use Rattle.character_runs.proofs.CutRuns.{In, unlike, decide}
 use Rattle.character_runs.proofs.RunChars.{node_on_none}
 use Rattle.character_runs.proofs.Places.{one_label, on_on, not_root_on, same_steps}
 use Rattle.character_runs.proofs.Standings.{some_same, none_some}
 use Rattle.character_runs.proofs.ChangedAt.{changed_each, changed_kept, changed_come}
-use Rattle.character_runs.proofs.Exchanged.{unlike, decide}
 
 module _ (ps : List (ℕ × Stretch)) (t u : Labels) (label own : ℕ) (run struck longer : Stretch) (laid : AreLabelled ps t) (rising : IsRising ps)
     (held : Contains ps (label, run)) (behind : Contains ps (own, struck)) (apart : label ≡ own → ⊥) (long : 1 < run.len) (some : 0 < struck.len) (next : struck.from ≡ node_on run.from run.len)

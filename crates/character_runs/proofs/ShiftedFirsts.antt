@@ -11,11 +11,10 @@ use Rattle.character_runs.specs.Cursors.{struck_with}
 use Rattle.character_runs.specs.Labelled.{label_of, GoesOver}
 use Rattle.character_runs.specs.Laid.{Stands, AreLabelled}
 use Rattle.character_runs.proofs.PartedRuns.{same_run}
-use Rattle.character_runs.proofs.CutRuns.{In}
+use Rattle.character_runs.proofs.CutRuns.{In, unlike, decide}
 use Rattle.character_runs.proofs.Places.{one_label, on_on, not_root_on, same_steps}
 use Rattle.character_runs.proofs.Standings.{some_same, none_some}
 use Rattle.character_runs.proofs.ChangedAt.{changed_each, changed_kept, changed_come}
-use Rattle.character_runs.proofs.Exchanged.{unlike, decide}
 
 module _ (ps : List (ℕ × Stretch)) (t u : Labels) (label own : ℕ) (run struck : Stretch) (laid : AreLabelled ps t) (rising : IsRising ps)
     (held : Contains ps (label, run)) (ahead : Contains ps (own, struck)) (apart : label ≡ own → ⊥) (long : 1 < run.len) (some : 0 < struck.len) (next : run.from ≡ node_on struck.from struck.len)

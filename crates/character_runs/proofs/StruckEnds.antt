@@ -14,7 +14,7 @@ use Rattle.character_runs.specs.declared.cursor.Struck.{Struck}
 use Rattle.character_runs.specs.declared.labels.Labels.{Labels}
 use Rattle.character_runs.specs.Cursors.{StandsBehind, IsCursor, GaveEnd, last_of, shorter, struck_with, struck_long, with_end}
 use Rattle.character_runs.specs.States.{changed_at, changed as after_change}
-use Rattle.character_runs.specs.Labelled.{label_of, GoesOver}
+use Rattle.character_runs.specs.Labelled.{GoesOver}
 use Rattle.character_runs.specs.Laid.{Stands, AreLabelled, record_of, records_of, chars_in}
 use Rattle.character_runs.proofs.Moves.{is_first, is_second}
 use Rattle.character_runs.proofs.PartedRuns.{Parted, parted}
@@ -25,7 +25,6 @@ use Rattle.character_runs.proofs.KnownRuns.{held_label}
 use Rattle.character_runs.proofs.AlteredChars.{same_long}
 use Rattle.character_runs.proofs.Places.{one_label, not_root_on, on_on, same_steps}
 use Rattle.character_runs.proofs.CutChars.{parts_records}
-use Rattle.character_runs.proofs.Splits.{none_by}
 use Rattle.character_runs.proofs.CharPlaces.{none_in, none_of}
 use Rattle.character_runs.proofs.Replaced.{none_changed}
 use Rattle.character_runs.proofs.Settled.{behind_held, end_again}
@@ -276,13 +275,6 @@ module _ (ps : List (ℕ × Stretch)) (t : Labels) (c : Cursor) (s : Struck) (v 
   shifted_labelled u goes =
       shifted_laid ps t u c.label s.label c.run s.run longer laid rising cursor.held struck_held apart long stands.4 stands.3 node refl
       (subst (λ (w : Node). GoesOver t u s.run.from w s.label) node goes)
-
-  -- no run begins there yet
-  pub shifted_bare : label_of t v ≡ None
-  shifted_bare = none_by (label_of t v) (λ l e.
-      let there : Stands ps c.label (c.run.len - 1) v = record { run = c.run; held = cursor.held; inside = omega (arith, long); node = sym node } in
-      let z = laid.apart v l c.label (c.run.len - 1) e there in
-      omega (arith, z, long))
 
   pub shifted_root : v ≡ Root → ⊥
   shifted_root e = not_root_on c.run.from (c.run.len - 1) (laid.rooted c.label c.run cursor.held) (sym node ∙ e)

@@ -1,5 +1,5 @@
 -- A run whose first character is deleted, and goes over to the deleted ones ahead of it.
-use Rattle.std.proofs.Common.{◌≡◌, ℕ, suc, ◌+◌, ◌-◌, ◌<◌, ◌≤◌, Bool, true, false, ◌&&◌, List, [], ◌∷◌, ◌++◌, None, length, map, Contains, nat_lt, if◌then◌else◌, refl, sym, ap, ◌∙◌, subst, arith, append_assoc, append-nil}
+use Rattle.std.proofs.Common.{◌≡◌, ℕ, suc, ◌+◌, ◌-◌, ◌<◌, ◌≤◌, Bool, true, false, ◌&&◌, List, [], ◌∷◌, ◌++◌, length, map, Contains, nat_lt, if◌then◌else◌, sym, ap, ◌∙◌, subst, arith, append_assoc, append-nil}
 use Rattle.std.proofs.lemmas.Bool.{lt-ltb}
 use Rattle.std.proofs.lemmas.List.{length-map, map-append}
 use Rattle.std.proofs.lemmas.List.Elements.{All-contains, Contains-append_left, Contains-append_right}
@@ -14,7 +14,7 @@ use Rattle.character_runs.specs.declared.cursor.Struck.{Struck}
 use Rattle.character_runs.specs.declared.labels.Labels.{Labels}
 use Rattle.character_runs.specs.Cursors.{StandsAhead, struck_with}
 use Rattle.character_runs.specs.States.{is_inserted, is_visible, knows, changed_at, changed as after_change}
-use Rattle.character_runs.specs.Labelled.{label_of, GoesOver}
+use Rattle.character_runs.specs.Labelled.{GoesOver}
 use Rattle.character_runs.specs.Laid.{Stands, AreLabelled, record_of, records_of, chars_in}
 use Rattle.character_runs.specs.Loose.{begins_in, ends_in, loose_behind, loose_in}
 use Rattle.character_runs.specs.Replacing.{Replaces, Recounted}
@@ -33,7 +33,7 @@ use Rattle.character_runs.proofs.CharPlaces.{none_in, none_of}
 use Rattle.character_runs.proofs.Replaced.{none_changed, count_replaced, count_there}
 use Rattle.character_runs.proofs.RunChars.{one, node_on_none, chars-append}
 use Rattle.character_runs.proofs.LooseRuns.{one_of, one_most, ends_of, ends_second, loose-append}
-use Rattle.character_runs.proofs.Splits.{runs-append, none_by}
+use Rattle.character_runs.proofs.Splits.{runs-append}
 
 -- what has a lower label last stands right ahead
 pub ahead_stands : (ps : List (ℕ × Stretch)) (label own : ℕ) (run struck : Stretch) → IsRising ps → Contains ps (label, run) → EndsWith (lower ps label) own struck → is_continued struck (struck_with run.from 0) ≡ true → 0 < struck.len → 1 < run.len → run.prepared ≡ 1
@@ -102,12 +102,6 @@ module _ (ps : List (ℕ × Stretch)) (t : Labels) (label : ℕ) (run : Stretch)
   -- THE LABELS
   pub firsts_root : node_on v 1 ≡ Root → ⊥
   firsts_root e = not_root_on v 1 (laid.rooted label run held) e
-
-  pub firsts_bare : label_of t (node_on v 1) ≡ None
-  firsts_bare = none_by (label_of t (node_on v 1)) (λ l e.
-      let there : Stands ps label 1 (node_on v 1) = record { run = run; held = held; inside = long; node = refl } in
-      let z = laid.apart (node_on v 1) l label 1 e there in
-      omega (arith, z))
 
   pub firsts_labelled : (u : Labels) → GoesOver t u v (node_on v 1) label → AreLabelled qs u
   firsts_labelled u goes = firsts_laid ps t u label s.label run s.run laid rising held struck_held apart long ahead.some on.from goes

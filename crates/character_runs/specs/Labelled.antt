@@ -1,31 +1,17 @@
 -- Nodes with labels.
-use Rattle.std.specs.Prelude.{◌≡◌, ℕ, ◌≤◌, Option, Some, None, IsSome, nat_le, nat_eq, Bool, true, false, if◌then◌else◌}
+use Rattle.std.specs.Prelude.{◌≡◌, ℕ, ◌≤◌, Option, Some, None, IsSome, nat_le, Bool, true, false, if◌then◌else◌}
 use Rattle.std.specs.Ordering.{nat_cmp}
 use Rattle.std.specs.BTreeMap.{get}
 use Rattle.ew_model.specs.declared.node.Node.{Node}
 use Rattle.ew_model.specs.declared.node.Node.TheVariants.{Root, Base, Event}
 use Rattle.fugue_place.specs.Attachments.{node_eq}
 use Rattle.character_runs.specs.declared.labels.Labels.{Labels}
-use Rattle.character_runs.specs.declared.labels.Moved.{Moved}
-use Rattle.character_runs.specs.declared.labels.Table.{Table}
-
--- what a number has, but that this one has nothing
-abbrev pub without : ℕ → (ℕ → Option ℕ) → ℕ → Option ℕ
-without n kept k = if nat_eq n k then None else kept k
-
--- the label of a number: that which has gone over to it, none where it was taken from, and else what is kept under it
-abbrev pub label_by : Option Moved → (ℕ → Option ℕ) → ℕ → Option ℕ
-label_by None kept k = kept k
-label_by (Some m) kept k = if nat_eq m.to k then Some m.label else without m.from kept k
-
-abbrev pub label_at : Table → ℕ → Option ℕ
-label_at t k = label_by t.moved (get nat_cmp t.map) k
 
 -- the label of a node
 abbrev pub label_of : Labels → Node → Option ℕ
 label_of t Root = None
-label_of t (Base i) = label_at t.base i
-label_of t (Event i) = label_at t.events i
+label_of t (Base i) = get nat_cmp t.base i
+label_of t (Event i) = get nat_cmp t.events i
 
 -- the first node is one of those up to the second: both of the base or both of events
 abbrev pub is_up_to : Node → Node → Bool
@@ -52,12 +38,9 @@ Sets old new v label = (w : Node) → label_of new w ≡ (if node_eq v w then la
 abbrev pub GoesOver : Labels → Labels → Node → Node → ℕ → Type 0
 GoesOver old new from to label = (w : Node) → label_of new w ≡ (if node_eq from w then None else (if node_eq to w then Some label else label_of old w))
 
--- the last number up to this one that has a label, and the label
-pub record IsLastAt (kept : ℕ → Option ℕ) (n number label : ℕ) : Type 0 where
+-- the label is that of the last number up to this one that has one
+pub record IsLastIn (kept : ℕ → Option ℕ) (n label : ℕ) : Type 0 where
+  pub number : ℕ
   pub before : number ≤ n
   pub has : kept number ≡ Some label
   pub last : (k : ℕ) → k ≤ n → IsSome (kept k) → k ≤ number
-
--- the label of that number, whichever it is
-abbrev pub IsLastIn : (ℕ → Option ℕ) → ℕ → ℕ → Type 0
-IsLastIn kept n label = (number : ℕ) × IsLastAt kept n number label

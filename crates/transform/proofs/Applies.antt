@@ -6,8 +6,9 @@ use Rattle.std.proofs.lemmas.List.{length-append, take-append-drop}
 use Rattle.std.proofs.Math.Seq.{take-append_seam}
 use Rattle.std.proofs.lemmas.Option.{slice_get-map, slice_get_within}
 use Rattle.ew_model.specs.declared.id.Id.{Id}
+use Rattle.ew_model.specs.declared.name.Name.{Name}
 use Rattle.ew_model.specs.declared.event.Op.{Op}
-use Rattle.ew_model.specs.declared.event.Op.TheVariants.{Ins, Del}
+use Rattle.ew_model.specs.declared.event.Op.TheVariants.{Ins, Del, Mark}
 use Rattle.ew_model.specs.declared.event.Event.{Event}
 use Rattle.ew_model.specs.declared.text_op.TextOp.{TextOp}
 use Rattle.ew_model.specs.Ancestors.{ids_of}
@@ -16,14 +17,14 @@ use Rattle.ew_model.specs.Entries.{visible}
 use Rattle.ew_model.specs.Operations.{next_operation, operations}
 use Rattle.ew_model.specs.Texts.{text_at}
 use Rattle.ew_model.specs.Records.{next_of, prepared_entries}
-use Rattle.ew_model.specs.Places.Act.{InsertAs, DeleteAt}
+use Rattle.ew_model.specs.Places.Act.{InsertAs, DeleteAt, MarkAs}
 use Rattle.ew_model.specs.Sound.{IsSound, AreSound}
 use Rattle.ew_model.specs.Tree.{Applied, act_by, tree_of}
 use Rattle.ew_model.specs.Verdicts.{is_outside, graph_verdict}
 use Rattle.ew_model.specs.Verdicts.Ruling.{Good}
 use Rattle.ew_model.specs.Walks.{base_at, walked_from}
 use Rattle.ew_model.proofs.EntryLaws.{LaidOut}
-use Rattle.advance_retreat.specs.Conditions.{MayInsert, MayDelete}
+use Rattle.advance_retreat.specs.Conditions.{MayInsert, MayDelete, MayMark}
 use Rattle.advance_retreat.specs.Kept.{Kept, with_lost}
 use Rattle.advance_retreat.specs.Standing.{StandsFor}
 use Rattle.advance_retreat.specs.declared.fault.ApplyFault.{ApplyFault}
@@ -143,10 +144,27 @@ deletion_answers front cut e old new answer lv at long op told stands range err 
       err = err;
     }
 
+-- a mark is never out of range
+pub mark_turned : (front : List Event) (cut : ℕ) (e : Event) (old new : Kept) (op : TextOp) (lv : ℕ) (label : Name) → length front ≡ lv → e.op ≡ Mark label → IsReady front cut e old
+    → op ≡ next_operation nat_eq (base_at front cut) (tree_of nat_eq (base_at front cut) (walked_from front cut)) (next_of lv MarkAs (over_since front cut e))
+    → StandsFor new (base_at front cut) (walked_from front cut ++ next_of lv MarkAs (over_since front cut e) ∷ []) (lv ∷ over_since front cut e)
+    → Turned front cut e new (turn.Applied op)
+mark_turned front cut e old new op lv label long is ready told stands =
+    let b = base_at front cut in
+    let over = over_since front cut e in
+    let same : next_of lv MarkAs over ≡ walked front cut e = λ i. record { name = sym long i; act = act_by e.id (sym is i); over = over } in
+    applied_well front cut e old ready op new (ap (is_outside (prepared_length front cut e)) is)
+    (told ∙ ap (next_operation nat_eq b (tree_of nat_eq b (walked_from front cut))) same)
+    (subst (λ n. StandsFor new b (walked_from front cut ++ walked front cut e ∷ []) (n ∷ over)) (sym long)
+    (subst (λ (a : Applied ℕ). StandsFor new b (walked_from front cut ++ a ∷ []) (lv ∷ over)) same stands))
+
 pub may_insert : (front : List Event) (cut : ℕ) (e : Event) (lv : ℕ) (x : Id) → cut ≤ length front → graph_verdict front e ≡ Good → e.id ≡ x → length front ≡ lv → MayInsert (walked_from front cut) lv x
 may_insert front cut e lv x low admitted id long =
     subst (MayInsert (walked_from front cut) lv) id
     (subst (λ n. MayInsert (walked_from front cut) n e.id) long (record { position = unnamed front cut low; id = uninserted front cut e.id (let_in front e admitted).new }))
+
+pub may_mark : (front : List Event) (cut lv : ℕ) → cut ≤ length front → length front ≡ lv → MayMark (walked_from front cut) lv
+may_mark front cut lv low long = subst (MayMark (walked_from front cut)) long (unnamed front cut low)
 
 pub may_delete : (front : List Event) (cut lv : ℕ) → cut ≤ length front → length front ≡ lv → MayDelete (walked_from front cut) lv
 may_delete front cut lv low long = subst (MayDelete (walked_from front cut)) long (unnamed front cut low)

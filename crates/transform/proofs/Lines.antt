@@ -45,10 +45,12 @@ use Rattle.transform.proofs.Steps.{operations_next}
 own_index : (len : ℕ) (o : Op) → is_outside len o ≡ false → IsInRange len o × (same_index o ≡ own_change o)
 own_index len (op.Ins at ch) h = (ltb-false len at h, refl)
 own_index len (op.Del at) h = (let k = leb-false len at h in omega (arith, k), refl)
+own_index len (op.Mark label) h = (tt, refl)
 
 length_changed : (o : Op) (text : List ℕ) → is_outside (length text) o ≡ false → length (changed_by (own_change o) text) ≡ length_by o (length text)
 length_changed (op.Ins at ch) text h = length-insert text at ch (ltb-false (length text) at h)
 length_changed (op.Del at) text h = omega (arith, length-remove text at (leb-false (length text) at h))
+length_changed (op.Mark label) text h = refl
 
 -- where an event knows all, the text at its parents is the whole
 known_text : (front : List Event) (e : Event) → LaidOut [] front → KnowsAll front (ancestors front e.parents) → text_at front e.parents ≡ text_of front

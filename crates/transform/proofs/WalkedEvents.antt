@@ -5,7 +5,7 @@ use Rattle.std.proofs.lemmas.Bool.{false≢true, or_parts}
 use Rattle.std.proofs.lemmas.List.{take-append-drop, take-append-le, drop-append-le, length-drop}
 use Rattle.ew_model.specs.declared.id.Id.{Id}
 use Rattle.ew_model.specs.declared.event.Op.{Op}
-use Rattle.ew_model.specs.declared.event.Op.TheVariants.{Ins, Del}
+use Rattle.ew_model.specs.declared.event.Op.TheVariants.{Ins, Del, Mark}
 use Rattle.ew_model.specs.declared.event.Event.{Event}
 use Rattle.ew_model.specs.Ids.{id_eq}
 use Rattle.ew_model.specs.Ancestors.{is_held, ancestors}
@@ -29,6 +29,7 @@ named_one m n false rest q f = ap (λ b. b || rest) q ∙ f (λ same. false≢tr
 uninserted_act : (x y : Id) (op : Op) → id_eq x y ≡ false → inserts_as x (act_by y op) ≡ false
 uninserted_act x y (Ins at ch) h = ids_alike.symm y x ∙ h
 uninserted_act x y (Del at) h = refl
+uninserted_act x y (Mark label) h = refl
 
 -- an id that a history doesn't hold is none of its later ones
 pub unheld_later : (front : List Event) (cut : ℕ) (x : Id) → is_held front x ≡ false → is_held (drop cut front) x ≡ false

@@ -43,6 +43,7 @@ pub fn apply<L: Ledger>(
             turn_of(state.apply_ins(lv, id, at, ch, steps))
         }
         Op::Del { at } => turn_of(state.apply_del(lv, at, steps)),
+        Op::Mark { label: _ } => Ok(Turn::Applied(state.apply_mark(lv, steps)?)),
     }
 }
 

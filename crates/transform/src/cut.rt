@@ -20,7 +20,7 @@ use std::alloc::Global;
 use std::sync::ledger::Ledger;
 
 /// Walks over the event at a critical cut, before which the text has so many characters. Where no other event stands beside
-/// it, it does to the text what it says: no state is kept then, and `line` is the length of the text behind it. Else the state
+/// it, it does to the text what it says, and a mark does nothing: no state is kept then, and `line` is the length of the text behind it. Else the state
 /// begins anew.
 pub fn pass_cut<L: Ledger>(
     alloc: Global,
@@ -41,7 +41,7 @@ pub fn pass_cut<L: Ledger>(
 {
     let _count = graph.count();
     if stands_alone(graph, lv, near) {
-        if let Some((op, len)) = change_by(graph.op_near(lv, near), len) {
+        if let Some((op, len)) = change_by(&graph.op_near(lv, near), len) {
             steps.tick();
             *line = Some(len);
             return Ok(Turn::Applied(op));
@@ -62,14 +62,15 @@ fn stands_alone(graph: &Graph, lv: u32, near: &mut Near) -> bool
 }
 
 /// What an operation in range does to a text of so many characters, and the length after it.
-fn change_by(op: Op, len: u32) -> Option<(TextOp, u32)>
+fn change_by(op: &Op, len: u32) -> Option<(TextOp, u32)>
     requires { len + 1 < 2 ^ 32 }
-    ensures none { IfNone result (is_outside len op ≡ true) }
-    ensures some { IfSome result (λ c. (is_outside len op ≡ false) × (c.0 ≡ own_change op) × (c.1 ≡ length_by op len)) }
+    ensures none { IfNone result (is_outside len op.now ≡ true) }
+    ensures some { IfSome result (λ c. (is_outside len op.now ≡ false) × (c.0 ≡ own_change op.now) × (c.1 ≡ length_by op.now len)) }
 {
-    match op {
+    match *op {
         Op::Ins { at, ch } if at <= len => Some((TextOp::Ins { at, ch }, len + 1)),
         Op::Del { at } if at < len => Some((TextOp::Del { at }, len - 1)),
-        _ => None,
+        Op::Mark { label: _ } => Some((TextOp::Nothing, len)),
+        Op::Ins { at: _, ch: _ } | Op::Del { at: _ } => None,
     }
 }

@@ -41,7 +41,7 @@ impl Runs {
     {
         self.facts();
         let node = cursor.last_node();
-        self.labels.hand_over(struck.run.from, node, struck.label)?;
+        self.labels.shift(struck.run.from, node, struck.label)?;
         let run = Record {
             from: node,
             len: struck.run.len + 1,
@@ -127,13 +127,12 @@ fn struck_first(run: &Record) -> Record
 }
 
 /// Gives the first node of a run this label, and takes that of another run's away.
-fn hand_label(labels: &mut Labels, from: &Record, to: &Record, label: u64) -> Result<(), NoMem>
-    requires some { to.now.from ≡ nodes.Root → ⊥ }
-    requires bare { label_of labels.old to.now.from ≡ None }
+fn shift_label(labels: &mut Labels, from: &Record, to: &Record, label: u64) -> Result<(), NoMem>
+    requires { to.now.from ≡ nodes.Root → ⊥ }
     ensures ok { OnOk result (GoesOver labels.old labels.new from.now.from to.now.from label) }
     ensures err { OnErr result ((v : Nodes) → label_of labels.new v ≡ label_of labels.old v) }
 {
-    labels.hand_over(from.from, to.from, label)
+    labels.shift(from.from, to.from, label)
 }
 
 impl Runs {
@@ -186,7 +185,7 @@ impl Runs {
         self.facts();
         let one = struck_first(&found.run);
         let (first, rest) = found.run.split(1);
-        hand_label(&mut self.labels, &found.run, &rest, found.label)?;
+        shift_label(&mut self.labels, &found.run, &rest, found.label)?;
         self.tree.change(found.label, rest, visits);
         self.tree
             .change(struck.label, struck.run.join(&one), visits);

@@ -2,7 +2,7 @@ use Rattle.std.proofs.Common.{IfOk, sym, subst, take, ◌∙◌}
 use Rattle.ew_model.specs.Walks.{base_at, walked_from}
 use Rattle.ew_model.proofs.ListParts.{element_there}
 use Rattle.transform.specs.Reaching.{Turned, over_since}
-use Rattle.transform.proofs.Applies.{deletion_answers, id_is, insertion_answers, may_delete, may_insert, op_is, ready, turned}
+use Rattle.transform.proofs.Applies.{deletion_answers, id_is, insertion_answers, mark_turned, may_delete, may_insert, may_mark, op_is, ready, turned}
 use Rattle.transform.proofs.Sides.{length_front}
 use Rattle.transform.proofs.apply.apply.Goals as goal
 
@@ -60,3 +60,28 @@ returns-in-Del-clause-turned g c = λ cut e is_ready at.
     deletion_answers front cut e c.args.state.now c.apply_del.new.self c.apply_del.result lv c.in-Del.at long (op_is now lv e _ at c.op_near.ensures ∙ c.in-Del.is)
     (c.apply_del.ensures.op b events over r.stands may) (c.apply_del.ensures.ok b events over r.stands may) (c.apply_del.ensures.out_of_range b events over r.stands) c.apply_del.ensures.err in
     subst (λ a. IfOk a (Turned front cut e c.apply_del.new.self)) (sym c.turn_of-in-Del.ensures) (turned front cut e c.args.state.now c.apply_del.new.self c.apply_del.result r answers)
+
+pub apply_mark-requires : goal.apply_mark-requires
+apply_mark-requires g c =
+    let now = c.args.graph.now in
+    let lv = c.args.lv in
+    let front = take lv now in
+    let cut = c.requires.ready.0 in
+    let found = element_there now lv c.requires.within in
+    let e = found.0 in
+    let r = ready now cut lv e c.args.state.now c.count-count.ensures.admitted c.count-count.ensures.sound found.1 c.requires.ready.1 in
+    (base_at front cut, walked_from front cut, over_since front cut e, r.stands, may_mark front cut lv r.low (length_front now lv e found.1))
+
+pub returns-in_ok-apply_mark-in-Mark-clause-turned : goal.returns-in_ok-apply_mark-in-Mark-clause-turned
+returns-in_ok-apply_mark-in-Mark-clause-turned g c = λ cut e is_ready at.
+    let now = c.args.graph.now in
+    let lv = c.args.lv in
+    let front = take lv now in
+    let b = base_at front cut in
+    let events = walked_from front cut in
+    let over = over_since front cut e in
+    let long = length_front now lv e at in
+    let r = ready now cut lv e c.args.state.now c.count-count.ensures.admitted c.count-count.ensures.sound at is_ready in
+    let may = may_mark front cut lv r.low long in
+    mark_turned front cut e c.args.state.now c.apply_mark.new.self c.in_ok-apply_mark-in-Mark.field-0 lv c.in-Mark.label long (op_is now lv e _ at c.op_near.ensures ∙ c.in-Mark.is) r
+    (c.in_ok-apply_mark-in-Mark.ensures.op b events over r.stands may) (c.in_ok-apply_mark-in-Mark.ensures.ok b events over r.stands may)

@@ -1,5 +1,6 @@
-use Rattle.std.proofs.Common.{◌≡◌, ◌∷◌, List, [], map, length, ◌≤◌, ◌^◌, Some, sym, ap, ◌∙◌, subst}
+use Rattle.std.proofs.Common.{rules, ◌≡◌, ◌∷◌, List, [], map, length, ◌≤◌, ◌^◌, Some, sym, ap, ◌∙◌, subst}
 use Rattle.std.specs.List.{AllByRecursion}
+use Rattle.ew_model.specs.declared.node.Node.TheVariants.{Root}
 use Rattle.walker_record.specs.Stretches.{Stretch}
 use Rattle.fugue_place.specs.declared.child.Attached.{Attached}
 use Rattle.fugue_place.specs.Attachments.{is_there, AreAttached}
@@ -11,7 +12,7 @@ use Rattle.advance_retreat.specs.Standing.{StandsFor}
 use Rattle.advance_retreat.proofs.Hanging.{few_records, target_there}
 use Rattle.advance_retreat.proofs.Keeping.{has_room}
 use Rattle.advance_retreat.proofs.LooseEvents.{found_told, same_few}
-use Rattle.advance_retreat.proofs.Moving.{with_records, no_target, advanced_by}
+use Rattle.advance_retreat.proofs.Moving.{with_records, no_target, advanced_by, advanced_past}
 use Rattle.advance_retreat.proofs.state.State.advance.Goals as goal
 
 pub change-requires-clause-room : goal.change-requires-clause-room
@@ -46,6 +47,14 @@ returns-in_ok-change-clause-ok g c = λ b events prepared st may.
     (subst (λ (s : Kept). StandsFor s b events (c.args.lv ∷ prepared)) (ap (λ (s : Kept). with_records s c.change.new.self.records) (sym c.self.view_is))
     (subst (λ (rs : List Stretch). StandsFor (with_records now rs) b events (c.args.lv ∷ prepared)) (sym records)
     (advanced_by now b events prepared st c.args.lv c.in-Some.node found may.0 may.1)))
+
+pub returns-else-ne-clause-ok : goal.returns-else-ne-clause-ok
+returns-else-ne-clause-ok g c = λ b events prepared st may.
+    let now = c.args.self.now in
+    let read = ap (λ (s : Kept). s.targets) c.self.view_is in
+    let root : c.in-Some.node ≡ Root = search rules in
+    let found : target_at now.targets c.args.lv ≡ Some Root = sym (c.node.ensures ∙ ap (λ ts. target_at ts c.args.lv) read) ∙ c.in-Some.is ∙ ap (λ v. Some v) root in
+    advanced_past now b events prepared st c.args.lv found may.0 may.1
 
 pub returns-in_default-clause-ok : goal.returns-in_default-clause-ok
 returns-in_default-clause-ok g c = λ b events prepared st may.

@@ -1,7 +1,6 @@
-use Rattle.std.proofs.Common.{ℕ, ◌-◌, List, [], ◌∙◌, reverse, refl, subst, sym, arith}
+use Rattle.std.proofs.Common.{◌-◌, [], ◌∙◌, refl, subst, sym, arith}
 use Rattle.std.specs.List.{range_with_len}
 use Rattle.advance_retreat.specs.Kept.{Kept}
-use Rattle.advance_retreat.specs.Standing.{StandsFor}
 use Rattle.advance_retreat.specs.Conditions.{PartAdvanced}
 use Rattle.character_runs.proofs.Entered.{on_err}
 use Rattle.advance_retreat.proofs.SpanMoves.{advanced_end, advanced_on, advance_left}

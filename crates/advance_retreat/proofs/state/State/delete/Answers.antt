@@ -15,7 +15,7 @@ use Rattle.advance_retreat.proofs.Answering.{refused, not_refused, answered}
 use Rattle.advance_retreat.proofs.Found.{new_target}
 use Rattle.advance_retreat.proofs.Hanging.{few_records, visible_there}
 use Rattle.advance_retreat.proofs.Keeping.{has_room, visible_told}
-use Rattle.advance_retreat.proofs.Room.{can_delete}
+use Rattle.advance_retreat.proofs.Room.{can_follow}
 use Rattle.advance_retreat.proofs.SameTrees.{kept_by, same_kept}
 use Rattle.advance_retreat.proofs.Deleting.{deleted, deletion_does, in_range}
 use Rattle.advance_retreat.proofs.state.State.delete.Goals as goal
@@ -85,7 +85,7 @@ pub returns-clause-op : goal.returns-clause-op
 returns-clause-op c = λ b events prepared st may.
     let f = found c in
     f.does
-    ∙ sym (deletion_does c.args.self.now b events prepared st c.args.lv (can_delete events c.args.lv may (sym (c.has_room_for_event.ensures b events prepared (still c b events prepared st)) ∙ c.if-not-has_room_for_event.false)) c.args.at f.place f.here)
+    ∙ sym (deletion_does c.args.self.now b events prepared st c.args.lv (can_follow events c.args.lv may (sym (c.has_room_for_event.ensures b events prepared (still c b events prepared st)) ∙ c.if-not-has_room_for_event.false)) c.args.at f.place f.here)
 
 pub returns-clause-ok : goal.returns-clause-ok
 returns-clause-ok c = λ b events prepared st may.
@@ -94,7 +94,7 @@ returns-clause-ok c = λ b events prepared st may.
     let same = same_kept c.self.inside.base c.self.inside.targets c.self.inside.lost c.self.inside.tree c.deletion_at.new.self c.args.self.now c.deletion_at.ensures.same c.self.view_is in
     let node : c.in-Some.deletion.node ≡ f.here.0.from = f.node in
     subst (λ (s : Kept). StandsFor s b (events ++ next_of c.args.lv (DeleteAt c.args.at) prepared ∷ []) (c.args.lv ∷ prepared)) (sym (c.in_ok-strike.ensures.ok ∙ ap (λ (s : Kept). with_deletion s c.args.lv c.in-Some.deletion.node) same ∙ ap (with_deletion now c.args.lv) node))
-    (deleted now b events prepared st c.args.lv (can_delete events c.args.lv may (sym (c.has_room_for_event.ensures b events prepared (still c b events prepared st)) ∙ c.if-not-has_room_for_event.false)) c.args.at f.place f.here)
+    (deleted now b events prepared st c.args.lv (can_follow events c.args.lv may (sym (c.has_room_for_event.ensures b events prepared (still c b events prepared st)) ∙ c.if-not-has_room_for_event.false)) c.args.at f.place f.here)
 
 pub returns-clause-out_of_range : goal.returns-clause-out_of_range
 returns-clause-out_of_range c = λ b events prepared st len.

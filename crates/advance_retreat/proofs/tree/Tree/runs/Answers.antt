@@ -1,4 +1,4 @@
-use Rattle.std.proofs.Common.{◌+◌, ◌*◌, ◌≤◌, Bool, map, ap, arith}
+use Rattle.std.proofs.Common.{Bool, map, ap, arith}
 use Rattle.std.proofs.lemmas.List.{length-map}
 use Rattle.ew_model.specs.declared.node.Node.{Node}
 use Rattle.character_runs.specs.Loose.{loose_in}

@@ -6,8 +6,8 @@ use Rattle.character_runs.proofs.labels.Labels.last_up_to.Goals as goal
 
 pub returns-in-Base-clause-some : goal.returns-in-Base-clause-some
 returns-in-Base-clause-some c =
-    subst (λ (v : Node). IfSome c.last_up_to.result (IsLast c.args.self.now v)) (sym c.in-Base.is) (some_base c.args.self.now c.in-Base.i c.last_up_to.result c.last_up_to.ensures.some)
+    subst (λ (v : Node). IfSome c.last_in.result (IsLast c.args.self.now v)) (sym c.in-Base.is) (some_base c.args.self.now c.in-Base.i c.last_in.result c.last_in.ensures.some)
 
 pub returns-in-Event-clause-some : goal.returns-in-Event-clause-some
 returns-in-Event-clause-some c =
-    subst (λ (v : Node). IfSome c.last_up_to-in-Event.result (IsLast c.args.self.now v)) (sym c.in-Event.is) (some_event c.args.self.now c.in-Event.i c.last_up_to-in-Event.result c.last_up_to-in-Event.ensures.some)
+    subst (λ (v : Node). IfSome c.last_in-in-Event.result (IsLast c.args.self.now v)) (sym c.in-Event.is) (some_event c.args.self.now c.in-Event.i c.last_in-in-Event.result c.last_in-in-Event.ensures.some)

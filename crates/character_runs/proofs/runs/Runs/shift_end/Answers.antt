@@ -4,25 +4,21 @@ use Rattle.character_runs.specs.Cursors.{with_end, settled}
 use Rattle.character_runs.proofs.Entered.{on_err}
 use Rattle.character_runs.proofs.Places.{laid_same}
 use Rattle.character_runs.proofs.Settled.{settled_rising}
-use Rattle.character_runs.proofs.StruckEnds.{left_chars, left_gave, left_labelled, shifted_bare, shifted_root}
+use Rattle.character_runs.proofs.StruckEnds.{left_chars, left_gave, left_labelled, shifted_root}
 use Rattle.character_runs.proofs.runs.Runs.shift_end.Goals as goal
 
-pub hand_over-requires-clause-some : goal.hand_over-requires-clause-some
-hand_over-requires-clause-some c =
+pub shift-requires : goal.shift-requires
+shift-requires c =
     shifted_root (settled c.args.self.now.tree.pairs (Some c.args.cursor.now)) c.args.self.now.labels c.args.cursor.now _ c.last_node-node.result c.requires.laid (settled_rising c.args.self.now.tree.pairs (Some c.args.cursor.now) c.facts.ensures.rising) c.requires.at (c.requires.behind ∙ ap (λ (x : Struck). Some x) (sym c.struck.view_is)) c.requires.long c.last_node-node.ensures
 
-pub hand_over-requires-clause-bare : goal.hand_over-requires-clause-bare
-hand_over-requires-clause-bare c =
-    shifted_bare (settled c.args.self.now.tree.pairs (Some c.args.cursor.now)) c.args.self.now.labels c.args.cursor.now _ c.last_node-node.result c.requires.laid (settled_rising c.args.self.now.tree.pairs (Some c.args.cursor.now) c.facts.ensures.rising) c.requires.at (c.requires.behind ∙ ap (λ (x : Struck). Some x) (sym c.struck.view_is)) c.requires.long c.last_node-node.ensures
-
-pub returns-in_err-hand_over-clause-err : goal.returns-in_err-hand_over-clause-err
-returns-in_err-hand_over-clause-err c =
-    on_err c.from_residual.result _ (laid_same (settled c.args.self.now.tree.pairs (Some c.args.cursor.now)) c.args.self.now.labels c.hand_over.new.self c.in_err-hand_over.ensures.err c.requires.laid)
+pub returns-in_err-shift-clause-err : goal.returns-in_err-shift-clause-err
+returns-in_err-shift-clause-err c =
+    on_err c.from_residual.result _ (laid_same (settled c.args.self.now.tree.pairs (Some c.args.cursor.now)) c.args.self.now.labels c.shift.new.self c.in_err-shift.ensures.err c.requires.laid)
 
 pub returns-clause-laid : goal.returns-clause-laid
 returns-clause-laid c =
     left_labelled (settled c.args.self.now.tree.pairs (Some c.args.cursor.now)) c.args.self.now.labels c.args.cursor.now _ c.last_node-node.result c.requires.laid (settled_rising c.args.self.now.tree.pairs (Some c.args.cursor.now) c.facts.ensures.rising) c.requires.at (c.requires.behind ∙ ap (λ (x : Struck). Some x) (sym c.struck.view_is)) c.requires.long c.last_node-node.ensures
-    c.args.self.now.tree.pairs (ap (λ (o : Option Struck). with_end c.args.self.now.tree.pairs c.args.cursor.now.label c.args.cursor.now.run o) (c.requires.behind ∙ ap (λ (x : Struck). Some x) (sym c.struck.view_is))) c.hand_over.new.self c.in_ok-hand_over.ensures.ok
+    c.args.self.now.tree.pairs (ap (λ (o : Option Struck). with_end c.args.self.now.tree.pairs c.args.cursor.now.label c.args.cursor.now.run o) (c.requires.behind ∙ ap (λ (x : Struck). Some x) (sym c.struck.view_is))) c.shift.new.self c.in_ok-shift.ensures.ok
 
 pub returns-clause-chars : goal.returns-clause-chars
 returns-clause-chars c =

@@ -4,28 +4,23 @@ use Rattle.walker_record.specs.Stretches.{Stretch, node_on, joined_of, first_par
 use Rattle.order_tree.specs.Pairs.{labels, changed, runs, IsRising}
 use Rattle.character_runs.specs.Cursors.{struck_with}
 use Rattle.character_runs.specs.States.{is_inserted, knows}
-use Rattle.character_runs.specs.Labelled.{label_of, GoesOver}
+use Rattle.character_runs.specs.Labelled.{GoesOver}
 use Rattle.character_runs.specs.Laid.{AreLabelled, chars_in}
 use Rattle.character_runs.specs.Loose.{loose_in}
 use Rattle.character_runs.specs.Replacing.{Replaces, Recounted}
 use Rattle.character_runs.proofs.AlteredChars.{sums_fit}
 use Rattle.character_runs.proofs.Places.{laid_same}
-use Rattle.character_runs.proofs.StruckFirsts.{firsts_root, firsts_bare, firsts_labelled, firsts_held, firsts_ahead, mid_long, firsts_replaced, firsts_chars, firsts_long, firsts_recounted, firsts_was, firsts_is, firsts_loose, firsts_told}
+use Rattle.character_runs.proofs.StruckFirsts.{firsts_root, firsts_labelled, firsts_held, firsts_ahead, mid_long, firsts_replaced, firsts_chars, firsts_long, firsts_recounted, firsts_was, firsts_is, firsts_loose, firsts_told}
 use Rattle.character_runs.proofs.runs.Runs.shift_first.Goals as goal
 
-pub hand_label-requires-clause-some : goal.hand_label-requires-clause-some
-hand_label-requires-clause-some g c =
+pub shift_label-requires : goal.shift_label-requires
+shift_label-requires g c =
     let rest_is : c.split-first.result.1.from ≡ node_on c.args.found.run.from 1 = ap (λ (r : Stretch). r.from) c.split-first.ensures.second in
     λ e. firsts_root c.args.self.now.tree.pairs c.args.self.now.labels c.args.found.label c.args.found.run c.args.struck c.requires.laid c.facts.ensures.rising c.requires.ahead (sym rest_is ∙ e)
 
-pub hand_label-requires-clause-bare : goal.hand_label-requires-clause-bare
-hand_label-requires-clause-bare g c =
-    let rest_is : c.split-first.result.1.from ≡ node_on c.args.found.run.from 1 = ap (λ (r : Stretch). r.from) c.split-first.ensures.second in
-    ap (label_of c.args.self.now.labels) rest_is ∙ firsts_bare c.args.self.now.tree.pairs c.args.self.now.labels c.args.found.label c.args.found.run c.args.struck c.requires.laid c.facts.ensures.rising c.requires.ahead
-
-pub returns-in_err-hand_label-clause-laid : goal.returns-in_err-hand_label-clause-laid
-returns-in_err-hand_label-clause-laid g c =
-    laid_same c.args.self.now.tree.pairs c.args.self.now.labels c.hand_label.new.labels c.in_err-hand_label.ensures.err c.requires.laid
+pub returns-in_err-shift_label-clause-laid : goal.returns-in_err-shift_label-clause-laid
+returns-in_err-shift_label-clause-laid g c =
+    laid_same c.args.self.now.tree.pairs c.args.self.now.labels c.shift_label.new.labels c.in_err-shift_label.ensures.err c.requires.laid
 
 pub change-requires-clause-held : goal.change-requires-clause-held
 change-requires-clause-held g c =
@@ -62,8 +57,8 @@ returns-clause-laid g c =
     let join : c.join.result ≡ joined_of c.args.struck.run (struck_with c.args.found.run.from 0) = c.join.ensures ∙ ap (λ (r : Stretch). joined_of c.args.struck.run r) c.struck_first-one.ensures in
     let all : c.change-2.new.self.pairs ≡ changed (changed c.args.self.now.tree.pairs c.args.found.label (second_part c.args.found.run 1)) c.args.struck.label (joined_of c.args.struck.run (struck_with c.args.found.run.from 0)) = c.change-2.ensures.pairs ∙ (λ i. changed (mid i) c.args.struck.label (join i)) in
     let rest_is : c.split-first.result.1.from ≡ node_on c.args.found.run.from 1 = ap (λ (r : Stretch). r.from) c.split-first.ensures.second in
-    subst (λ (xs : List (ℕ × Stretch)). AreLabelled xs c.hand_label.new.labels) (sym all)
-    (firsts_labelled c.args.self.now.tree.pairs c.args.self.now.labels c.args.found.label c.args.found.run c.args.struck c.requires.laid c.facts.ensures.rising c.requires.ahead c.hand_label.new.labels (subst (λ (w : Node). GoesOver c.args.self.now.labels c.hand_label.new.labels c.args.found.run.from w c.args.found.label) rest_is c.in_ok-hand_label.ensures.ok))
+    subst (λ (xs : List (ℕ × Stretch)). AreLabelled xs c.shift_label.new.labels) (sym all)
+    (firsts_labelled c.args.self.now.tree.pairs c.args.self.now.labels c.args.found.label c.args.found.run c.args.struck c.requires.laid c.facts.ensures.rising c.requires.ahead c.shift_label.new.labels (subst (λ (w : Node). GoesOver c.args.self.now.labels c.shift_label.new.labels c.args.found.run.from w c.args.found.label) rest_is c.in_ok-shift_label.ensures.ok))
 
 pub returns-clause-chars : goal.returns-clause-chars
 returns-clause-chars g c =
@@ -100,9 +95,9 @@ returns-clause-is g c =
     let join : c.join.result ≡ joined_of c.args.struck.run (struck_with c.args.found.run.from 0) = c.join.ensures ∙ ap (λ (r : Stretch). joined_of c.args.struck.run r) c.struck_first-one.ensures in
     let all : c.change-2.new.self.pairs ≡ changed (changed c.args.self.now.tree.pairs c.args.found.label (second_part c.args.found.run 1)) c.args.struck.label (joined_of c.args.struck.run (struck_with c.args.found.run.from 0)) = c.change-2.ensures.pairs ∙ (λ i. changed (mid i) c.args.struck.label (join i)) in
     let rest_is : c.split-first.result.1.from ≡ node_on c.args.found.run.from 1 = ap (λ (r : Stretch). r.from) c.split-first.ensures.second in
-    let laid = firsts_labelled c.args.self.now.tree.pairs c.args.self.now.labels c.args.found.label c.args.found.run c.args.struck c.requires.laid c.facts.ensures.rising c.requires.ahead c.hand_label.new.labels (subst (λ (w : Node). GoesOver c.args.self.now.labels c.hand_label.new.labels c.args.found.run.from w c.args.found.label) rest_is c.in_ok-hand_label.ensures.ok) in
+    let laid = firsts_labelled c.args.self.now.tree.pairs c.args.self.now.labels c.args.found.label c.args.found.run c.args.struck c.requires.laid c.facts.ensures.rising c.requires.ahead c.shift_label.new.labels (subst (λ (w : Node). GoesOver c.args.self.now.labels c.shift_label.new.labels c.args.found.run.from w c.args.found.label) rest_is c.in_ok-shift_label.ensures.ok) in
     let rising = subst (λ (xs : List (ℕ × Stretch)). IsRising xs) all c.facts-2.ensures.rising in
-    ap (λ (xs : List (ℕ × Stretch)). knows (chars_in xs) c.args.found.run.from) all ∙ firsts_is c.args.self.now.tree.pairs c.args.self.now.labels c.args.found.label c.args.found.run c.args.struck c.requires.laid c.facts.ensures.rising c.requires.ahead c.hand_label.new.labels laid rising ∙ ap is_inserted (sym c.struck_first-one.ensures)
+    ap (λ (xs : List (ℕ × Stretch)). knows (chars_in xs) c.args.found.run.from) all ∙ firsts_is c.args.self.now.tree.pairs c.args.self.now.labels c.args.found.label c.args.found.run c.args.struck c.requires.laid c.facts.ensures.rising c.requires.ahead c.shift_label.new.labels laid rising ∙ ap is_inserted (sym c.struck_first-one.ensures)
 
 pub returns-clause-loose : goal.returns-clause-loose
 returns-clause-loose g c among =
