@@ -1,12 +1,10 @@
 -- The program's answers as those of the rows.
-use Rattle.std.proofs.Common.{◌≡◌, nat_eq, nat_le, Bool, true, false, cond, ◌&&◌, ◌||◌, List, [], ◌∷◌, ◌++◌, length, Some, refl, sym, ap, ◌∙◌, subst, append-nil}
+use Rattle.std.proofs.Common.{◌≡◌, nat_le, Bool, true, false, cond, ◌&&◌, ◌||◌, List, [], ◌∷◌, ◌++◌, length, Some, refl, sym, ap, ◌∙◌, subst, append-nil}
 use Rattle.std.specs.Bool.{then_some}
 use Rattle.std.specs.List.{list_any}
 use Rattle.std.specs.Cmp.Lexicographic.{pointwise}
-use Rattle.std.proofs.lemmas.Bool.{false≢true, false_from_ne_true, and_parts, eqb-true}
+use Rattle.std.proofs.lemmas.Bool.{false≢true, false_from_ne_true}
 use Rattle.ew_model.specs.declared.id.Id.{Id}
-use Rattle.ew_model.specs.declared.event.Op.{Op}
-use Rattle.ew_model.specs.declared.event.Op.TheVariants.{Ins, Del}
 use Rattle.ew_model.specs.declared.event.Event.{Event}
 use Rattle.ew_model.specs.Ancestors.{is_held}
 use Rattle.ew_model.specs.Events.{op_eq, event_eq}
@@ -23,34 +21,14 @@ use Rattle.replica.specs.declared.answer.Answer.TheVariants as answer
 use Rattle.ew_model.specs.declared.verdict.Refusal.TheVariants as why
 use Rattle.replica.specs.Desks.{answer_by, sized}
 use Rattle.replica.proofs.RulingRows.{or_else, or_else-assoc, by_id, by_parents, by_size, size_is, later_blind, verdict_is, graph_verdict_is}
-use Rattle.ew_model.proofs.SameEvents.{same_ids}
-
-same_ops : (o p : Op) → op_eq o p ≡ true → o ≡ p
-same_ops (Ins i c) (Ins j d) e =
-    let parts = and_parts (nat_eq i j) (nat_eq c d) e in
-    let at : i ≡ j = eqb-true i j parts.0 in
-    let ch : c ≡ d = eqb-true c d parts.1 in
-    λ k. Ins (at k) (ch k)
-same_ops (Ins i c) (Del j) e = absurd (false≢true e)
-same_ops (Del i) (Ins j d) e = absurd (false≢true e)
-same_ops (Del i) (Del j) e = let at : i ≡ j = eqb-true i j e in λ k. Del (at k)
-
--- equal by the test, two events are one
-event_exact : (e f : Event) → event_eq e f ≡ true → e ≡ f
-event_exact e f h =
-    let parts = and_parts (id_eq e.id f.id && pointwise id_eq e.parents f.parents) (op_eq e.op f.op) h in
-    let first = and_parts (id_eq e.id f.id) (pointwise id_eq e.parents f.parents) parts.0 in
-    let id : e.id ≡ f.id = (is_same_id e.id f.id).0 first.0 in
-    let parents : e.parents ≡ f.parents = same_ids e.parents f.parents first.1 in
-    let op : e.op ≡ f.op = same_ops e.op f.op parts.1 in
-    λ i. record { id = id i; parents = parents i; op = op i }
+use Rattle.ew_model.proofs.SameEvents.{same_events}
 
 -- by a waiting event of the same id
 pub repeated : (e f : Event) → e ≡ f → answer.Repeat ≡ answer_by (cond (event_eq e f) Repeat Clash)
 repeated e f same = ap (λ (b : Bool). answer_by (cond b Repeat Clash)) (sym (subst (λ (g : Event). event_eq e g ≡ true) same (same_event e)))
 
 pub clashing : (e f : Event) → (e ≡ f → ⊥) → answer.Refused why.Clash ≡ answer_by (cond (event_eq e f) Repeat Clash)
-clashing e f other = ap (λ (b : Bool). answer_by (cond b Repeat Clash)) (sym (false_from_ne_true (event_eq e f) (λ q. other (event_exact e f q))))
+clashing e f other = ap (λ (b : Bool). answer_by (cond b Repeat Clash)) (sym (false_from_ne_true (event_eq e f) (λ q. other (same_events e f q))))
 
 -- a good event is refused where no more may be held
 sized_by : (g : Ruling) (b : Bool) → answer_by (or_else g (cond b GraphFull Good)) ≡ sized b (answer_by g)

@@ -1,6 +1,5 @@
 -- What an edit makes may be appended, and what is kept after it.
-use Rattle.std.proofs.Common.{◌≡◌, ℕ, ◌+◌, ◌≤◌, nat_lt, Bool, true, false, cond, List, [], ◌∷◌, ◌++◌, map, length, Option, Some, None, refl, sym, ap, ◌∙◌, arith}
-use Rattle.std.proofs.lemmas.Bool.{ltb-false}
+use Rattle.std.proofs.Common.{◌≡◌, ℕ, ◌+◌, ◌≤◌, false, List, [], ◌∷◌, ◌++◌, map, length, None, sym, ap, ◌∙◌, subst, arith}
 use Rattle.std.proofs.lemmas.List.{length-map}
 use Rattle.ew_model.specs.declared.event.Event.{Event}
 use Rattle.ew_model.specs.declared.text_op.TextOp.{TextOp}
@@ -10,9 +9,11 @@ use Rattle.ew_model.specs.Texts.{text_of}
 use Rattle.ew_model.specs.TextLaws.{own_change}
 use Rattle.ew_model.specs.Verdicts.{IsGood}
 use Rattle.ew_model.specs.Kept.{IsKept, ReplicaState, is_awaited}
-use Rattle.ew_model.specs.Edits.{Edit, EditRefusal, ops_of, events_of_edit, needed_length, edit_refusal}
-use Rattle.ew_model.specs.EditLaws.{size_of}
-use Rattle.ew_model.proofs.EditLaws.{edits_are_good, edits_keep, edits_change_text}
+use Rattle.ew_model.specs.Cuts.{is_critical}
+use Rattle.ew_model.specs.Edits.{Edit, ops_of, events_of_edit, needed_length, edit_refusal}
+use Rattle.ew_model.specs.Edits.Edit.{Insert, Delete, Mark}
+use Rattle.ew_model.specs.EditLaws.{number_made, size_of}
+use Rattle.ew_model.proofs.EditLaws.{IsOfText, edits_are_good, edits_keep, edits_change_text, not_refused as allowed}
 use Rattle.ew_model.proofs.EditTexts.{edit_fits, edit_changes, edit_long}
 use Rattle.ew_model.proofs.TextLengths.{length_changed, text_is_short}
 use Rattle.rope.specs.Lengths.{AllStayShort}
@@ -26,35 +27,28 @@ use Rattle.replica.proofs.EditLengths.{edit_lengths}
 use Rattle.replica.proofs.Fronts.{made_admitted}
 use Rattle.replica.proofs.LengthLaws.{prefix_lengths-append}
 
-first_none : (b : Bool) (x : EditRefusal) (more : Option EditRefusal) → cond b (Some x) more ≡ None → b ≡ false
-first_none true x more e = let no : ⊥ = cc in absurd no
-first_none false x more e = refl
-
--- an edit that isn't refused is in range
-pub in_range : (limits : LimitNumbers) (held : List Event) (agent : List ℕ) (edit : Edit) → edit_refusal limits held agent edit ≡ None → needed_length edit ≤ length (text_of held)
-unfolding edit_refusal
-in_range limits held agent edit none = ltb-false (length (text_of held)) (needed_length edit) (first_none (nat_lt (length (text_of held)) (needed_length edit)) _ _ none)
-
 -- texts that few operations lead through are short
 pub stay_short : (t : List ℕ) (changes : List TextOp) → length t + length changes ≤ 16777216 → AllStayShort t changes
 stay_short t [] h = omega (arith, h)
 stay_short t (op ∷ changes) h = (omega (arith, h), stay_short (changed_by op t) changes (omega (arith, h, length_changed op t)))
 
-pub can_append : (limits : LimitNumbers) (held waiting : List Event) (agent : List ℕ) (edit : Edit) → IsKept limits held waiting → is_awaited held waiting agent ≡ false → limits.events ≤ 16777216 → edit_refusal limits held agent edit ≡ None
-    → CanAppend limits held waiting (events_of_edit held agent edit) (map own_change (ops_of edit))
-can_append limits held waiting agent edit kept awaited few none =
+pub can_append : (limits : LimitNumbers) (held waiting : List Event) (agent : List ℕ) (edit : Edit) → IsOfText held agent edit → IsKept limits held waiting → is_awaited held waiting agent ≡ false → limits.events ≤ 16777216
+    → edit_refusal limits held agent edit ≡ None → CanAppend limits held waiting (events_of_edit held agent edit) (map own_change (ops_of edit))
+can_append limits held waiting agent edit text kept awaited few none =
     let made = events_of_edit held agent edit in
     let good : IsGood held = kept.orderly.good in
-    let inside = in_range limits held agent edit none in
+    let inside = (allowed limits held agent edit none).inside in
     let changed = edits_change_text limits held agent edit good none in
     let after : IsKept limits (held ++ made) waiting = edits_keep limits held waiting agent edit kept awaited none in
     record {
       kept = after;
       admitted = made_admitted held made after.orderly.good;
-      cut = edit_cut held agent (ops_of edit) after.orderly.good;
+      cut =
+          ap (λ es. is_critical (held ++ es) (length held)) text.events
+          ∙ edit_cut held agent (ops_of edit) (subst (λ es. IsGood (held ++ es)) text.events after.orderly.good);
       fit = edit_fits edit (text_of held) inside;
-      short = stay_short (text_of held) (map own_change (ops_of edit)) (omega (arith, length-map (ops_of edit) own_change, edit_long edit, text_is_short held good, changed.1, (edits_are_good limits held agent edit good kept.few none).1, few));
-      lengths = edit_lengths limits held agent edit good none inside;
+      short = stay_short (text_of held) (map own_change (ops_of edit)) (omega (arith, length-map (ops_of edit) own_change, edit_long edit, text_is_short held good, changed.1, text.made, (edits_are_good limits held agent edit good kept.few none).1, few));
+      lengths = edit_lengths limits held agent edit text good none;
       text = edit_changes edit (text_of held) inside ∙ sym changed.0;
     }
 
@@ -72,12 +66,17 @@ appended limits held pool made changes text lengths now can = record {
 }
 
 -- numbers in the bounds of their types
+small_size : (held : List Event) (edit : Edit) → size_of edit ≤ number_made held edit
+small_size held (Insert at text) = omega arith
+small_size held (Delete at count) = omega arith
+small_size held (Mark label) = omega arith
+
 pub edit_is_small : (limits : LimitNumbers) (held waiting : List Event) (agent : List ℕ) (edit : Edit) → IsKept limits held waiting → limits.events ≤ 16777216 → edit_refusal limits held agent edit ≡ None
     → (needed_length edit ≤ 16777216) × (length held + size_of edit ≤ 16777216)
 edit_is_small limits held waiting agent edit kept few none =
     let good : IsGood held = kept.orderly.good in (
-      omega (arith, in_range limits held agent edit none, text_is_short held good, kept.few, few),
-      omega (arith, (edits_change_text limits held agent edit good none).1, (edits_are_good limits held agent edit good kept.few none).1, few),
+      omega (arith, (allowed limits held agent edit none).inside, text_is_short held good, kept.few, few),
+      omega (arith, small_size held edit, (edits_change_text limits held agent edit good none).1, (edits_are_good limits held agent edit good kept.few none).1, few),
     )
 
 -- what isn't refused of a state isn't refused of one that is the same

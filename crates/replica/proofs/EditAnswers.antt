@@ -1,5 +1,5 @@
 -- What is answered to an edit.
-use Rattle.std.proofs.Common.{◌≡◌, ℕ, ◌+◌, ◌==◌, nat_lt, Bool, cond, ◌&&◌, List, ◌++◌, length, Some, None, Result, Ok, Err, refl, sym, ap, ◌∙◌, append-nil}
+use Rattle.std.proofs.Common.{◌≡◌, ℕ, ◌+◌, ◌==◌, nat_lt, cond, ◌&&◌, List, ◌++◌, length, Some, None, Result, Ok, Err, refl, sym, ap, ◌∙◌, append-nil}
 use Rattle.std.proofs.lemmas.List.{nil_from_length}
 use Rattle.ew_model.specs.declared.event.Event.{Event}
 use Rattle.ew_model.specs.Ancestors.{heads}
@@ -7,34 +7,36 @@ use Rattle.ew_model.specs.Limits.{LimitNumbers}
 use Rattle.ew_model.specs.Texts.{text_of}
 use Rattle.ew_model.specs.Verdicts.{IsGood}
 use Rattle.ew_model.specs.Kept.{ReplicaState}
-use Rattle.ew_model.specs.Edits.{Edit, ops_of, events_of_edit, needed_length, needs_few_heads, edit_refusal}
-use Rattle.ew_model.specs.Edits.Edit.{Insert, Delete}
+use Rattle.ew_model.specs.Edits.{Edit, ops_of, events_of_edit, needed_length, edit_refusal}
 use Rattle.ew_model.specs.Edits.EditRefusal.{OutOfRange, TooManyHeads, Full}
 use Rattle.ew_model.specs.EditLaws.{edited, size_of}
-use Rattle.ew_model.proofs.EditLaws.{ops_long, edits_change_text}
+use Rattle.ew_model.proofs.EditLaws.{IsOfText, insert_of_text, delete_of_text, ops_long, edits_change_text}
 use Rattle.ew_model.proofs.EditTexts.{edit_long}
+use Rattle.replica.specs.declared.edit.Edit as program
+use Rattle.replica.specs.declared.edit.Edit.TheVariants as of
 use Rattle.replica.specs.declared.fault.EditFault.{EditFault}
 use Rattle.replica.specs.declared.fault.EditFault.TheVariants as fault
 use Rattle.replica.specs.Answers.{EditsBy, refusal_of}
+use Rattle.replica.specs.Editing.{edit_view}
 use Rattle.replica.specs.Refusing.{refusal_by}
 
-both_few : (edit : Edit) (b : Bool) → (needs_few_heads edit && b) ≡ b
-both_few (Insert at text) b = refl
-both_few (Delete at count) b = refl
+-- an edit of the program puts in or takes out characters
+pub view_of_text : (held : List Event) (agent : List ℕ) (edit : program.Edit) → IsOfText held agent (edit_view edit)
+view_of_text held agent (of.Insert at text) = insert_of_text held agent at text.items
+view_of_text held agent (of.Delete at count) = delete_of_text held agent at count
 
-pub made_long : (held : List Event) (agent : List ℕ) (edit : Edit) → length (events_of_edit held agent edit) ≡ size_of edit
-made_long held agent edit = ops_long held agent (ops_of edit) ∙ edit_long edit
+made_long : (held : List Event) (agent : List ℕ) (edit : Edit) → IsOfText held agent edit → length (events_of_edit held agent edit) ≡ size_of edit
+made_long held agent edit text = ap length text.events ∙ (ops_long held agent (ops_of edit) ∙ edit_long edit)
 
--- whether an edit is refused depends on some numbers alone
-pub refusal_is : (limits : LimitNumbers) (held : List Event) (agent : List ℕ) (edit : Edit)
+-- whether an edit is refused that puts in or takes out characters depends on some numbers alone
+pub refusal_is : (limits : LimitNumbers) (held : List Event) (agent : List ℕ) (edit : Edit) → IsOfText held agent edit
     → edit_refusal limits held agent edit ≡ refusal_by (length (text_of held)) (length (heads held)) (length held) limits.events (needed_length edit) (size_of edit)
 unfolding edit_refusal
-refusal_is limits held agent edit =
-    let long = made_long held agent edit in
-    let few = both_few edit (nat_lt 16 (length (heads held))) in
+refusal_is limits held agent edit text =
+    let long = made_long held agent edit text in
     λ i. cond (nat_lt (length (text_of held)) (needed_length edit)) (Some (OutOfRange (length (text_of held))))
     (cond (long i == 0) None
-    (cond (few i) (Some (TooManyHeads (length (heads held))))
+    (cond (text.needs i && nat_lt 16 (length (heads held))) (Some (TooManyHeads (length (heads held))))
     (cond (nat_lt limits.events (length held + long i)) (Some (Full (length held))) None)))
 
 -- a refusal
@@ -45,9 +47,9 @@ refused agent edit old (fault.Full count) e = (e, refl)
 refused agent edit old fault.OutOfMemory e = refl
 
 -- an edit that makes no events
-pub nothing_made : (agent : List ℕ) (edit : Edit) (old : ReplicaState) → edit_refusal old.limits old.held agent edit ≡ None → size_of edit ≡ 0 → EditsBy agent edit old old (Ok 0)
-nothing_made agent edit old none empty =
-    let long : length (events_of_edit old.held agent edit) ≡ 0 = made_long old.held agent edit ∙ empty in
+pub nothing_made : (agent : List ℕ) (edit : Edit) (old : ReplicaState) → IsOfText old.held agent edit → edit_refusal old.limits old.held agent edit ≡ None → size_of edit ≡ 0 → EditsBy agent edit old old (Ok 0)
+nothing_made agent edit old text none empty =
+    let long : length (events_of_edit old.held agent edit) ≡ 0 = made_long old.held agent edit text ∙ empty in
     let same : old.held ≡ old.held ++ events_of_edit old.held agent edit = sym (ap (λ es. old.held ++ es) (nil_from_length (events_of_edit old.held agent edit) long) ∙ append-nil old.held) in
     (none, (λ i. record { limits = old.limits; held = same i; waiting = old.waiting }), sym long)
 

@@ -1,6 +1,5 @@
 -- How long a text is after each event of an edit.
-use Rattle.std.proofs.Common.{◌≡◌, ℕ, zero, suc, ◌+◌, ◌==◌, nat_lt, ◌≤◌, ◌⊎◌, inl, inr, ⊎_elim, Bool, true, false, cond, List, [], ◌∷◌, ◌++◌, map, length, take, Some, None, refl, sym, ap, subst, ◌∙◌, arith}
-use Rattle.std.proofs.lemmas.Bool.{eqb-true, ltb-false}
+use Rattle.std.proofs.Common.{◌≡◌, ℕ, zero, suc, ◌+◌, ◌≤◌, ◌⊎◌, inl, inr, ⊎_elim, List, [], ◌∷◌, ◌++◌, map, length, take, None, refl, sym, ap, subst, ◌∙◌, arith}
 use Rattle.std.proofs.lemmas.List.{take-map, length-map}
 use Rattle.ew_model.specs.declared.id.Id.{Id}
 use Rattle.ew_model.specs.declared.event.Op.{Op}
@@ -12,13 +11,11 @@ use Rattle.ew_model.specs.Operations.{changed_by, changed_by_all}
 use Rattle.ew_model.specs.Texts.{text_of}
 use Rattle.ew_model.specs.TextLaws.{own_change, AllFit}
 use Rattle.ew_model.specs.Verdicts.{IsGood}
-use Rattle.ew_model.specs.Edits.{Edit, EditRefusal, chain_of, ops_of, events_of_ops, events_of_edit, needed_length, edit_refusal}
-use Rattle.ew_model.specs.EditLaws.{size_of}
+use Rattle.ew_model.specs.Edits.{Edit, chain_of, ops_of, events_of_ops, events_of_edit, edit_refusal}
 use Rattle.ew_model.proofs.EditEvents.{FewHeads, MayDo, ops_done}
-use Rattle.ew_model.proofs.EditLaws.{ops_long}
-use Rattle.ew_model.proofs.EditTexts.{edit_fits, edit_long}
+use Rattle.ew_model.proofs.EditLaws.{IsOfText, not_refused, ops_long}
+use Rattle.ew_model.proofs.EditTexts.{edit_fits}
 use Rattle.replica.specs.Lengths.{lengths_after, lengths_through}
-use Rattle.replica.proofs.EditAnswers.{refusal_is}
 use Rattle.replica.proofs.LengthLaws.{LeadAlike, lengths_alike}
 
 -- the first events of a chain are those of the first operations
@@ -45,42 +42,34 @@ few_front held ops zero h = tt
 few_front held [] (suc n) h = tt
 few_front held (op ∷ ops) (suc n) h = ⊎_elim (λ e. absurd (omega (arith, e))) (λ few. few) h
 
--- an edit that isn't refused makes nothing, or finds few heads
-nothing_or_few : (a b c d : Bool) (x y z : EditRefusal) → cond a (Some x) (cond b None (cond c (Some y) (cond d (Some z) None))) ≡ None → (b ≡ true) ⊎ (c ≡ false)
-nothing_or_few true b c d x y z e = let no : ⊥ = cc in absurd no
-nothing_or_few false true c d x y z e = inl refl
-nothing_or_few false false true d x y z e = let no : ⊥ = cc in absurd no
-nothing_or_few false false false d x y z e = inr refl
+-- an edit that isn't refused has nothing to do, or finds few heads
+few_heads : (limits : LimitNumbers) (held : List Event) (agent : List ℕ) (edit : Edit) → IsOfText held agent edit → edit_refusal limits held agent edit ≡ None
+    → (length (ops_of edit) ≡ 0) ⊎ (length (heads held) ≤ 16)
+few_heads limits held agent edit text none =
+    let made : length (events_of_edit held agent edit) ≡ length (ops_of edit) = ap length text.events ∙ ops_long held agent (ops_of edit) in
+    ⊎_elim (λ e. inl (sym made ∙ e)) (λ k. inr (k.0 text.needs)) (not_refused limits held agent edit none).room
 
-few_heads : (limits : LimitNumbers) (held : List Event) (agent : List ℕ) (edit : Edit) → edit_refusal limits held agent edit ≡ None → (length (ops_of edit) ≡ 0) ⊎ (length (heads held) ≤ 16)
-few_heads limits held agent edit none =
-    let many = length (heads held) in
-    let size = size_of edit in
-    ⊎_elim
-    (λ e. inl (edit_long edit ∙ eqb-true size 0 e))
-    (λ few. inr (ltb-false 16 many few))
-    (nothing_or_few (nat_lt (length (text_of held)) (needed_length edit)) (size == 0) (nat_lt 16 many) (nat_lt limits.events (length held + size)) _ _ _ (sym (refusal_is limits held agent edit) ∙ none))
-
-edit_leads : (limits : LimitNumbers) (held : List Event) (agent : List ℕ) (edit : Edit) → IsGood held → edit_refusal limits held agent edit ≡ None → needed_length edit ≤ length (text_of held)
+edit_leads : (limits : LimitNumbers) (held : List Event) (agent : List ℕ) (edit : Edit) → IsOfText held agent edit → IsGood held → edit_refusal limits held agent edit ≡ None
     → LeadAlike held (text_of held) (events_of_edit held agent edit) (map own_change (ops_of edit))
-edit_leads limits held agent edit good none inside =
+edit_leads limits held agent edit text good none =
     let ops = ops_of edit in
     let changes = map own_change ops in
     let front : (n : ℕ) → map own_change (take n ops) ≡ take n changes = λ n. sym (take-map own_change n ops) in
+    let inside = (not_refused limits held agent edit none).inside in
     let may : (n : ℕ) → MayDo held (take n ops) = λ n. record {
       good = good;
-      few = few_front held ops n (few_heads limits held agent edit none);
+      few = few_front held ops n (few_heads limits held agent edit text none);
       fit = subst (AllFit (text_of held)) (sym (front n)) (fit_front (text_of held) changes n (edit_fits edit (text_of held) inside));
     } in
     record {
-      long = ops_long held agent ops ∙ sym (length-map ops own_change);
+      long = ap length text.events ∙ (ops_long held agent ops ∙ sym (length-map ops own_change));
       texts = λ n.
-          ap (λ es. text_of (held ++ es)) (sym (events_front held agent ops n))
+          ap (λ es. text_of (held ++ es)) (ap (take n) text.events ∙ sym (events_front held agent ops n))
           ∙ ((ops_done held agent (take n ops) (may n)).text ∙ ap (λ cs. changed_by_all cs (text_of held)) (front n));
     }
 
--- The operations of an edit lead through texts as long as those after its events.
-pub edit_lengths : (limits : LimitNumbers) (held : List Event) (agent : List ℕ) (edit : Edit) → IsGood held → edit_refusal limits held agent edit ≡ None → needed_length edit ≤ length (text_of held)
+-- The operations of an edit that puts in or takes out characters lead through texts as long as those after its events.
+pub edit_lengths : (limits : LimitNumbers) (held : List Event) (agent : List ℕ) (edit : Edit) → IsOfText held agent edit → IsGood held → edit_refusal limits held agent edit ≡ None
     → lengths_through (text_of held) (map own_change (ops_of edit)) ≡ lengths_after held (events_of_edit held agent edit)
-edit_lengths limits held agent edit good none inside =
-    lengths_alike held (text_of held) (events_of_edit held agent edit) (map own_change (ops_of edit)) (edit_leads limits held agent edit good none inside)
+edit_lengths limits held agent edit text good none =
+    lengths_alike held (text_of held) (events_of_edit held agent edit) (map own_change (ops_of edit)) (edit_leads limits held agent edit text good none)

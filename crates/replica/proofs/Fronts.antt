@@ -11,7 +11,7 @@ use Rattle.ew_model.proofs.CutLaws.{critical_front}
 use Rattle.ew_model.proofs.EntryLaws.{LaidOut}
 use Rattle.ew_model.proofs.FirstBadLaws.{good_has_no_bad}
 use Rattle.event_graph.specs.Keeping.{AreAdmittedAfter, IsAdmitted}
-use Rattle.event_graph.specs.Tails.{TailMark, mark_of}
+use Rattle.event_graph.specs.Tails.{Standing, hold_of}
 use Rattle.event_graph.proofs.Admitted.{laid}
 use Rattle.replica.specs.Answers.{TellsBad}
 use Rattle.replica.specs.declared.fault.LoadFault.{LoadFault}
@@ -86,9 +86,9 @@ stays_cut held made i graph before after cut grown =
     (subst (LaidOut []) (sym parts) (laid (held ++ made) (admitted_joined [] held made before after)))
     (ap (λ (l : List Event). is_critical l (length held)) parts ∙ cut)
 
--- the mark of a front is that of the front taken again
-pub tail_marks : (tail : TailMark) (old new : List Event) → tail ≡ mark_of old → IsFront old new → tail ≡ mark_of (take tail.count new)
-tail_marks tail old new marked front = marked ∙ ap mark_of (sym (ap (λ (t : TailMark). take t.count new) marked ∙ front_takes old new front))
+-- the hold on a front is that on the front taken again
+pub hold_stands : (tail : Standing) (old new : List Event) → tail ≡ hold_of old → IsFront old new → tail ≡ hold_of (take tail.count new)
+hold_stands tail old new marked front = marked ∙ ap hold_of (sym (ap (λ (t : Standing). take t.count new) marked ∙ front_takes old new front))
 
 -- what is told of a front is told of all
 pub told_of_front : (front events : List Event) (fault : LoadFault) → IsFront front events → TellsBad front fault → TellsBad events fault

@@ -1,6 +1,7 @@
 -- The next received event, where it goes on from the last one held.
-use Rattle.std.proofs.Common.{◌≡◌, ℕ, ◌+◌, ◌-◌, ◌<◌, nat_le, Bool, true, false, List, [], ◌∷◌, ◌++◌, drop, length, map, slice_get, Option, Some, None, refl, sym, ap, ◌∙◌, subst, arith, append-nil, add-zero, find, length-append}
+use Rattle.std.proofs.Common.{◌≡◌, ℕ, ◌+◌, ◌-◌, ◌<◌, nat_le, Bool, true, false, List, [], ◌∷◌, ◌++◌, drop, length, map, slice_get, Option, Some, None, IfSome, refl, sym, ap, ◌∙◌, subst, arith, append-nil, add-zero, find, length-append}
 use Rattle.std.proofs.lemmas.Bool.{false_from_ne_true, leb-true}
+use Rattle.std.proofs.lemmas.List.{nil_from_length}
 use Rattle.std.proofs.lemmas.Option.{get_or_from_slice_get, slice_get_within, same_Some}
 use Rattle.ew_model.specs.declared.id.Id.{Id}
 use Rattle.ew_model.specs.declared.event.Op.{Op}
@@ -38,6 +39,20 @@ behind_at history p last x op admitted within only before told next does =
     let parents : e.0.parents ≡ last ∷ [] = ids_of_only history p e.0 last admitted e.1 only before in
     let same : e.0.op ≡ op = sym (same_made (λ (f : Event). f.op) history p e.0 op e.1 does) in
     e.1 ∙ (λ i. Some (record { id = id i; parents = parents i; op = same i }))
+
+-- what is known of the next received event, where none is out of range, nothing waits and there is room
+pub next_held : (limits : LimitNumbers) (out : Option (ℕ × ℕ)) (held events : List Event) (d : Desk) (last : Id) (found : Option Op) → out ≡ None → last_id held ≡ Some last
+    → length (events_of d.pool) ≡ 0 → length held < limits.events → IfSome found (λ op. slice_get events d.progress.judged ≡ Some (event_behind last op))
+    → IfSome found (IsNextHeld limits out held events d)
+next_held limits out held events d last None none is empty room there = tt
+next_held limits out held events d last (Some op) none is empty room there = record {
+  last = last;
+  held_last = is;
+  there = there;
+  none_waits = nil_from_length (events_of d.pool) empty;
+  room = room;
+  none_out = none;
+}
 
 -- Where the next received event goes on from the last one held, and nothing waits ..
 module _ (limits : LimitNumbers) (out : Option (ℕ × ℕ)) (held events : List Event) (d : Desk) (op : Op) (next : IsNextHeld limits out held events d op) where

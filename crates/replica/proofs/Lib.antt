@@ -15,6 +15,10 @@ pub mod Judged
 pub mod Knowing
 pub mod LengthLaws
 pub mod LengthSteps
+pub mod MarkJoins
+pub mod MarkLaws
+pub mod MarkOrder
+pub mod MarkParents
 pub mod NotOut
 pub mod OfferedPlaces
 pub mod PastTexts

@@ -5,16 +5,16 @@ use Rattle.std.proofs.lemmas.Bool.{false≢true}
 use Rattle.ew_model.specs.declared.event.Event.{Event}
 use Rattle.ew_model.specs.Arrival.{Desk}
 use Rattle.ew_model.specs.Limits.{LimitNumbers}
-use Rattle.event_graph.specs.Tails.{TailMark, mark_of}
+use Rattle.event_graph.specs.Tails.{Standing, hold_of}
 use Rattle.waiting_pool.specs.Waiting.{Waiting, events_of}
 use Rattle.replica.specs.Counting.{Counted}
 use Rattle.replica.specs.Desks.{LeadsTo, desk_at}
 use Rattle.replica.specs.Fronts.{IsFront}
 
 -- where a tail is dropped, the graph is what it was
-pub came_back : (tail : TailMark) (old new graph : List Event) → tail ≡ mark_of old → IsFront old new → graph ≡ take tail.count new → graph ≡ old
+pub came_back : (tail : Standing) (old new graph : List Event) → tail ≡ hold_of old → IsFront old new → graph ≡ take tail.count new → graph ≡ old
 came_back tail old new graph marked front dropped =
-    dropped ∙ ap (λ (t : TailMark). take t.count new) marked ∙ ap (take (length old)) front.1 ∙ take-append_seam old front.0
+    dropped ∙ ap (λ (t : Standing). take t.count new) marked ∙ ap (take (length old)) front.1 ∙ take-append_seam old front.0
 
 -- where the parts are the same, judgements lead there from the desk known before
 pub begun_at : (limits : LimitNumbers) (out : Option (ℕ × ℕ)) (held graph events : List Event) (pool w : Waiting) (c k : Counted) (to : Desk) (after : Counted) (b : Bool) → graph ≡ held → w ≡ pool → k ≡ c

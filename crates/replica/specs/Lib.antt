@@ -7,6 +7,7 @@ pub mod Fronts
 pub mod Giving
 pub mod Keeping
 pub mod Lengths
+pub mod Marking
 pub mod Offering
 pub mod Reaching
 pub mod Receiving

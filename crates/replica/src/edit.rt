@@ -82,15 +82,17 @@ fn deletions(alloc: Global, at: u32, n: u32) -> Result<Vec<Op>, NoMem>
 pub fn changes(alloc: Global, ops: &[Op]) -> Result<Vec<TextOp>, NoMem>
     ensures { IfOk result (λ v. v.items ≡ map own_change ops.now) }
 {
-    ops.iter().map(|op| change(*op)).collect(alloc)
+    ops.iter().map(|op| change(op)).collect(alloc)
 }
 
-fn change(op: Op) -> TextOp
-    ensures { result ≡ own_change op }
+/// What an operation does to the text. A mark does nothing.
+fn change(op: &Op) -> TextOp
+    ensures { result ≡ own_change op.now }
 {
     match op {
-        Op::Ins { at, ch } => TextOp::Ins { at, ch },
-        Op::Del { at } => TextOp::Del { at },
+        Op::Ins { at, ch } => TextOp::Ins { at: *at, ch: *ch },
+        Op::Del { at } => TextOp::Del { at: *at },
+        Op::Mark { .. } => TextOp::Nothing,
     }
 }
 

@@ -5,9 +5,9 @@ ghost use Rattle.replica.specs.declared.fault.LoadFault.TheVariants as load;
 ghost use Rattle.replica.specs.declared.fault.EditFault.TheVariants as edit;
 ghost use Rattle.replica.specs.declared.fault.VersionFault.TheVariants as version;
 
+use ew_model::NoMem;
 use ew_model::id::Id;
 use ew_model::verdict::Verdict;
-use std::alloc::AllocError;
 use thiserror::Error;
 
 /// Why events make no replica.
@@ -20,10 +20,10 @@ pub enum LoadFault {
     OutOfMemory,
 }
 
-impl From<AllocError> for LoadFault {
+impl From<NoMem> for LoadFault {
     ghost from_gives = { λ _ e. e ≡ load.OutOfMemory };
 
-    fn from(_e: AllocError) -> LoadFault {
+    fn from(_e: NoMem) -> LoadFault {
         LoadFault::OutOfMemory
     }
 }
@@ -44,10 +44,10 @@ pub enum EditFault {
     OutOfMemory,
 }
 
-impl From<AllocError> for EditFault {
+impl From<NoMem> for EditFault {
     ghost from_gives = { λ _ e. e ≡ edit.OutOfMemory };
 
-    fn from(_e: AllocError) -> EditFault {
+    fn from(_e: NoMem) -> EditFault {
         EditFault::OutOfMemory
     }
 }
@@ -62,10 +62,10 @@ pub enum VersionFault {
     OutOfMemory,
 }
 
-impl From<AllocError> for VersionFault {
+impl From<NoMem> for VersionFault {
     ghost from_gives = { λ _ e. e ≡ version.OutOfMemory };
 
-    fn from(_e: AllocError) -> VersionFault {
+    fn from(_e: NoMem) -> VersionFault {
         VersionFault::OutOfMemory
     }
 }

@@ -21,7 +21,6 @@ use ew_model::NoMem;
 use ew_model::event::{Event, Op};
 use ew_model::limits::Limits;
 use ew_model::verdict::Refusal;
-use std::alloc::AllocError;
 use waiting_pool::{Pool, PutFault};
 
 /// Puts a copy of an event behind those that wait, unless as many wait as may.
@@ -38,7 +37,7 @@ fn wait(pool: &mut Pool, e: &Event) -> Result<Answer, NoMem>
         Ok(()) => Ok(Answer::Waits),
         Err(PutFault::Waits(_)) => unreachable!(),
         Err(PutFault::Full(_)) => Ok(Answer::Refused(Refusal::PoolFull)),
-        Err(PutFault::OutOfMemory(_)) => Err(AllocError),
+        Err(PutFault::OutOfMemory(_)) => Err(NoMem),
     }
 }
 

@@ -16,6 +16,7 @@ mod listed;
 mod load;
 mod loading;
 mod made;
+mod marking;
 mod offered;
 mod past;
 mod rounds;

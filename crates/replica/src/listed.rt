@@ -14,8 +14,8 @@ pub fn listed(alloc: Global, graph: &Graph) -> Result<Vec<Event>, NoMem>
     let count = graph.count();
     let mut events = Vec::with_capacity(alloc, count as usize)?;
     let mut near = Near::start();
-    for lv in 0..count {
-        events.push(graph.event_near(lv, &mut near)?)?;
+    for position in 0..count {
+        events.push(graph.event_near(position, &mut near)?)?;
     }
     Ok(events)
 }

@@ -11,7 +11,7 @@ ghost use Rattle.ew_model.specs.EditLaws.{edited, size_of};
 ghost use Rattle.ew_model.specs.Edits as model;
 ghost use Rattle.ew_model.specs.declared.id.Id.{Id};
 ghost use Rattle.ew_model.specs.Ids.{id_cmp};
-ghost use Rattle.ew_model.specs.File.{IsWritable};
+ghost use Rattle.ew_model.specs.Writable.{IsWritable};
 ghost use Rattle.ew_model.specs.Kept.{IsKept, is_awaited};
 ghost use Rattle.ew_model.specs.Rounds.{after_out_of_range, most_touches, round_touches, rounds_touches};
 ghost use Rattle.ew_model.specs.Sets.{SameElements};
@@ -27,6 +27,7 @@ ghost use Rattle.replica.specs.Desks.{desk_of_replica, IsBegun};
 ghost use Rattle.replica.specs.Editing.{edit_view};
 ghost use Rattle.replica.specs.Keeping.{head_positions};
 ghost use Rattle.replica.specs.Lengths.{prefix_lengths};
+ghost use Rattle.replica.specs.Marking.{CanMark};
 ghost use Rattle.replica.specs.Reaching.{Reaches};
 ghost use Rattle.replica.specs.Receiving.{Receives, StandsBetween, StopsBetween};
 ghost use Rattle.replica.specs.Refusing.{refusal_by};
@@ -42,12 +43,13 @@ use crate::lengths::length_below;
 use crate::listed::listed;
 use crate::loading::given;
 use crate::made::events_by;
+use crate::marking::{extend_marks, mark_events};
 use crate::offered::Offered;
 use crate::past::text_at;
-use crate::rounds::round;
+use crate::rounds::{Intake, round};
 use crate::took::{Stopped, Took};
 use agreement::agrees;
-use event_graph::Graph;
+use event_graph::{Graph, MOST_PARENTS};
 use ew_model::NoMem;
 use ew_model::event::Event;
 use ew_model::id::Id;
@@ -60,9 +62,6 @@ use std::alloc::Global;
 use std::marker::Model;
 use std::sync::ledger::Ledger;
 use waiting_pool::Pool;
-
-/// The most parents of an event.
-const MOST_PARENTS: u32 = 16;
 
 /// The events that one person holds, with their text. Contracts see its limits, the events held and those that wait.
 pub struct Replica {
@@ -249,15 +248,18 @@ impl Replica {
         ensures same_progress { OnErr result (progress.new ≡ progress.old) }
     {
         let _waiting = self.pool.len();
+        let intake = Intake {
+            limits: &self.limits,
+            pool: &self.pool,
+            progress,
+            events,
+        };
         let (desk, more) = round(
             self.alloc,
-            &self.limits,
+            intake,
             &mut self.graph,
             &mut self.text,
             &mut self.lengths,
-            &self.pool,
-            progress,
-            events,
             steps,
         )?;
         self.pool = desk.pool;
@@ -419,6 +421,30 @@ impl Replica {
         self.edit(agent, &Edit::Delete { at, n })
     }
 
+    /// Saves the history under a label: events that join all heads, so that one head is left. With at most 16 heads it is one
+    /// event. Answers how many events were made. It is refused only where there is no room for them, or for want of memory.
+    pub fn mark<L: Ledger>(
+        &mut self,
+        agent: Name,
+        label: Name,
+        steps: &mut Steps<L>,
+    ) -> Result<u32, EditFault>
+        requires { is_awaited self.old.held self.old.waiting agent ≡ false }
+        ensures edits { EditsBy agent (model.Edit.Mark label) self.old self.new result }
+        ensures text { OnOk result (text_of self.new.held ≡ text_of self.old.held) }
+        ensures steps { steps.new ≡ steps.old }
+    {
+        let _ = steps;
+        let _most = self.limits.events();
+        let made = mark_events(self.alloc, &self.graph, agent, label)?;
+        if made.len() > self.room() as usize {
+            let count = self.count();
+            return Err(EditFault::Full { count });
+        }
+        let n = self.append_marks(made.as_slice())?;
+        Ok(n)
+    }
+
     /// Makes the events of an edit, and holds them.
     fn edit(&mut self, agent: Name, edit: &Edit) -> Result<u32, EditFault>
         requires { is_awaited self.old.held self.old.waiting agent ≡ false }
@@ -448,7 +474,7 @@ impl Replica {
             return None;
         }
         let heads = self.head_count();
-        if heads > MOST_PARENTS {
+        if heads > MOST_PARENTS as u32 {
             return Some(EditFault::TooManyHeads { heads });
         }
         if u64::from(self.room()) < edit.size() {
@@ -507,6 +533,19 @@ impl Replica {
             made,
             changes,
         )?;
+        Ok(made.len() as u32)
+    }
+
+    /// Holds the events of a mark, which change no text. Answers how many they are. It does all of it or nothing.
+    fn append_marks(&mut self, made: &[Event]) -> Result<u32, NoMem>
+        requires { CanMark self.old.limits self.old.held self.old.waiting made.now }
+        ensures count { IfOk result (λ n. n ≡ length made.now) }
+        ensures ok { OnOk result (self.new ≡ record { limits = self.old.limits; held = self.old.held ++ made.now; waiting = self.old.waiting }) }
+        ensures err { OnErr result (self.new ≡ self.old) }
+    {
+        let _most = self.limits.events();
+        let len = self.text.len();
+        extend_marks(&mut self.graph, &mut self.lengths, len, made)?;
         Ok(made.len() as u32)
     }
 }

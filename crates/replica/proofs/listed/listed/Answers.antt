@@ -4,11 +4,11 @@ use Rattle.std.proofs.lemmas.Option.{get_or_from_slice_get, slice_get_within}
 use Rattle.ew_model.specs.declared.event.Event.{Event}
 use Rattle.replica.proofs.listed.listed.Goals as goal
 
-pub loop-lv-preserved : goal.loop-lv-preserved
-loop-lv-preserved c =
+pub loop-position-preserved : goal.loop-position-preserved
+loop-position-preserved c =
     let now = c.args.graph.now in
-    let lv = c.loop-lv.lv in
+    let place = c.loop-position.position in
     let e = c.in_ok-event_near.field-0 in
-    let more : take (lv + 1) now ≡ take lv now ++ e ∷ [] =
-    take_more now lv e (slice_get_within now lv e c.in_ok-event_near.ensures) ∙ ap (λ (x : Event). take lv now ++ x ∷ []) (get_or_from_slice_get now lv e e c.in_ok-event_near.ensures) in
-    c.in_ok-push.ensures.items ∙ ap (λ es. es ++ e ∷ []) c.loop-lv.invariant ∙ sym more
+    let more : take (place + 1) now ≡ take place now ++ e ∷ [] =
+    take_more now place e (slice_get_within now place e c.in_ok-event_near.ensures) ∙ ap (λ (x : Event). take place now ++ x ∷ []) (get_or_from_slice_get now place e e c.in_ok-event_near.ensures) in
+    c.in_ok-push.ensures.items ∙ ap (λ es. es ++ e ∷ []) c.loop-position.invariant ∙ sym more

@@ -39,27 +39,27 @@ returns-clause-leads g c =
     let a = c.args in
     let new = c.judge_all.new in
     on_ok c.walk.result
-    (blind_leads a.limits.now (desk_as a.graph.now a.events.now a.desk.now) (desk_as new.graph a.events.now new.desk) a.desk.now.progress new.desk.progress c.in_ok-judge_all.field-0 c.in_ok-judge_all.ensures.leads)
+    (blind_leads a.intake.limits.now (desk_as a.graph.now a.intake.events.now a.desk.now) (desk_as new.graph a.intake.events.now new.desk) a.desk.now.progress new.desk.progress c.in_ok-judge_all.field-0 c.in_ok-judge_all.ensures.leads)
 
 pub returns-clause-touches : goal.returns-clause-touches
 returns-clause-touches g c =
     let a = c.args in
     let new = c.judge_all.new in
-    let from = desk_as a.graph.now a.events.now a.desk.now in
-    let to = desk_as new.graph a.events.now new.desk in
-    let leads : LeadsToEnd a.limits.now None from to a.desk.now.progress new.desk.progress =
-    blind_leads a.limits.now from to a.desk.now.progress new.desk.progress c.in_ok-judge_all.field-0 c.in_ok-judge_all.ensures.leads in
-    IfOk-weaker c.walk.result (λ w. c.walk.new.steps ≡ a.steps.now + touches (judged_of new.graph w.stopped) c.latest_cut-cut.result) (λ w. w.stopped ≡ None → c.walk.new.steps ≡ a.steps.now + round_touches a.limits.now from)
-    (λ w took none. whole_round a.limits.now from to a.desk.now.progress new.desk.progress c.count-count.result c.latest_cut-cut.result a.steps.now c.walk.new.steps w.stopped leads c.count-count.ensures.count c.latest_cut-cut.ensures took none)
+    let from = desk_as a.graph.now a.intake.events.now a.desk.now in
+    let to = desk_as new.graph a.intake.events.now new.desk in
+    let leads : LeadsToEnd a.intake.limits.now None from to a.desk.now.progress new.desk.progress =
+    blind_leads a.intake.limits.now from to a.desk.now.progress new.desk.progress c.in_ok-judge_all.field-0 c.in_ok-judge_all.ensures.leads in
+    IfOk-weaker c.walk.result (λ w. c.walk.new.steps ≡ a.steps.now + touches (judged_of new.graph w.stopped) c.latest_cut-cut.result) (λ w. w.stopped ≡ None → c.walk.new.steps ≡ a.steps.now + round_touches a.intake.limits.now from)
+    (λ w took none. whole_round a.intake.limits.now from to a.desk.now.progress new.desk.progress c.count-count.result c.latest_cut-cut.result a.steps.now c.walk.new.steps w.stopped leads c.count-count.ensures.count c.latest_cut-cut.ensures took none)
     c.walk.ensures.touches
 
 pub returns-clause-most : goal.returns-clause-most
 returns-clause-most g c =
     let a = c.args in
     let new = c.judge_all.new in
-    let from = desk_as a.graph.now a.events.now a.desk.now in
-    let to = desk_as new.graph a.events.now new.desk in
-    let leads : LeadsToEnd a.limits.now None from to a.desk.now.progress new.desk.progress =
-    blind_leads a.limits.now from to a.desk.now.progress new.desk.progress c.in_ok-judge_all.field-0 c.in_ok-judge_all.ensures.leads in
-    let same = walked_round a.limits.now from to a.desk.now.progress new.desk.progress c.count-count.result c.latest_cut-cut.result leads c.count-count.ensures.count c.latest_cut-cut.ensures in
+    let from = desk_as a.graph.now a.intake.events.now a.desk.now in
+    let to = desk_as new.graph a.intake.events.now new.desk in
+    let leads : LeadsToEnd a.intake.limits.now None from to a.desk.now.progress new.desk.progress =
+    blind_leads a.intake.limits.now from to a.desk.now.progress new.desk.progress c.in_ok-judge_all.field-0 c.in_ok-judge_all.ensures.leads in
+    let same = walked_round a.intake.limits.now from to a.desk.now.progress new.desk.progress c.count-count.result c.latest_cut-cut.result leads c.count-count.ensures.count c.latest_cut-cut.ensures in
     omega (arith, same, c.walk.ensures.most)

@@ -1,5 +1,38 @@
-use Rattle.replica.proofs.Fronts.{tail_marks}
+use Rattle.std.proofs.Common.{◌++◌, refl}
+use Rattle.ew_model.specs.Operations.{changed_by_all}
+use Rattle.replica.proofs.Beginnings.{same_kept}
+use Rattle.replica.proofs.Fronts.{hold_stands}
+use Rattle.replica.proofs.RoundTexts.{may_keep}
+use Rattle.replica.specs.Lengths.{lengths_through}
 use Rattle.replica.proofs.rounds.round.Goals as goal
 
+pub write-requires-clause-fit : goal.write-requires-clause-fit
+write-requires-clause-fit g c =
+    let a = c.args in
+    let r = c.in_ok-desk.ensures in
+    let found = c.in_ok-desk.field-0 in
+    (may_keep a.intake.limits.now a.graph.now c.reach.new.graph a.intake.pool.now found.desk.pool a.text.now.chars a.lengths.now.items c.deref-2.result.now found.walked.ops.items c.requires.kept r.front r.orderly r.desk.few c.len-waiting.ensures.few r.desk.limit r.desk.behind c.events-most.ensures.range.few_events c.deref-2.ensures.value r.round.ops_are).fit
+
+pub write-requires-clause-short : goal.write-requires-clause-short
+write-requires-clause-short g c =
+    let a = c.args in
+    let r = c.in_ok-desk.ensures in
+    let found = c.in_ok-desk.field-0 in
+    (may_keep a.intake.limits.now a.graph.now c.reach.new.graph a.intake.pool.now found.desk.pool a.text.now.chars a.lengths.now.items c.deref-2.result.now found.walked.ops.items c.requires.kept r.front r.orderly r.desk.few c.len-waiting.ensures.few r.desk.limit r.desk.behind c.events-most.ensures.range.few_events c.deref-2.ensures.value r.round.ops_are).short
+
 pub drop_tail-requires : goal.drop_tail-requires
-drop_tail-requires g c = tail_marks c.in_ok-tail.tail c.args.graph.now c.try_round.new.graph c.in_ok-tail.ensures c.in-Err.ensures.front
+drop_tail-requires g c = hold_stands c.in_ok-desk.field-0.hold c.args.graph.now c.reach.new.graph c.in_ok-desk.ensures.hold c.in_ok-desk.ensures.front
+
+pub keep-requires : goal.keep-requires
+keep-requires g c = hold_stands c.in_ok-desk.field-0.hold c.args.graph.now c.reach.new.graph c.in_ok-desk.ensures.hold c.in_ok-desk.ensures.front
+
+pub returns-clause-kept : goal.returns-clause-kept
+returns-clause-kept g c =
+    let a = c.args in
+    let r = c.in_ok-desk.ensures in
+    let found = c.in_ok-desk.field-0 in
+    let graph = c.reach.new.graph in
+    let ops = c.deref-2.result.now in
+    let w = c.in_default.ensures in
+    same_kept a.intake.limits.now graph graph found.desk.pool found.desk.pool (changed_by_all ops a.text.now.chars) c.write.new.text.chars (a.lengths.now.items ++ lengths_through a.text.now.chars ops) c.write.new.lengths.items refl refl w.text w.lengths
+    (may_keep a.intake.limits.now a.graph.now graph a.intake.pool.now found.desk.pool a.text.now.chars a.lengths.now.items ops found.walked.ops.items c.requires.kept r.front r.orderly r.desk.few c.len-waiting.ensures.few r.desk.limit r.desk.behind c.events-most.ensures.range.few_events c.deref-2.ensures.value r.round.ops_are).after

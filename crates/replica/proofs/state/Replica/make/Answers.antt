@@ -7,6 +7,7 @@ use Rattle.waiting_pool.specs.Waiting.{events_of}
 use Rattle.replica.specs.Appending.{CanAppend}
 use Rattle.replica.specs.Editing.{edit_view}
 use Rattle.replica.proofs.Appends.{edit_is_small, can_append, not_refused}
+use Rattle.replica.proofs.EditAnswers.{view_of_text}
 use Rattle.replica.proofs.state.Replica.make.Goals as goal
 
 pub ops-requires : goal.ops-requires
@@ -24,7 +25,18 @@ events_by-requires-clause-few c =
     let ops : c.in_ok-ops.ops.items ≡ ops_of edit = c.in_ok-ops.ensures in
     omega (arith, ap length c.as_slice.ensures.value, ap length ops, edit_long edit, small.1)
 
--- the events and the changes are those of the edit
+-- the events are those of the edit
+pub returns-clause-events : goal.returns-clause-events
+returns-clause-events c =
+    let edit = edit_view c.args.edit.now in
+    let held = c.self.inside.graph in
+    let ops : c.in_ok-ops.ops.items ≡ ops_of edit = c.in_ok-ops.ensures in
+    let made : c.in_ok-made.made.items ≡ events_of_ops held c.args.agent c.as_slice.result.now = c.in_ok-made.ensures in
+    let events : c.in_ok-made.made.items ≡ events_of_edit held c.args.agent edit =
+    made ∙ ap (λ os. events_of_ops held c.args.agent os) (c.as_slice.ensures.value ∙ ops) ∙ sym (view_of_text held c.args.agent c.args.edit.now).events in
+    subst (λ (s : ReplicaState). c.in_ok-made.made.items ≡ events_of_edit s.held c.args.agent edit) c.self.view_is events
+
+-- and the changes
 pub returns-clause-can : goal.returns-clause-can
 returns-clause-can c =
     let edit = edit_view c.args.edit.now in
@@ -34,10 +46,11 @@ returns-clause-can c =
     let none = not_refused c.args.agent edit _ c.args.self.now c.self.view_is c.requires.allowed in
     let ops : c.in_ok-ops.ops.items ≡ ops_of edit = c.in_ok-ops.ensures in
     let made : c.in_ok-made.made.items ≡ events_of_ops held c.args.agent c.as_slice.result.now = c.in_ok-made.ensures in
-    let events : c.in_ok-made.made.items ≡ events_of_edit held c.args.agent edit = made ∙ ap (λ os. events_of_ops held c.args.agent os) (c.as_slice.ensures.value ∙ ops) in
+    let text = view_of_text held c.args.agent c.args.edit.now in
+    let events : c.in_ok-made.made.items ≡ events_of_edit held c.args.agent edit = made ∙ ap (λ os. events_of_ops held c.args.agent os) (c.as_slice.ensures.value ∙ ops) ∙ sym text.events in
     let done : c.in_ok-changes.changes.items ≡ map own_change c.as_slice-2.result.now = c.in_ok-changes.ensures in
     let changes : c.in_ok-changes.changes.items ≡ map own_change (ops_of edit) = done ∙ ap (map own_change) (c.as_slice-2.ensures.value ∙ ops) in
     let can : CanAppend c.self.inside.limits held waiting (events_of_edit held c.args.agent edit) (map own_change (ops_of edit)) =
-    can_append c.self.inside.limits held waiting c.args.agent edit c.self.invariant.kept awaited c.events-most.ensures.range.few_events none in
+    can_append c.self.inside.limits held waiting c.args.agent edit text c.self.invariant.kept awaited c.events-most.ensures.range.few_events none in
     let all : CanAppend c.self.inside.limits held waiting c.in_ok-made.made.items c.in_ok-changes.changes.items = rw (events, changes) can in
     subst (λ (s : ReplicaState). CanAppend s.limits s.held s.waiting c.in_ok-made.made.items c.in_ok-changes.changes.items) c.self.view_is all
