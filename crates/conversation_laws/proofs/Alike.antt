@@ -15,7 +15,7 @@ use Rattle.ew_model.specs.Sets.{Among, SameElements}
 use Rattle.ew_model.specs.Texts.{text_of}
 use Rattle.ew_model.specs.Verdicts.{IsGood, IsGoodAfter}
 use Rattle.ew_model.proofs.CoverLaws.{ids_alike, ids_within}
-use Rattle.ew_model.proofs.FileEvents.{ids_count}
+use Rattle.ew_model.proofs.AgentLaws.{ids_count}
 use Rattle.ew_model.proofs.GoodLaws.{equal_sets_agree, next_from_good}
 use Rattle.ew_model.proofs.SameEvents.{event_among}
 use Rattle.ew_model.proofs.SetLaws.{among_filter, among_joined, filter_among, joined_left, joined_right}

@@ -7,7 +7,7 @@ use Rattle.std.proofs.lemmas.Cmp.{nat_list_cmp_total}
 use Rattle.std.proofs.lemmas.List.{length-append}
 use Rattle.std.proofs.lemmas.List.Concat.{flat_map-append}
 use Rattle.ew_model.specs.declared.event.Event.{Event}
-use Rattle.ew_model.specs.File.{file_of}
+use Rattle.file_words.specs.File.{file_of}
 use Rattle.ew_model.specs.Limits.{LimitNumbers, AreLimits, most_file_bytes}
 use Rattle.ew_model.specs.Sound.{IsSound, AreSound}
 use Rattle.ew_model.specs.Verdicts.{IsGood, IsGoodAfter}

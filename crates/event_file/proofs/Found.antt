@@ -3,10 +3,11 @@ use Rattle.std.proofs.Common.{◌≡◌, ℕ, List, Result, Ok, Err, sym, ap, �
 use Rattle.std.specs.Prelude.{IfOk, MatchResult}
 use Rattle.std.specs.Global.{Vec}
 use Rattle.ew_model.specs.declared.event.Event.{Event}
-use Rattle.ew_model.specs.FileFaults as model
-use Rattle.ew_model.specs.FileFaults.{FileFinding, file_finding}
-use Rattle.ew_model.specs.FileLaws.{AreBytes, IsFileOf}
-use Rattle.ew_model.proofs.FileReading.{file_take, file_again}
+use Rattle.file_words.specs.FileFaults as model
+use Rattle.file_words.specs.FileFaults.{FileFinding, file_finding}
+use Rattle.ew_model.specs.Bytes.{AreBytes}
+use Rattle.file_words.specs.FileLaws.{IsFileOf}
+use Rattle.file_words.proofs.FileReading.{file_take, file_again}
 use Rattle.event_file.specs.declared.fault.FileFault.{FileFault}
 use Rattle.event_file.specs.declared.fault.FileFault.TheVariants.{Short, BadMagic, BadVersion, BadDigest, BadRecord, TooMany, OutOfMemory}
 use Rattle.event_file.specs.Faults.{IsFault, IsFound}

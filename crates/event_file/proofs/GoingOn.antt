@@ -6,9 +6,9 @@ use Rattle.ew_model.specs.declared.event.Op.{Op}
 use Rattle.ew_model.specs.declared.event.Event.{Event}
 use Rattle.ew_model.specs.Ids.{ids_ascend}
 use Rattle.ew_model.specs.Ancestors.{ids_of, is_held}
-use Rattle.ew_model.specs.FileFaults.{Reader, done, ◌>>=◌, field, only, number, byte, open_agents, read_parents, read_op, read_record}
-use Rattle.ew_model.specs.FileFaults.RecordFault.{AgentNumber, IdTwice, ParentCount, ParentPosition, ParentOrder}
-use Rattle.ew_model.proofs.FileFields.{field_again, tested_again, then_again}
+use Rattle.file_words.specs.FileFaults.{Reader, done, ◌>>=◌, field, only, number, byte, open_agents, read_parents, read_op, read_record}
+use Rattle.file_words.specs.FileFaults.RecordFault.{AgentNumber, IdTwice, ParentCount, ParentPosition, ParentOrder}
+use Rattle.file_words.proofs.FileFields.{field_again, tested_again, then_again}
 use Rattle.history_definitions.specs.Chains.{next_id, event_behind}
 
 one_parent : (ids : List Id) (position : ℕ) (x : Id) (bytes left : List ℕ) → number bytes ≡ Ok (position, left) → slice_get ids position ≡ Some x → read_parents ids [] 1 bytes ≡ Ok (x ∷ [], left)

@@ -10,15 +10,15 @@ use Rattle.ew_model.specs.declared.id.Id.{Id}
 use Rattle.ew_model.specs.declared.event.Event.{Event}
 use Rattle.ew_model.specs.Ids.{name_eq, id_eq, id_lt, ids_ascend}
 use Rattle.ew_model.specs.Ancestors.{ids_of, is_held}
-use Rattle.ew_model.specs.File.{agents_of}
+use Rattle.ew_model.specs.Writable.{agents_of}
 use Rattle.ew_model.specs.Distinct.{AreDistinct}
-use Rattle.ew_model.specs.FileFaults.{open_agents}
-use Rattle.ew_model.proofs.FileLists.{some_is, none_is_some, none_in_front, get-take, get-take_within, there_among}
-use Rattle.ew_model.proofs.FileRecords.{names_equal, name_exact}
+use Rattle.file_words.specs.FileFaults.{open_agents}
+use Rattle.ew_model.proofs.ListPlaces.{some_is, none_is_some, none_in_front, get-take, get-take_within, there_among}
+use Rattle.ew_model.proofs.IdLaws.{names_equal, name_exact}
 use Rattle.ew_model.proofs.TextLaws.{ids_equal}
 use Rattle.event_file.specs.Progress.{IsIndexed}
 use Rattle.ew_model.proofs.ListParts.{take_next}
-use Rattle.ew_model.proofs.FileEvents.{agents_push}
+use Rattle.ew_model.proofs.AgentLaws.{agents_push}
 use Rattle.event_file.proofs.SeenCounts.{place_within}
 
 -- an agent at a place up to that of the next is open

@@ -9,8 +9,8 @@ use Rattle.ew_model.specs.declared.event.Event.{Event}
 use Rattle.ew_model.specs.Ids.{name_eq}
 use Rattle.ew_model.specs.Ancestors.{ids_of}
 use Rattle.ew_model.specs.Distinct.{AreDistinct}
-use Rattle.ew_model.proofs.FileLists.{some_is, none_is_some, none_in_front, get-take_within, there_among}
-use Rattle.ew_model.proofs.FileRecords.{names_equal, name_exact}
+use Rattle.ew_model.proofs.ListPlaces.{some_is, none_is_some, none_in_front, get-take_within, there_among}
+use Rattle.ew_model.proofs.IdLaws.{names_equal, name_exact}
 use Rattle.event_file.specs.declared.short_id.ShortId.{ShortId}
 use Rattle.event_file.specs.Known.{known_by, id_by, known, AreWithin}
 use Rattle.history_definitions.specs.Chains.{last_id}

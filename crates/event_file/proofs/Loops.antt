@@ -1,7 +1,7 @@
 -- Reading things of one kind one after the other, as a loop does.
 use Rattle.std.proofs.Common.{◌≡◌, ℕ, zero, suc, ◌+◌, ◌-◌, ◌<◌, ◌≤◌, Bool, List, [], ◌∷◌, ◌++◌, Result, Ok, sym, ap, ◌∙◌, arith}
-use Rattle.ew_model.specs.FileFaults as model
-use Rattle.ew_model.specs.FileFaults.{RecordFault, Reader, go_on, field, only}
+use Rattle.file_words.specs.FileFaults as model
+use Rattle.file_words.specs.FileFaults.{RecordFault, Reader, go_on, field, only}
 use Rattle.event_file.specs.declared.fault.Stop.{Stop}
 use Rattle.event_file.specs.declared.fault.Stop.TheVariants.{Field, OverLimit, OutOfMemory}
 use Rattle.event_file.specs.Reading.{Stops}

@@ -5,12 +5,12 @@ use Rattle.std.proofs.lemmas.Bool.{not-true}
 use Rattle.std.proofs.lemmas.List.Folds.{list_any-append}
 use Rattle.ew_model.specs.Ids.{name_eq}
 use Rattle.ew_model.specs.Distinct.{AreDistinct}
-use Rattle.ew_model.specs.FileFaults as model
-use Rattle.ew_model.specs.FileFaults.{Reader, field, only, go_on, read_name, read_names}
-use Rattle.ew_model.specs.FileFaults.RecordFault.{NameTwice}
-use Rattle.ew_model.proofs.FileLists.{one_more_new}
-use Rattle.ew_model.proofs.FileFields.{tested_ok}
-use Rattle.ew_model.proofs.FileRecords.{names_equal, name_exact}
+use Rattle.file_words.specs.FileFaults as model
+use Rattle.file_words.specs.FileFaults.{Reader, field, only, go_on, read_name, read_names}
+use Rattle.file_words.specs.FileFaults.RecordFault.{NameTwice}
+use Rattle.ew_model.proofs.ListPlaces.{one_more_new}
+use Rattle.file_words.proofs.FileFields.{tested_ok}
+use Rattle.ew_model.proofs.IdLaws.{names_equal, name_exact}
 use Rattle.event_file.specs.declared.fault.Stop.{Stop}
 use Rattle.event_file.specs.Reading.{Stops}
 use Rattle.event_file.proofs.Loops.{goes_on, ends, is_done, same_field}

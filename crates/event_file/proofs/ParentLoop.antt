@@ -3,10 +3,10 @@ use Rattle.std.proofs.Common.{◌≡◌, ℕ, zero, suc, ◌+◌, ◌-◌, ◌<�
 use Rattle.std.specs.Prelude.{slice_get}
 use Rattle.ew_model.specs.declared.id.Id.{Id}
 use Rattle.ew_model.specs.Ids.{ids_ascend}
-use Rattle.ew_model.specs.FileFaults as model
-use Rattle.ew_model.specs.FileFaults.{Reader, number, field, only, go_on, read_parents}
-use Rattle.ew_model.specs.FileFaults.RecordFault.{ParentPosition, ParentOrder}
-use Rattle.ew_model.proofs.FileFields.{tested_ok}
+use Rattle.file_words.specs.FileFaults as model
+use Rattle.file_words.specs.FileFaults.{Reader, number, field, only, go_on, read_parents}
+use Rattle.file_words.specs.FileFaults.RecordFault.{ParentPosition, ParentOrder}
+use Rattle.file_words.proofs.FileFields.{tested_ok}
 use Rattle.event_file.specs.declared.fault.Stop.{Stop}
 use Rattle.event_file.specs.Reading.{Stops}
 use Rattle.event_file.proofs.Loops.{goes_on, ends, is_done}

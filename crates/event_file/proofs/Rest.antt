@@ -7,11 +7,11 @@ use Rattle.ew_model.specs.declared.id.Id.{Id}
 use Rattle.ew_model.specs.declared.event.Event.{Event}
 use Rattle.ew_model.specs.Ids.{is_among}
 use Rattle.ew_model.specs.Ancestors.{ids_of}
-use Rattle.ew_model.specs.File.{with_agent, agents_of}
-use Rattle.ew_model.specs.FileFaults as model
-use Rattle.ew_model.specs.FileFaults.{Reader, done, stops, go_on, ◌>>=◌, field, only, number, byte, open_agents, read_names, read_parents, read_op, read_record, read_records, read_end, read_events, FileFinding, finding_of}
-use Rattle.ew_model.specs.FileFaults.RecordFault.{AgentNumber, IdTwice, ParentCount}
-use Rattle.ew_model.proofs.FileFields.{then_again}
+use Rattle.ew_model.specs.Writable.{with_agent, agents_of}
+use Rattle.file_words.specs.FileFaults as model
+use Rattle.file_words.specs.FileFaults.{Reader, done, stops, go_on, ◌>>=◌, field, only, number, byte, open_agents, read_names, read_parents, read_op, read_record, read_records, read_end, read_events, FileFinding, finding_of}
+use Rattle.file_words.specs.FileFaults.RecordFault.{AgentNumber, IdTwice, ParentCount}
+use Rattle.file_words.proofs.FileFields.{then_again}
 use Rattle.event_file.specs.declared.fault.Stop.{Stop}
 use Rattle.event_file.specs.declared.fault.Stop.TheVariants.{Field, OverLimit, OutOfMemory}
 use Rattle.event_file.specs.declared.fault.FileFault.{FileFault}

@@ -8,8 +8,9 @@ use Rattle.std.proofs.lemmas.Bool.{cases_Bool, cond-true, cond-false, or_parts, 
 use Rattle.ew_model.specs.declared.id.Id.{Id}
 use Rattle.ew_model.specs.Ids.{name_eq, id_cmp, id_eq}
 use Rattle.ew_model.specs.Distinct.{AreDistinct}
-use Rattle.ew_model.proofs.FileLists.{some_is, none_is_some, none_in_front}
-use Rattle.ew_model.proofs.FileRecords.{names_equal, name_exact, id_eq_exact}
+use Rattle.ew_model.proofs.ListPlaces.{some_is, none_is_some, none_in_front}
+use Rattle.ew_model.proofs.IdLaws.{names_equal, name_exact}
+use Rattle.file_words.proofs.FileRecords.{id_eq_exact}
 use Rattle.ew_model.proofs.TextLaws.{ids_equal}
 use Rattle.event_file.specs.SeenIds.{count_for, is_seen}
 

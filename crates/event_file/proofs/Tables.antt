@@ -12,10 +12,14 @@ use Rattle.ew_model.specs.declared.id.Id.{Id}
 use Rattle.ew_model.specs.declared.event.Event.{Event}
 use Rattle.ew_model.specs.Ids.{name_eq, id_eq, is_among}
 use Rattle.ew_model.specs.Ancestors.{ids_of}
-use Rattle.ew_model.specs.File.{four_bytes, op_bytes, agents_of, record_bytes, are_writable_after, IsWritable}
-use Rattle.ew_model.proofs.FileLists.{place_kept, there_among, get-take}
-use Rattle.ew_model.proofs.FileRecords.{names_equal, name_exact, id_eq_exact, parent_bytes, record_at, MayFollow}
-use Rattle.ew_model.proofs.FileEvents.{writable_parts, record_whole, agent_open, agents_few_from, ids_count}
+use Rattle.ew_model.specs.Bytes.{four_bytes, op_bytes}
+use Rattle.ew_model.specs.Writable.{agents_of, are_writable_after, IsWritable}
+use Rattle.file_words.specs.File.{record_bytes}
+use Rattle.ew_model.proofs.ListPlaces.{place_kept, there_among, get-take}
+use Rattle.ew_model.proofs.IdLaws.{names_equal, name_exact}
+use Rattle.file_words.proofs.FileRecords.{id_eq_exact, parent_bytes, record_at, MayFollow}
+use Rattle.file_words.proofs.FileEvents.{writable_parts, record_whole, agent_open}
+use Rattle.ew_model.proofs.AgentLaws.{agents_few_from, ids_count}
 use Rattle.ew_model.proofs.TextLaws.{ids_equal}
 use Rattle.event_file.specs.Places.{place_in, HasPlaces}
 use Rattle.event_file.specs.Writing.{fields_of}

@@ -2,8 +2,8 @@
 use Rattle.std.specs.Prelude.{◌≡◌, Result, Ok, Err}
 use Rattle.std.specs.Global.{Vec}
 use Rattle.ew_model.specs.declared.event.Event.{Event}
-use Rattle.ew_model.specs.FileFaults as model
-use Rattle.ew_model.specs.FileFaults.{FileFinding}
+use Rattle.file_words.specs.FileFaults as model
+use Rattle.file_words.specs.FileFaults.{FileFinding}
 use Rattle.event_file.specs.declared.fault.FileFault.{FileFault}
 use Rattle.event_file.specs.declared.fault.FileFault.TheVariants.{Short, BadMagic, BadVersion, BadDigest, BadRecord, TooMany, OutOfMemory}
 use Rattle.event_file.specs.declared.fault.RecordFault.{RecordFault}

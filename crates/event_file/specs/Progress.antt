@@ -7,8 +7,8 @@ use Rattle.ew_model.specs.declared.event.Event.{Event}
 use Rattle.ew_model.specs.Ids.{name_eq}
 use Rattle.ew_model.specs.Ancestors.{ids_of, is_held}
 use Rattle.ew_model.specs.Distinct.{AreDistinct}
-use Rattle.ew_model.specs.File.{agents_of}
-use Rattle.ew_model.specs.FileFaults.{open_agents, byte, number, read_record}
+use Rattle.ew_model.specs.Writable.{agents_of}
+use Rattle.file_words.specs.FileFaults.{open_agents, byte, number, read_record}
 use Rattle.history_definitions.specs.Chains.{next_id, event_behind, last_id}
 use Rattle.event_file.specs.declared.short_id.ShortId.{ShortId}
 use Rattle.event_file.specs.Known.{known_by, id_by}

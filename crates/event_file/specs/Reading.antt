@@ -1,6 +1,6 @@
 -- What a reader of this crate gives, in the model's words.
 use Rattle.std.specs.Prelude.{◌≡◌, ℕ, ◌-◌, Result, Ok, Err}
-use Rattle.ew_model.specs.FileFaults as model
+use Rattle.file_words.specs.FileFaults as model
 use Rattle.event_file.specs.declared.fault.Stop.{Stop}
 use Rattle.event_file.specs.declared.fault.Stop.TheVariants.{Field, OverLimit, OutOfMemory}
 use Rattle.event_file.specs.declared.fault.FileFault.{FileFault}

@@ -3,7 +3,7 @@ use Rattle.std.specs.Prelude.{ℕ, List, ◌∷◌, ◌++◌, [], length, flat_m
 use Rattle.std.specs.List.{list_any}
 use Rattle.ew_model.specs.declared.event.Op.{Op}
 use Rattle.ew_model.specs.Ids.{name_eq}
-use Rattle.ew_model.specs.File.{four_bytes, name_bytes, op_bytes}
+use Rattle.ew_model.specs.Bytes.{four_bytes, name_bytes, op_bytes}
 
 -- one agent more, where it isn't there yet
 abbrev pub with_name : List (List ℕ) → List ℕ → List (List ℕ)

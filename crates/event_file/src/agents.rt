@@ -3,7 +3,7 @@
 ghost use Rattle.std.specs.Prelude.{◌≡◌, ◌+◌, ◌<◌, ◌^◌, [], true, length, OnOk, OnErr, IfOk};
 ghost use Rattle.std.specs.List.{list_any, position_or_len};
 ghost use Rattle.ew_model.specs.Ids.{name_eq};
-ghost use Rattle.ew_model.specs.File.{agents_of};
+ghost use Rattle.ew_model.specs.Writable.{agents_of};
 ghost use Rattle.event_file.specs.Writing.{with_name};
 
 use ew_model::NoMem;

@@ -1,7 +1,7 @@
 //! The numbers that an event file is made with.
 
 /// What a file begins with.
-pub(crate) const MARK: &[u8] = b"EGWFILE";
+pub(crate) const MAGIC: &[u8] = b"EGWFILE";
 
 /// The version that is written and read.
 pub(crate) const VERSION: u8 = 1;
@@ -11,6 +11,9 @@ pub(crate) const INSERTION: u8 = 0;
 
 /// The kind of a record that deletes.
 pub(crate) const DELETION: u8 = 1;
+
+/// The kind of a record that is a mark: its label follows.
+pub(crate) const MARK: u8 = 2;
 
 /// The bytes of a SHA-256 digest.
 pub(crate) const DIGEST_LEN: usize = 32;

@@ -1,13 +1,13 @@
 //! The content of a file as it is read, and the fields that stand in it.
 
 ghost use Rattle.std.specs.Prelude.{◌≡◌, true, Ok};
-ghost use Rattle.ew_model.specs.FileFaults.{byte, number, field, only, is_scalar, read_name, read_op};
-ghost use Rattle.ew_model.specs.FileFaults.RecordFault.{Scalar};
+ghost use Rattle.file_words.specs.FileFaults.{byte, number, field, only, is_scalar, read_name, read_mark, read_op};
+ghost use Rattle.file_words.specs.FileFaults.RecordFault.{Scalar};
 ghost use Rattle.event_file.specs.Progress.{BeginsBy};
 ghost use Rattle.event_file.specs.Reading.{Gives};
 
 use crate::fault::{RecordFault, Stop, bad_field};
-use crate::format::{DELETION, INSERTION};
+use crate::format::{DELETION, INSERTION, MARK};
 use crate::short_id::ShortId;
 use ew_model::event::Op;
 use ew_model::name::{LONGEST_NAME, Name};
@@ -75,7 +75,7 @@ impl<'a> Input<'a> {
     }
 
     /// A name behind its length.
-    #[tactic(auto, unfolding(ew_model::specs::FileFaults::read_name))]
+    #[tactic(auto, unfolding(file_words::specs::FileFaults::read_name))]
     pub(crate) fn name(&mut self) -> Result<Name, Stop>
         ensures { Gives (λ name. (name, self.new.left.now)) result (read_name self.old.left.now) }
     {
@@ -95,13 +95,16 @@ impl<'a> Input<'a> {
         }
     }
 
-    /// The kind of an event, its index, and the character of an insertion.
-    #[tactic(auto, unfolding(ew_model::specs::FileFaults::read_op))]
+    /// The kind of an event, its index, and the character of an insertion; or a mark's label.
+    #[tactic(auto, unfolding(file_words::specs::FileFaults::read_op))]
     pub(crate) fn operation(&mut self) -> Result<Op, Stop>
         ensures { Gives (λ op. (op, self.new.left.now)) result (read_op self.old.left.now) }
     {
         let field = self.left;
         let kind = self.byte()?;
+        if kind == MARK {
+            return self.mark();
+        }
         if kind != INSERTION && kind != DELETION {
             return Err(bad_field(field, RecordFault::KindBad));
         }
@@ -111,6 +114,13 @@ impl<'a> Input<'a> {
         }
         let ch = self.character()?;
         Ok(Op::Ins { at, ch })
+    }
+
+    fn mark(&mut self) -> Result<Op, Stop>
+        ensures { Gives (λ op. (op, self.new.left.now)) result (read_mark self.old.left.now) }
+    {
+        let label = self.name()?;
+        Ok(Op::Mark { label })
     }
 
     fn character(&mut self) -> Result<char, Stop>

@@ -6,8 +6,8 @@ ghost use Rattle.std.specs.Cmp.Lexicographic.{slice_cmp};
 ghost use Rattle.std.specs.Ordering.{nat_cmp};
 ghost use Rattle.ew_model.specs.Distinct.{AreDistinct};
 ghost use Rattle.ew_model.specs.Ids.{name_eq};
-ghost use Rattle.ew_model.specs.FileFaults.{field, only, read_name, read_names};
-ghost use Rattle.ew_model.specs.FileFaults.RecordFault.{NameTwice};
+ghost use Rattle.file_words.specs.FileFaults.{field, only, read_name, read_names};
+ghost use Rattle.file_words.specs.FileFaults.RecordFault.{NameTwice};
 ghost use Rattle.event_file.specs.Reading.{Gives};
 
 use crate::fault::{RecordFault, Stop, bad_field};

@@ -4,9 +4,9 @@ ghost use Rattle.std.specs.Prelude.{◌≡◌, [], ◌∷◌, ◌++◌, true, fa
 ghost use Rattle.ew_model.specs.Ids.{name_eq, ids_ascend};
 ghost use Rattle.ew_model.specs.Ancestors.{ids_of, is_held};
 ghost use Rattle.ew_model.specs.Distinct.{AreDistinct};
-ghost use Rattle.ew_model.specs.File.{agents_of};
-ghost use Rattle.ew_model.specs.FileFaults.{field, only, number, byte, open_agents, read_parents, read_record, read_end};
-ghost use Rattle.ew_model.specs.FileFaults.RecordFault.{AgentNumber, IdTwice, ParentCount, ParentPosition, ParentOrder};
+ghost use Rattle.ew_model.specs.Writable.{agents_of};
+ghost use Rattle.file_words.specs.FileFaults.{field, only, number, byte, open_agents, read_parents, read_record, read_end};
+ghost use Rattle.file_words.specs.FileFaults.RecordFault.{AgentNumber, IdTwice, ParentCount, ParentPosition, ParentOrder};
 ghost use Rattle.event_file.specs.Reading.{Gives};
 ghost use Rattle.event_file.specs.Known.{known_by, id_by};
 ghost use Rattle.event_file.specs.Progress.{Known, IsOpenAt, IsLast, ReadsOn};
@@ -74,7 +74,7 @@ impl Progress {
     }
 
     /// Reads a record and keeps its id. Where it can't be read, nothing changes. `room` is room for the parents.
-    #[tactic(auto, unfolding(ew_model::specs::FileFaults::read_record))]
+    #[tactic(auto, unfolding(file_words::specs::FileFaults::read_record))]
     pub(crate) fn next(&mut self, room: Vec<Id>, input: &mut Input) -> Result<Event, Stop>
         ensures exact { Gives (λ e. (e, input.new.left.now)) result (read_record self.old.agents self.old.events input.old.left.now) }
         ensures kept { IfOk result (λ e. self.new ≡ record { agents = self.old.agents; events = self.old.events ++ known_by e.id ∷ [] }) }
@@ -118,7 +118,7 @@ impl Progress {
     }
 
     /// Whether nothing is left, and each agent has an event.
-    #[tactic(auto, unfolding(ew_model::specs::FileFaults::read_end))]
+    #[tactic(auto, unfolding(file_words::specs::FileFaults::read_end))]
     pub(crate) fn end(&self, input: &Input) -> Result<(), Stop>
         ensures { Gives (λ _. (self.now.events, [])) result (read_end self.now.agents self.now.events input.now.left.now) }
     {

@@ -1,13 +1,13 @@
 //! Reading an event file one event at a time.
 
 ghost use Rattle.std.specs.Prelude.{◌≡◌, ◌≤◌, length, drop, None, IfOk, IfSome, IfNone, MatchResult};
-ghost use Rattle.ew_model.specs.FileFaults.{read_events, finding_of, content_finding, file_finding};
+ghost use Rattle.file_words.specs.FileFaults.{read_events, finding_of, content_finding, file_finding};
 ghost use Rattle.event_file.specs.Faults.{IsFault};
 ghost use Rattle.event_file.specs.Reading.{Stops, IsStop};
 ghost use Rattle.event_file.specs.Rest.{IsNext, GoesOnBy};
 
 use crate::fault::{FileFault, Stop};
-use crate::format::{DIGEST_LEN, MARK, SHORTEST, VERSION};
+use crate::format::{DIGEST_LEN, MAGIC, SHORTEST, VERSION};
 use crate::input::Input;
 use crate::names::read_names;
 use crate::progress::Progress;
@@ -41,7 +41,7 @@ impl<'a> Model for EventReader<'a> {
 impl<'a> EventReader<'a> {
     /// A reader of a file of at most `max_events` events. All but the records is looked at first: the length, the mark, the
     /// version, the digest, the agents and the number of events.
-    #[tactic(auto, unfolding(ew_model::specs::FileFaults::file_finding))]
+    #[tactic(auto, unfolding(file_words::specs::FileFaults::file_finding))]
     pub fn new(alloc: Global, b: &'a [u8], max_events: u32) -> Result<EventReader<'a>, FileFault>
         // What is still to come is what is found of the file; a fault is the file's.
         ensures found { MatchResult result (λ r. r.found ≡ file_finding max_events b.now) (λ fault. IsFault fault (file_finding max_events b.now)) }
@@ -53,7 +53,7 @@ impl<'a> EventReader<'a> {
                 len: b.len() as u64,
             });
         }
-        if &b[..7] != MARK {
+        if &b[..7] != MAGIC {
             return Err(FileFault::BadMagic);
         }
         if b[7] != VERSION {
@@ -109,7 +109,7 @@ impl<'a> EventReader<'a> {
 }
 
 /// A reader of what stands before the digest, the version included.
-#[tactic(auto, unfolding(ew_model::specs::FileFaults::content_finding))]
+#[tactic(auto, unfolding(file_words::specs::FileFaults::content_finding))]
 fn open_content<'a>(
     alloc: Global,
     content: &'a [u8],
@@ -137,7 +137,7 @@ fn open_content<'a>(
 }
 
 /// Reads the agents and the number of records, behind the version.
-#[tactic(auto, unfolding(ew_model::specs::FileFaults::read_events))]
+#[tactic(auto, unfolding(file_words::specs::FileFaults::read_events))]
 fn open_records(alloc: Global, content: &[u8], max_events: u32) -> Result<EventReader, Stop>
     requires { 8 ≤ length content.now }
     ensures found { MatchResult result

@@ -2,8 +2,8 @@
 
 ghost use Rattle.std.specs.Prelude.{◌≡◌, List, IfOk, MatchResult};
 ghost use Rattle.ew_model.specs.declared.event.Event.{Event};
-ghost use Rattle.ew_model.specs.FileFaults.{file_finding};
-ghost use Rattle.ew_model.specs.FileLaws.{IsFileOf};
+ghost use Rattle.file_words.specs.FileFaults.{file_finding};
+ghost use Rattle.file_words.specs.FileLaws.{IsFileOf};
 ghost use Rattle.event_file.specs.declared.fault.FileFault.TheVariants.{OutOfMemory};
 ghost use Rattle.event_file.specs.Faults.{IsFound};
 

@@ -1,7 +1,7 @@
 //! Writing an event file one record after another.
 
 ghost use Rattle.std.specs.Prelude.{◌≡◌, ◌<◌, ◌≤◌, ◌^◌, ◌++◌, length, IfOk, OnOk, OnErr};
-ghost use Rattle.ew_model.specs.File.{with_digest};
+ghost use Rattle.file_words.specs.File.{with_digest};
 ghost use Rattle.event_file.specs.Writing.{start_of, fields_of};
 
 use crate::format::{NAME_BYTES, RECORD_BYTES, SHORTEST};

@@ -3,11 +3,13 @@
 ghost use Rattle.std.specs.Prelude.{◌≡◌, ◌<◌, ◌≤◌, ◌^◌, ◌∷◌, ◌++◌, length, map, flat_map, unwrap_or, OnOk, IfOk, IsSome, All};
 ghost use Rattle.std.specs.BTreeMap.{get};
 ghost use Rattle.ew_model.specs.Ids.{id_cmp};
-ghost use Rattle.ew_model.specs.File.{four_bytes, name_bytes, op_bytes, agents_of, record_bytes, file_of, IsWritable};
+ghost use Rattle.ew_model.specs.Bytes.{four_bytes, name_bytes, op_bytes};
+ghost use Rattle.ew_model.specs.Writable.{agents_of, IsWritable};
+ghost use Rattle.file_words.specs.File.{record_bytes, file_of};
 ghost use Rattle.event_file.specs.Writing.{start_of, fields_of};
 
 use crate::agents::Agents;
-use crate::format::{DELETION, INSERTION, MARK, VERSION};
+use crate::format::{DELETION, INSERTION, MAGIC, MARK, VERSION};
 use crate::writer::FileWriter;
 use ew_model::NoMem;
 use ew_model::event::{Event, Op};
@@ -17,7 +19,7 @@ use std::alloc::Global;
 use std::collections::BTreeMap;
 
 /// The one event file of the events.
-#[tactic(auto, unfolding(ew_model::specs::File::file_of, ew_model::specs::File::file_content))]
+#[tactic(auto, unfolding(file_words::specs::File::file_of, file_words::specs::File::file_content))]
 pub fn encode(alloc: Global, events: &[Event]) -> Result<Vec<u8>, NoMem>
     requires { IsWritable events.now }
     ensures { IfOk result (λ bytes. bytes.items ≡ file_of events.now) }
@@ -47,7 +49,7 @@ pub(crate) fn put_start(out: &mut Vec<u8>, agents: &[Name], count: u32) -> Resul
     requires { length agents.now < 2 ^ 32 }
     ensures { OnOk result (out.new.items ≡ out.old.items ++ start_of agents.now count) }
 {
-    out.extend_from_slice(MARK)?;
+    out.extend_from_slice(MAGIC)?;
     out.push(VERSION)?;
     put_agents(out, agents)?;
     put_number(out, count)
@@ -148,6 +150,10 @@ fn put_operation(out: &mut Vec<u8>, op: &Op) -> Result<(), NoMem>
         Op::Del { at } => {
             out.push(DELETION)?;
             put_number(out, *at)
+        }
+        Op::Mark { label } => {
+            out.push(MARK)?;
+            put_name(out, label)
         }
     }
 }

@@ -3,7 +3,7 @@ use Rattle.std.proofs.Common.{◌≡◌, ℕ, ◌+◌, List, [], ◌∷◌, ◌+
 use Rattle.std.specs.Prelude.{IfSome}
 use Rattle.std.proofs.lemmas.List.{length-append}
 use Rattle.ew_model.specs.declared.event.Event.{Event}
-use Rattle.ew_model.specs.File.{four_bytes}
+use Rattle.ew_model.specs.Bytes.{four_bytes}
 use Rattle.peer_definitions.specs.Spelling.{events_body}
 use Rattle.peer_definitions.specs.Batches.{IsBatch, journal_events}
 use Rattle.peer_frames.proofs.Journals.{one_journal}

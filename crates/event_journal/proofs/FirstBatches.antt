@@ -4,8 +4,8 @@ use Rattle.std.specs.Int.{w32, from_le_bytes}
 use Rattle.std.proofs.lemmas.List.{take_at, drop_at, length-append, length-take, length-drop, drop-drop, take_all}
 use Rattle.std.proofs.lemmas.Nat.{le_bytes_4, from_le_bytes-to_le_bytes_4}
 use Rattle.ew_model.specs.declared.event.Event.{Event}
-use Rattle.ew_model.specs.File.{four_bytes}
-use Rattle.ew_model.proofs.FileLists.{some_is}
+use Rattle.ew_model.specs.Bytes.{four_bytes}
+use Rattle.ew_model.proofs.ListPlaces.{some_is}
 use Rattle.peer_definitions.specs.Spelling.{events_body}
 use Rattle.peer_definitions.specs.Batches.{IsEventsBody, batch_bytes, journal_bytes, BeginWith}
 use Rattle.peer_frames.proofs.SpelledEvents.{body_back}

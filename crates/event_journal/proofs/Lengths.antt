@@ -6,10 +6,11 @@ use Rattle.std.proofs.lemmas.List.{length-append}
 use Rattle.std.proofs.Math.Nat.{div-mul-le_self}
 use Rattle.ew_model.specs.declared.id.Id.{Id}
 use Rattle.ew_model.specs.declared.event.Op.{Op}
-use Rattle.ew_model.specs.declared.event.Op.TheVariants.{Ins, Del}
+use Rattle.ew_model.specs.declared.event.Op.TheVariants.{Ins, Del, Mark}
 use Rattle.ew_model.specs.declared.event.Event.{Event}
-use Rattle.ew_model.specs.File.{four_bytes, name_bytes, op_bytes}
-use Rattle.ew_model.specs.Sound.{IsSoundId, IsSound, AreSound}
+use Rattle.ew_model.specs.Bytes.{four_bytes, name_bytes, op_bytes}
+use Rattle.ew_model.specs.declared.limits.TheConstants.{COUNT_BYTES, MOST_EVENT_BYTES, MOST_PARENTS}
+use Rattle.ew_model.specs.Sound.{IsSoundId, IsSoundOp, IsSound, AreSound}
 use Rattle.peer_definitions.specs.Spelling.{id_bytes, event_bytes, events_body}
 use Rattle.peer_frames.proofs.ShortNames.{name_short}
 
@@ -23,20 +24,21 @@ ids_short : (ids : List Id) → AllByRecursion IsSoundId ids → length (flat_ma
 ids_short [] h = omega arith
 ids_short (x ∷ ids) h = let one = id_short x h.0 in let rest = ids_short ids h.1 in let both = length-append (id_bytes x) (flat_map id_bytes ids) in omega (arith, one, rest, both)
 
-op_short : (o : Op) → length (op_bytes o) ≤ 9
-op_short (Ins at ch) = let both = length-append (four_bytes at) (four_bytes ch) in omega (arith, both, four_long at, four_long ch)
-op_short (Del at) = omega (arith, four_long at)
+op_short : (o : Op) → IsSoundOp o → length (op_bytes o) ≤ 34
+op_short (Ins at ch) h = let both = length-append (four_bytes at) (four_bytes ch) in omega (arith, both, four_long at, four_long ch)
+op_short (Del at) h = omega (arith, four_long at)
+op_short (Mark label) h = omega (arith, name_short label h)
 
-event_short : (e : Event) → IsSound e → length e.parents ≤ 16 → length (event_bytes e) ≤ 639
+event_short : (e : Event) → IsSound e → length e.parents ≤ MOST_PARENTS → length (event_bytes e) ≤ MOST_EVENT_BYTES
 event_short e h few =
     let id = id_short e.id h.id in
     let parents = ids_short e.parents h.parents in
-    let op = op_short e.op in
+    let op = op_short e.op h.op in
     let front = length-append (id_bytes e.id) (length e.parents ∷ flat_map id_bytes e.parents) in
     let whole = length-append (id_bytes e.id ++ length e.parents ∷ flat_map id_bytes e.parents) (op_bytes e.op) in
     omega (arith, id, parents, op, front, whole, few)
 
-events_short : (events : List Event) → AreSound events → AllByRecursion (λ (e : Event). length e.parents ≤ 16) events → length (flat_map event_bytes events) ≤ 639 * length events
+events_short : (events : List Event) → AreSound events → AllByRecursion (λ (e : Event). length e.parents ≤ MOST_PARENTS) events → length (flat_map event_bytes events) ≤ MOST_EVENT_BYTES * length events
 events_short [] h few = omega arith
 events_short (e ∷ events) h few =
     let one = event_short e h.0 few.0 in
@@ -44,15 +46,15 @@ events_short (e ∷ events) h few =
     let both = length-append (event_bytes e) (flat_map event_bytes events) in
     omega (arith, one, rest, both)
 
-pub body_short : (events : List Event) → AreSound events → AllByRecursion (λ (e : Event). length e.parents ≤ 16) events → length (events_body events) ≤ 4 + 639 * length events
+pub body_short : (events : List Event) → AreSound events → AllByRecursion (λ (e : Event). length e.parents ≤ MOST_PARENTS) events → length (events_body events) ≤ COUNT_BYTES + MOST_EVENT_BYTES * length events
 body_short events h few = omega (arith, events_short events h few, length-append (four_bytes (length events)) (flat_map event_bytes events))
 
 -- so few events have a body that is short enough
-pub room_enough : (most : ℕ) (events : List Event) → AreSound events → AllByRecursion (λ (e : Event). length e.parents ≤ 16) events → 643 ≤ most → length events ≤ (most - 4) / 664 → length (events_body events) ≤ most
+pub room_enough : (most : ℕ) (events : List Event) → AreSound events → AllByRecursion (λ (e : Event). length e.parents ≤ MOST_PARENTS) events → COUNT_BYTES + MOST_EVENT_BYTES ≤ most → length events ≤ (most - COUNT_BYTES) / MOST_EVENT_BYTES → length (events_body events) ≤ most
 room_enough most events h few least within =
-    let room = div-mul-le_self (most - 4) 664 in
+    let room = div-mul-le_self (most - COUNT_BYTES) MOST_EVENT_BYTES in
     omega (arith, body_short events h few, room, within, least)
 
-pub fewer_parents : (events : List Event) → AllByRecursion (λ (e : Event). length e.parents ≤ 16) events → AllByRecursion (λ (e : Event). length e.parents ≤ 255) events
+pub fewer_parents : (events : List Event) → AllByRecursion (λ (e : Event). length e.parents ≤ MOST_PARENTS) events → AllByRecursion (λ (e : Event). length e.parents ≤ 255) events
 fewer_parents [] few = tt
 fewer_parents (e ∷ events) few = (omega (arith, few.0), fewer_parents events few.1)

@@ -3,7 +3,7 @@ use Rattle.std.proofs.Common.{◌≡◌, ℕ, ◌+◌, ◌-◌, ◌<◌, ◌≤�
 use Rattle.std.proofs.lemmas.List.{length-append, length-drop, drop-drop, take_all}
 use Rattle.ew_model.specs.declared.event.Event.{Event}
 use Rattle.ew_model.specs.Limits.{LimitNumbers}
-use Rattle.ew_model.specs.File.{four_bytes}
+use Rattle.ew_model.specs.Bytes.{four_bytes}
 use Rattle.peer_definitions.specs.Spelling.{event_bytes, events_body}
 use Rattle.peer_definitions.specs.Batches.{batch_bytes, journal_bytes, journal_events, BeginWith}
 use Rattle.peer_frames.proofs.Written.{all_pushed}

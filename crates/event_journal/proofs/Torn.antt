@@ -3,7 +3,7 @@ use Rattle.std.proofs.Common.{◌≡◌, inl, inr, ℕ, zero, suc, ◌+◌, ◌<
 use Rattle.std.specs.List.{AllByRecursion}
 use Rattle.std.proofs.lemmas.List.{take_at, drop_at, drop_more, length-append}
 use Rattle.ew_model.specs.declared.event.Event.{Event}
-use Rattle.ew_model.specs.File.{four_bytes}
+use Rattle.ew_model.specs.Bytes.{four_bytes}
 use Rattle.peer_definitions.specs.Spelling.{events_body}
 use Rattle.peer_definitions.specs.Batches.{IsBatch, batch_bytes, journal_bytes, journal_events}
 use Rattle.peer_frames.proofs.Written.{all_pushed}

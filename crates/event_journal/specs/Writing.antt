@@ -1,7 +1,7 @@
 -- What is written to a journal's disk.
 use Rattle.std.specs.Prelude.{◌+◌, ◌⊎◌, ℕ, List, [], ◌∷◌, ◌++◌, length}
 use Rattle.ew_model.specs.declared.event.Event.{Event}
-use Rattle.ew_model.specs.File.{four_bytes}
+use Rattle.ew_model.specs.Bytes.{four_bytes}
 use Rattle.peer_definitions.specs.Spelling.{events_body}
 use Rattle.event_journal.specs.Disk.{written, IsTorn}
 

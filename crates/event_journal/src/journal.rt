@@ -4,7 +4,7 @@ ghost use Rattle.std.specs.Prelude.{◌≡◌, ◌↔◌, ◌<◌, ◌≤◌, �
 ghost use Rattle.std.specs.List.{AllByRecursion};
 ghost use Rattle.ew_model.specs.declared.event.Event.{Event};
 ghost use Rattle.ew_outside.specs.Counts.{Counts, Rises};
-ghost use Rattle.ew_model.specs.File.{four_bytes};
+ghost use Rattle.ew_model.specs.Bytes.{four_bytes};
 ghost use Rattle.peer_definitions.specs.Spelling.{events_body};
 ghost use Rattle.peer_definitions.specs.Batches.{IsBatch};
 ghost use Rattle.event_journal.specs.Disk.{TellsAlike, StaysWithin};
@@ -18,7 +18,7 @@ use crate::sound::note_events;
 use crate::writing::{commit, write_and_sync};
 use ew_model::NoMem;
 use ew_model::event::Event;
-use ew_model::limits::Limits;
+use ew_model::limits::{COUNT_BYTES, Limits, MOST_BYTES, MOST_EVENT_BYTES, MOST_PARENTS};
 use peer_frames::encode_events;
 use std::alloc::Global;
 use std::marker::Model;
@@ -118,8 +118,8 @@ impl Journal {
         // The disk is as this journal's last call left it, where it tells its bytes.
         requires kept { self.old.failed ≡ false → IsKeptOn self.old (D.seen disk.old).bytes (D.may_leave disk.old) }
         requires some { 1 ≤ length events.now }
-        requires few { length events.now ≤ (self.old.limits.body - 4) / 664 }
-        requires parents { AllByRecursion (λ e. length e.parents ≤ 16) events.now }
+        requires few { length events.now ≤ (self.old.limits.body - COUNT_BYTES) / MOST_EVENT_BYTES }
+        requires parents { AllByRecursion (λ e. length e.parents ≤ MOST_PARENTS) events.now }
         requires room { self.old.count + length events.now ≤ self.old.limits.events }
         // At Ok the batch stands behind the others, and every crash leaves it.
         ensures kept { OnOk result (IsKeptOn self.new (D.seen disk.new).bytes (D.may_leave disk.new)) }
@@ -158,14 +158,14 @@ impl Journal {
 
 /// What comes behind the gate of a batch: the length of its body, the body, and a closed gate for the next one.
 fn behind_gate(alloc: Global, events: &[Event], most: u32) -> Result<Vec<u8>, NoMem>
-    requires least { 643 ≤ most }
-    requires short { most ≤ 1073741824 }
+    requires least { COUNT_BYTES + MOST_EVENT_BYTES ≤ most }
+    requires short { most ≤ MOST_BYTES }
     requires some { 1 ≤ length events.now }
-    requires few { length events.now ≤ (most - 4) / 664 }
-    requires parents { AllByRecursion (λ e. length e.parents ≤ 16) events.now }
+    requires few { length events.now ≤ (most - COUNT_BYTES) / MOST_EVENT_BYTES }
+    requires parents { AllByRecursion (λ e. length e.parents ≤ MOST_PARENTS) events.now }
     ensures bytes { IfOk result (λ piece. piece.items ≡ four_bytes (length (events_body events.now)) ++ events_body events.now ++ 0 ∷ []) }
     ensures batch { OnOk result (IsBatch most events.now) }
-    ensures length { IfOk result (λ piece. length piece.items ≤ 9 + 639 * length events.now) }
+    ensures length { IfOk result (λ piece. length piece.items ≤ 9 + MOST_EVENT_BYTES * length events.now) }
 {
     note_events(events);
     let body = encode_events(alloc, events)?;

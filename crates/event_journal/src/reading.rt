@@ -10,7 +10,7 @@ use crate::disk::Disk;
 use crate::fault::OpenFault;
 use ew_model::NoMem;
 use ew_model::event::Event;
-use ew_model::limits::Limits;
+use ew_model::limits::{Limits, MOST_EVENTS};
 use peer_frames::decode_events;
 use std::alloc::Global;
 
@@ -61,7 +61,7 @@ pub(crate) fn read_batches(
 ) -> Result<Contents, OpenFault>
     requires { 2 ≤ length bytes.now }
     ensures read { IsReading limits.now bytes.now result }
-    ensures few { IfOk result (λ found. length found.events.items ≤ 16777216) }
+    ensures few { IfOk result (λ found. length found.events.items ≤ MOST_EVENTS) }
 {
     let mut events: Vec<Event> = Vec::new(alloc);
     let mut gate = 0;

@@ -1,12 +1,14 @@
 //! Names, numbers and characters are in their ranges, as their types tell: so it is known how long a batch is.
 
-ghost use Rattle.std.specs.Prelude.{◌<◌, ◌^◌};
+ghost use Rattle.std.specs.Prelude.{◌≡◌, ◌<◌, ◌^◌, true};
 ghost use Rattle.std.specs.Char.{IsScalar};
 ghost use Rattle.std.specs.List.{AllByRecursion};
+ghost use Rattle.ew_model.specs.Names.{is_name};
 ghost use Rattle.ew_model.specs.Sound.{AreSound, IsSound, IsSoundId, IsSoundOp};
 
 use ew_model::event::{Event, Op};
 use ew_model::id::Id;
+use ew_model::name::Name;
 
 /// The events are sound.
 pub fn note_events(events: &[Event])
@@ -36,7 +38,7 @@ fn note_ids(ids: &[Id])
 fn note_id(id: &Id)
     ensures { IsSoundId id.now }
 {
-    let _bytes = id.agent.as_slice();
+    note_name(&id.agent);
     note_number(id.seq);
 }
 
@@ -49,7 +51,14 @@ fn note_op(op: &Op)
             note_char(*ch);
         }
         Op::Del { at } => note_number(*at),
+        Op::Mark { label } => note_name(label),
     }
+}
+
+fn note_name(name: &Name)
+    ensures { is_name name.now ≡ true }
+{
+    let _bytes = name.as_slice();
 }
 
 fn note_number(number: u32)

@@ -7,7 +7,7 @@ use Rattle.ew_model.specs.declared.event.Event.{Event}
 use Rattle.ew_model.specs.declared.event.Op.{Op}
 use Rattle.ew_model.specs.Ancestors.{heads}
 use Rattle.ew_model.specs.Edits.{Edit, EditRefusal, edit_refusal, events_of_edit, needed_length, needs_few_heads}
-use Rattle.ew_model.specs.Edits.Edit.{Insert, Delete}
+use Rattle.ew_model.specs.Edits.Edit.{Insert, Delete, Mark}
 use Rattle.ew_model.specs.Kept.{ReplicaState}
 use Rattle.ew_model.specs.Limits.{LimitNumbers}
 use Rattle.ew_model.specs.Sets.{Among}
@@ -22,8 +22,7 @@ use Rattle.peer_definitions.specs.Draws.{Drawn, draw_of, drawn_edit, next_state}
 use Rattle.peer_definitions.specs.Making.{Making, agent_of, edited, edited_peer, peer_at}
 use Rattle.peer_definitions.specs.Making.Made.{Going}
 use Rattle.generator.proofs.AgentHeads.{three_heads}
-use Rattle.generator.proofs.Drawing.{drawn_by, removes}
-use Rattle.generator.proofs.Editing.{one_event}
+use Rattle.generator.proofs.Drawing.{drawn_by, one_event, removes}
 use Rattle.generator.proofs.Makers.{AreMakers, IsAtHome, IsMaker, each_more, home_more, itself, made_by, made_elsewhere, made_here, of_three, short}
 
 all_off : (a b c d : Bool) (x y z : EditRefusal) → a ≡ false → c ≡ false → d ≡ false → cond a (Some x) (cond b None (cond c (Some y) (cond d (Some z) None))) ≡ None
@@ -36,6 +35,7 @@ all_off false false false false x y z p q r = refl
 few_off : (edit : Edit) (b : Bool) → b ≡ false → (needs_few_heads edit && b) ≡ false
 few_off (Insert at text) b h = h
 few_off (Delete at count) b h = h
+few_off (Mark label) b h = refl
 
 -- an edit that nothing speaks against
 none_against : (limits : LimitNumbers) (history : List Event) (agent : List ℕ) (edit : Edit) → needed_length edit ≤ length (text_of history) → length (heads history) ≤ 16

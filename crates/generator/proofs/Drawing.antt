@@ -1,11 +1,13 @@
 -- Draws as the program makes them, and the edits that are drawn.
-use Rattle.std.proofs.Common.{◌≡◌, ℕ, ◌+◌, ◌*◌, ◌%◌, ◌^◌, Bool, true, false, cond, not, ◌&&◌, ◌==◌, [], ◌∷◌, refl, sym, ap, ◌∙◌}
+use Rattle.std.proofs.Common.{◌≡◌, ℕ, ◌+◌, ◌*◌, ◌%◌, ◌^◌, Bool, true, false, cond, not, ◌&&◌, ◌==◌, List, [], ◌∷◌, refl, sym, ap, ◌∙◌}
 use Rattle.std.proofs.Math.Nat.{mod-add-mod}
 use Rattle.std.proofs.lemmas.Bool.{and_from, eq-eqb, ne_eqb}
 use Rattle.ew_model.specs.declared.event.Op.{Op}
 use Rattle.ew_model.specs.declared.event.Op.TheVariants as op
-use Rattle.ew_model.specs.Edits.{ops_of}
+use Rattle.ew_model.specs.declared.event.Event.{Event}
+use Rattle.ew_model.specs.Edits.{events_of_edit, events_of_ops}
 use Rattle.ew_model.specs.Edits.Edit.{Insert, Delete}
+use Rattle.ew_model.proofs.EditEvents.{event_by}
 use Rattle.peer_definitions.specs.Draws.{Drawn, draw_of, drawn_edit, letter, next_state}
 
 pub wrapped : (x : ℕ) → ((x * 6364136223846793005) % 2 ^ 64 + 1442695040888963407) % 2 ^ 64 ≡ next_state x
@@ -30,14 +32,17 @@ pub drawn_by : (x len : ℕ) (b : Bool) → removes (next_state x) len ≡ b →
 unfolding drawn_edit
 drawn_by x len b is = ap (λ t. cond t (removal (next_state x) len) (addition (next_state x) len)) is
 
--- what is drawn does one thing
-pub one_op : (x len : ℕ) → (o : Op) × (ops_of (drawn_edit x len).edit ≡ o ∷ [])
-one_op x len = at (removes (next_state x) len) refl
+-- a drawn edit makes one event
+pub one_event : (held : List Event) (agent : List ℕ) (x len : ℕ) → (o : Op) × (events_of_edit held agent (drawn_edit x len).edit ≡ event_by held agent o ∷ [])
+unfolding events_of_ops
+one_event held agent x len = at (removes (next_state x) len) refl
   where
-    at : (b : Bool) → removes (next_state x) len ≡ b → (o : Op) × (ops_of (drawn_edit x len).edit ≡ o ∷ [])
-    at true is = (op.Del (draw_of (next_state (next_state x)) % len), ap (λ (d : Drawn). ops_of d.edit) (drawn_by x len true is))
-    at false is =
-        (op.Ins (draw_of (next_state (next_state x)) % (len + 1)) (letter (draw_of (next_state (next_state (next_state x))))), ap (λ (d : Drawn). ops_of d.edit) (drawn_by x len false is))
+    made : Drawn → List Event
+    made d = events_of_edit held agent d.edit
+
+    at : (b : Bool) → removes (next_state x) len ≡ b → (o : Op) × (events_of_edit held agent (drawn_edit x len).edit ≡ event_by held agent o ∷ [])
+    at true is = (op.Del (draw_of (next_state (next_state x)) % len), ap made (drawn_by x len true is))
+    at false is = (op.Ins (draw_of (next_state (next_state x)) % (len + 1)) (letter (draw_of (next_state (next_state (next_state x))))), ap made (drawn_by x len false is))
 
 -- a removal, with the numbers as they were drawn
 pub removed : (x d e len n s t : ℕ) → n ≡ len → s ≡ next_state x → d ≡ draw_of (next_state x) → t ≡ next_state s → e ≡ draw_of (next_state s) → d % 4 ≡ 0 → (n ≡ 0 → ⊥)

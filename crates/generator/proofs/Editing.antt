@@ -3,10 +3,9 @@ use Rattle.std.proofs.Common.{◌≡◌, ℕ, zero, suc, ◌<◌, ◌%◌, Bool,
 use Rattle.std.specs.List.{list_all, list_any, AllByRecursion}
 use Rattle.std.proofs.lemmas.Bool.{false≢true, or_from}
 use Rattle.ew_model.specs.declared.id.Id.{Id}
-use Rattle.ew_model.specs.declared.event.Op.{Op}
 use Rattle.ew_model.specs.declared.event.Event.{Event}
 use Rattle.ew_model.specs.Ancestors.{heads, is_held}
-use Rattle.ew_model.specs.Edits.{edit_refusal, events_of_edit, events_of_ops}
+use Rattle.ew_model.specs.Edits.{edit_refusal}
 use Rattle.ew_model.specs.ArrivalLaw.{NoneReady}
 use Rattle.ew_model.specs.Ids.{id_eq, name_eq}
 use Rattle.ew_model.specs.Kept.{ReplicaState, is_awaited}
@@ -27,7 +26,7 @@ use Rattle.peer_definitions.specs.Draws.{Drawn, draw_of, drawn_edit, next_state}
 use Rattle.peer_definitions.specs.Making.{Made, Making, agent_of, drawn_step, edited, edited_peer, peer_at}
 use Rattle.peer_definitions.specs.Making.Made.{Going, Stopped}
 use Rattle.generator.specs.Owning.{ArePeers, IsOwned, NamesOwned}
-use Rattle.generator.proofs.Drawing.{one_op}
+use Rattle.generator.proofs.Drawing.{one_event}
 use Rattle.generator.proofs.Growing.{held_more}
 use Rattle.generator.proofs.Owned.{here, names_more, owned_more, replaced, within}
 use Rattle.ew_model.proofs.EntryLaws.{all_joined}
@@ -87,11 +86,6 @@ pub edit_stopped : (state n : ℕ) (peers : List ReplicaState) (p new : ReplicaS
     → TellsStop (drawn_step (record { state = state; peers = peers })) f
 edit_stopped state n peers p new f number is edits =
     subst (λ (m : Made). TellsStop m f) (sym (step_of state n peers p number is)) (refused (record { state = state; peers = peers }) n p new (drawn_for state p) f edits)
-
--- a drawn edit makes one event
-pub one_event : (held : List Event) (agent : List ℕ) (x len : ℕ) → (o : Op) × (events_of_edit held agent (drawn_edit x len).edit ≡ event_by held agent o ∷ [])
-unfolding events_of_ops
-one_event held agent x len = let one = one_op x len in (one.0, ap (events_of_ops held agent) one.1)
 
 -- the three agents are apart
 pub agents_apart : (n m : ℕ) → n < 3 → m < 3 → name_eq (agent_of n) (agent_of m) ≡ true → n ≡ m

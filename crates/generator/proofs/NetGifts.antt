@@ -1,22 +1,23 @@
 -- A gift is a push that is delivered at once, and a drawn edit is a local edit in a net.
-use Rattle.std.proofs.Common.{◌≡◌, ℕ, ◌%◌, ◌<◌, ◌≤◌, List, [], ◌∷◌, ◌++◌, length, map, flat_map, set, Option, Some, None, arith, refl, sym, ap, ◌∙◌, append-nil, append_assoc}
+use Rattle.std.proofs.Common.{◌≡◌, ℕ, ◌+◌, ◌%◌, ◌<◌, ◌≤◌, Bool, true, false, List, [], ◌∷◌, ◌++◌, length, map, flat_map, set, Option, Some, None, arith, refl, sym, ap, ◌∙◌, subst, append-nil, append_assoc}
 use Rattle.std.specs.List.{slice_get}
 use Rattle.std.specs.Option.{option_and_then, option_map_or}
 use Rattle.ew_model.specs.declared.event.Event.{Event}
 use Rattle.ew_model.specs.Arrival.{arrive}
 use Rattle.ew_model.specs.Edits.{Edit, EditRefusal, edit_refusal}
-use Rattle.ew_model.specs.Edits.Edit.{Insert, Delete}
+use Rattle.ew_model.specs.Edits.Edit.{Insert, Delete, Mark}
 use Rattle.ew_model.specs.Kept.{ReplicaState}
 use Rattle.ew_model.specs.Limits.{AreLimits, LimitNumbers}
 use Rattle.ew_model.specs.Texts.{text_of}
 use Rattle.arrival_laws.proofs.Parts.{nothing_arrives, parts_are_the_whole}
+use Rattle.peer_definitions.specs.declared.net_step.NetStep.{NetStep}
 use Rattle.peer_definitions.specs.declared.net_step.NetStep.TheVariants as step
 use Rattle.peer_definitions.specs.Answering.{answer_to, event_frames}
 use Rattle.peer_definitions.specs.Pieces.{frame_room, pieces}
 use Rattle.peer_exchange.proofs.PieceLaws.{frames_are_full}
 use Rattle.peer_definitions.specs.declared.frame.Frame.{Frame}
 use Rattle.peer_definitions.specs.declared.frame.Frame.TheVariants.{Events}
-use Rattle.peer_definitions.specs.Draws.{Drawn, draw_of, drawn_edit, next_state}
+use Rattle.peer_definitions.specs.Draws.{Drawn, draw_of, drawn_edit, letter, next_state}
 use Rattle.peer_definitions.specs.Machine.{Network, Packet, deliver_step, delivery_of, edit_outcome, edit_step, net_step, print_before, put_replica, with_packet, with_peer, with_replies}
 use Rattle.peer_definitions.specs.Machine.Refusal.{NoPacket}
 use Rattle.peer_definitions.specs.Machine.StepOutcome.{Refused}
@@ -24,7 +25,8 @@ use Rattle.peer_definitions.specs.Making.{Making, agent_of, drawn_step, edited, 
 use Rattle.peer_definitions.specs.Making.Made.{Going}
 use Rattle.peer_definitions.specs.Runs.{after_steps, network_left}
 use Rattle.std.proofs.lemmas.Nat.{mod_below}
-use Rattle.generator.specs.Laws.{EditsAreSteps, GiftsArePushes, edit_by, net_of}
+use Rattle.generator.specs.Laws.{EditsAreSteps, GiftsArePushes, IsEditBy, net_of}
+use Rattle.generator.proofs.Drawing.{drawn_by, removes}
 use Rattle.generator.proofs.NetPeers.{named_peer, put_among, with_named}
 
 -- what frames of events leave of a replica
@@ -111,10 +113,23 @@ pub gifts_are_pushes : GiftsArePushes
 gifts_are_pushes limits peers packets giver taker three first second are = both_left limits peers packets giver taker three first second are
 
 -- a step that is a local edit
-edit_is : (network : Network) (who : List ℕ) (e : Edit) → net_step network (edit_by who e) ≡ edit_step network who e
+edit_is : (network : Network) (who : List ℕ) (e : Edit) (s : NetStep) → IsEditBy who e s → net_step network s ≡ edit_step network who e
 unfolding net_step
-edit_is network who (Insert at text) = refl
-edit_is network who (Delete at n) = refl
+edit_is network who (Insert at text) s is = ap (net_step network) is
+edit_is network who (Delete at n) s is = ap (net_step network) is
+edit_is network who (Mark label) s is = absurd is
+
+-- a drawn edit is a step
+drawn_is_step : (who : List ℕ) (x len : ℕ) → (s : NetStep) × IsEditBy who (drawn_edit x len).edit s
+drawn_is_step who x len = at (removes (next_state x) len) refl
+  where
+    at : (b : Bool) → removes (next_state x) len ≡ b → (s : NetStep) × IsEditBy who (drawn_edit x len).edit s
+    at true is =
+        let s = step.Del who (draw_of (next_state (next_state x)) % len) 1 in
+        (s, subst (λ (d : Drawn). IsEditBy who d.edit s) (sym (drawn_by x len true is)) refl)
+    at false is =
+        let s = step.Ins who (draw_of (next_state (next_state x)) % (len + 1)) (letter (draw_of (next_state (next_state (next_state x)))) ∷ []) in
+        (s, subst (λ (d : Drawn). IsEditBy who d.edit s) (sym (drawn_by x len false is)) refl)
 
 edited_left : (limits : LimitNumbers) (m next : Making) (packets : List Packet) (n : ℕ) (drawn : Drawn) (o : Option EditRefusal) → length m.peers ≡ 3 → n < 3
     → edited m n (peer_at m.peers n) drawn o ≡ Going next
@@ -132,20 +147,26 @@ drawn_peer m = draw_of (next_state m.state) % 3
 abbrev pub drawn_for : Making → Drawn
 drawn_for m = drawn_edit (next_state m.state) (length (text_of (peer_at m.peers (draw_of (next_state m.state) % 3)).held))
 
+-- the step that it is
+pub drawn_step_of : (m : Making) → (s : NetStep) × IsEditBy (agent_of (drawn_peer m)) (drawn_for m).edit s
+drawn_step_of m = drawn_is_step (agent_of (drawn_peer m)) (next_state m.state) (length (text_of (peer_at m.peers (draw_of (next_state m.state) % 3)).held))
+
 pub drawn_peer_small : (m : Making) → drawn_peer m < 3
 drawn_peer_small m = mod_below (draw_of (next_state m.state)) 3 (omega arith)
 
-pub drawn_leaves : (limits : LimitNumbers) (m next : Making) (packets : List Packet) → length m.peers ≡ 3 → drawn_step m ≡ Going next
-    → network_left (net_step (net_of limits m.peers packets) (edit_by (agent_of (drawn_peer m)) (drawn_for m).edit)) ≡ Some (net_of limits next.peers packets)
+pub drawn_leaves : (limits : LimitNumbers) (m next : Making) (packets : List Packet) (s : NetStep) → length m.peers ≡ 3 → IsEditBy (agent_of (drawn_peer m)) (drawn_for m).edit s → drawn_step m ≡ Going next
+    → network_left (net_step (net_of limits m.peers packets) s) ≡ Some (net_of limits next.peers packets)
 unfolding drawn_step
-drawn_leaves limits m next packets three is =
+drawn_leaves limits m next packets s three edits is =
     let n = draw_of (next_state m.state) % 3 in
     let less = mod_below (draw_of (next_state m.state)) 3 (omega arith) in
     let p = peer_at m.peers n in
     let drawn = drawn_edit (next_state m.state) (length (text_of p.held)) in
     let net = net_of limits m.peers packets in
-    ap network_left (edit_is net (agent_of n) drawn.edit ∙ with_named limits m.peers packets n (λ q. edit_outcome net q drawn.edit (edit_refusal q.replica.limits q.replica.held q.name drawn.edit)) three less)
+    ap network_left (edit_is net (agent_of n) drawn.edit s edits ∙ with_named limits m.peers packets n (λ q. edit_outcome net q drawn.edit (edit_refusal q.replica.limits q.replica.held q.name drawn.edit)) three less)
     ∙ edited_left limits m next packets n drawn (edit_refusal p.limits p.held (agent_of n) drawn.edit) three less is
 
 pub edits_are_steps : EditsAreSteps
-edits_are_steps limits m next packets three is = (drawn_peer m, (drawn_for m).edit, drawn_peer_small m, drawn_leaves limits m next packets three is)
+edits_are_steps limits m next packets three is =
+    let step = drawn_step_of m in
+    (drawn_peer m, (drawn_for m).edit, step.0, drawn_peer_small m, step.1, drawn_leaves limits m next packets step.0 three step.1 is)

@@ -9,7 +9,7 @@ use Rattle.std.proofs.lemmas.List.{length-append, length-set}
 use Rattle.std.proofs.lemmas.Nat.{mod_below}
 use Rattle.std.proofs.Math.Nat.{mod-le}
 use Rattle.ew_model.specs.Edits.{Edit}
-use Rattle.ew_model.specs.Edits.Edit.{Insert, Delete}
+use Rattle.ew_model.specs.Edits.Edit.{Insert, Delete, Mark}
 use Rattle.ew_model.specs.Kept.{ReplicaState}
 use Rattle.ew_model.specs.Limits.{AreLimits, LimitNumbers}
 use Rattle.ew_model.specs.Names.{is_name}
@@ -25,9 +25,9 @@ use Rattle.peer_definitions.specs.Making.Made.{Going, Stopped}
 use Rattle.peer_definitions.specs.Runs.{after_steps, network_left}
 use Rattle.ew_model.specs.Edits.{EditRefusal, edit_refusal}
 use Rattle.ew_model.specs.Arrival.{arrive}
-use Rattle.generator.specs.Laws.{AreMadeInNet, MakingsAreNets, edit_by, is_edit_or_gift, net_of, peers_come}
-use Rattle.generator.proofs.Drawing.{drawn_by, removes}
-use Rattle.generator.proofs.NetGifts.{drawn_leaves, gifts_are_pushes}
+use Rattle.generator.specs.Laws.{AreMadeInNet, MakingsAreNets, IsEditBy, is_edit_or_gift, net_of, peers_come}
+use Rattle.generator.proofs.Drawing.{addition, drawn_by, removal, removes}
+use Rattle.generator.proofs.NetGifts.{drawn_leaves, drawn_step_of, gifts_are_pushes}
 use Rattle.generator.proofs.Owned.{elsewhere, equal_or_not, here, within}
 
 -- steps behind others
@@ -111,27 +111,31 @@ low ch less = ap (λ b. cond b true (nat_le 57344 ch && nat_lt ch 1114112)) (lt-
 letter_low : (n : ℕ) → letter n < 55296
 letter_low n = omega arith
 
-sound_drawn : (who : List ℕ) (x len : ℕ) → is_name who ≡ true → IsSoundStep (edit_by who (drawn_edit x len).edit)
-sound_drawn who x len name = at (removes (next_state x) len) refl
+sound_drawn : (who : List ℕ) (x len : ℕ) (s : NetStep) → is_name who ≡ true → IsEditBy who (drawn_edit x len).edit s → IsSoundStep s
+sound_drawn who x len s name edits = at (removes (next_state x) len) refl
   where
-    at : (b : Bool) → removes (next_state x) len ≡ b → IsSoundStep (edit_by who (drawn_edit x len).edit)
+    drawn_as : (d : Drawn) → drawn_edit x len ≡ d → IsEditBy who d.edit s
+    drawn_as d same = subst (λ (e : Drawn). IsEditBy who e.edit s) same edits
+
+    at : (b : Bool) → removes (next_state x) len ≡ b → IsSoundStep s
     at true is =
         let d = draw_of (next_state (next_state x)) in
         let draw = small_draw (next_state x) in
         let index = mod-le d len in
         let one : 1 < 2 ^ 32 = omega arith in
-        subst (λ (e : Drawn). IsSoundStep (edit_by who e.edit)) (sym (drawn_by x len true is)) (name, omega (arith, draw, index), one)
+        subst IsSoundStep (sym (drawn_as (removal (next_state x) len) (drawn_by x len true is))) (name, omega (arith, draw, index), one)
     at false is =
         let d = draw_of (next_state (next_state x)) in
         let c = draw_of (next_state (next_state (next_state x))) in
         let draw = small_draw (next_state x) in
         let index = mod-le d (len + 1) in
         let scalar : all_scalars (letter c ∷ []) ≡ true = and_from _ _ (low (letter c) (letter_low c)) refl in
-        subst (λ (e : Drawn). IsSoundStep (edit_by who e.edit)) (sym (drawn_by x len false is)) (name, omega (arith, draw, index), scalar)
+        subst IsSoundStep (sym (drawn_as (addition (next_state x) len) (drawn_by x len false is))) (name, omega (arith, draw, index), scalar)
 
-edit_kind : (who : List ℕ) (e : Edit) → is_edit_or_gift (edit_by who e) ≡ true
-edit_kind who (Insert at text) = refl
-edit_kind who (Delete at n) = refl
+edit_kind : (who : List ℕ) (e : Edit) (s : NetStep) → IsEditBy who e s → is_edit_or_gift s ≡ true
+edit_kind who (Insert at text) s is = ap is_edit_or_gift is
+edit_kind who (Delete at n) s is = ap is_edit_or_gift is
+edit_kind who (Mark label) s is = absurd is
 
 -- the peers that an edit leaves
 edited_peers : (m next : Making) (n : ℕ) (p : ReplicaState) (drawn : Drawn) (o : Option EditRefusal) → edited m n p drawn o ≡ Going next → next.peers ≡ set m.peers n (edited_peer p (agent_of n) drawn.edit)
@@ -153,10 +157,11 @@ by_edit limits most m next net is =
       three = ap length peers ∙ length-set m.peers n (edited_peer p (agent_of n) drawn.edit) ∙ net.three;
       same = λ k small. ap (λ ps. (peer_at ps k).limits) peers ∙ same_more limits m.peers n (edited_peer p (agent_of n) drawn.edit) less net.three (net.same n less) net.same k small;
       made =
-          let left = drawn_leaves limits m next net.made.packets net.three is in
-          went_on limits most 1 m.peers next.peers net.made (edit_by (agent_of n) drawn.edit ∷ []) net.made.packets
-          (sound_drawn (agent_of n) x (length (text_of p.held)) (named n less), tt) (edit_kind (agent_of n) drawn.edit, tt) (omega arith)
-          (one_step (net_of limits m.peers net.made.packets) (net_of limits next.peers net.made.packets) (edit_by (agent_of n) drawn.edit) left);
+          let step = drawn_step_of m in
+          let left = drawn_leaves limits m next net.made.packets step.0 net.three step.1 is in
+          went_on limits most 1 m.peers next.peers net.made (step.0 ∷ []) net.made.packets
+          (sound_drawn (agent_of n) x (length (text_of p.held)) step.0 (named n less) step.1, tt) (edit_kind (agent_of n) drawn.edit step.0 step.1, tt) (omega arith)
+          (one_step (net_of limits m.peers net.made.packets) (net_of limits next.peers net.made.packets) step.0 left);
       few = let few = net.few in omega (arith, few);
     }
 

@@ -2,7 +2,7 @@
 use Rattle.std.specs.Prelude.{◌≡◌, ◌<◌, ◌≤◌, ◌+◌, ◌*◌, ℕ, suc, Bool, true, false, List, [], ◌∷◌, ◌++◌, length, Some, codes}
 use Rattle.std.specs.List.{AllByRecursion}
 use Rattle.ew_model.specs.Edits.{Edit}
-use Rattle.ew_model.specs.Edits.Edit.{Insert, Delete}
+use Rattle.ew_model.specs.Edits.Edit.{Insert, Delete, Mark}
 use Rattle.ew_model.specs.Kept.{ReplicaState}
 use Rattle.ew_model.specs.Limits.{AreLimits, LimitNumbers}
 use Rattle.peer_definitions.specs.declared.net_step.NetStep.{NetStep}
@@ -27,15 +27,17 @@ named_from n (p ∷ peers) = record { name = agent_of n; replica = p } ∷ named
 abbrev pub net_of : LimitNumbers → List ReplicaState → List Packet → Network
 net_of limits peers packets = record { limits = limits; peers = named_from 0 peers; packets = packets }
 
--- the step of a net that is a local edit of this peer
-abbrev pub edit_by : List ℕ → Edit → NetStep
-edit_by who (Insert at text) = step.Ins who at text
-edit_by who (Delete at n) = step.Del who at n
+-- The step of a net is this local edit of a peer. A made history has insertions and deletions alone, so a mark is none of these
+-- edits.
+abbrev pub IsEditBy : List ℕ → Edit → NetStep → Type 0
+IsEditBy who (Insert at text) s = s ≡ step.Ins who at text
+IsEditBy who (Delete at n) s = s ≡ step.Del who at n
+IsEditBy who (Mark label) s = ⊥
 
 -- A drawn edit that isn't refused is a local edit of one of the peers in a net.
 abbrev pub EditsAreSteps : Type 0
 EditsAreSteps = (limits : LimitNumbers) (m next : Making) (packets : List Packet) → length m.peers ≡ 3 → drawn_step m ≡ Going next
-    → (n : ℕ) × (edit : Edit) × (n < 3) × (network_left (net_step (net_of limits m.peers packets) (edit_by (agent_of n) edit)) ≡ Some (net_of limits next.peers packets))
+    → (n : ℕ) × (edit : Edit) × (s : NetStep) × (n < 3) × IsEditBy (agent_of n) edit s × (network_left (net_step (net_of limits m.peers packets) s) ≡ Some (net_of limits next.peers packets))
 
 -- A gift is a push that is delivered at once. It makes two packets at most: the push, and the answer.
 abbrev pub GiftsArePushes : Type 0

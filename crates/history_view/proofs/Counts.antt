@@ -8,14 +8,14 @@ use Rattle.ew_model.specs.declared.event.Event.{Event}
 use Rattle.ew_model.specs.Ancestors.{heads, ids_of}
 use Rattle.ew_model.specs.Cuts.{cuts_to, is_critical}
 use Rattle.ew_model.specs.Edits.{count_of}
-use Rattle.ew_model.specs.File.{agents_of, with_agent}
+use Rattle.ew_model.specs.Writable.{agents_of, with_agent}
 use Rattle.ew_model.specs.Graph.{passing_to}
 use Rattle.ew_model.specs.Ids.{id_cmp}
 use Rattle.ew_model.specs.Sorting.{sort_by}
 use Rattle.ew_model.proofs.SortingLaws.{length-sort}
 use Rattle.history_definitions.specs.Agents as table
 use Rattle.history_definitions.specs.Summary.{summary_of}
-use Rattle.ew_model.proofs.FileEvents.{few_agents}
+use Rattle.ew_model.proofs.AgentLaws.{few_agents}
 use Rattle.replica.proofs.HeadLaws.{few_heads}
 
 -- the agents of events are those of their ids

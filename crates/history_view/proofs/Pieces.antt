@@ -1,7 +1,7 @@
 -- The pieces that a line is written in.
 use Rattle.std.proofs.Common.{◌≡◌, ℕ, List, ◌∷◌, ◌++◌, codes, sym, ap, ◌∙◌, append_assoc}
 use Rattle.ew_model.specs.declared.event.Op.{Op}
-use Rattle.ew_model.specs.declared.event.Op.TheVariants.{Ins, Del}
+use Rattle.ew_model.specs.declared.event.Op.TheVariants.{Ins, Del, Mark}
 use Rattle.ew_model.specs.declared.event.Event.{Event}
 use Rattle.ew_model.specs.Scripts.{id_text, spaced, version_text}
 use Rattle.history_definitions.specs.Listings.{event_line, op_words}
@@ -19,6 +19,7 @@ event_pieces e = at e.op
     at : (op : Op) → spaced (id_text e.id ∷ version_text e.parents ∷ op_words op) ++ codes "\n" ≡ (id_text e.id ++ codes " " ++ version_text e.parents) ++ codes " " ++ spaced (op_words op) ++ codes "\n"
     at (Ins place ch) = ap (λ x. x ++ codes "\n") (three_words (id_text e.id) (version_text e.parents) (spaced (op_words (Ins place ch))))
     at (Del place) = ap (λ x. x ++ codes "\n") (three_words (id_text e.id) (version_text e.parents) (spaced (op_words (Del place))))
+    at (Mark label) = ap (λ x. x ++ codes "\n") (three_words (id_text e.id) (version_text e.parents) (spaced (op_words (Mark label))))
 
 -- four pieces behind a list
 four_behind : (o a b c d : List ℕ) → o ++ a ++ b ++ c ++ d ≡ o ++ (a ++ b ++ c ++ d)

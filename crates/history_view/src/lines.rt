@@ -8,6 +8,7 @@ ghost use Rattle.history_definitions.specs.Replays.{change_line, change_words};
 use ew_model::NoMem;
 use ew_model::event::{Event, Op};
 use ew_model::id::Id;
+use ew_model::name::Name;
 use ew_model::text_op::TextOp;
 use itoa::Buffer;
 use script_reader::print::{print_char, print_id, print_version};
@@ -35,14 +36,22 @@ fn push_names(out: &mut Vec<u8>, event: &Event) -> Result<(), NoMem>
     Ok(())
 }
 
-/// Writes an operation: what it does, at which index, and the character of an insertion.
+/// Writes an operation: what it does, at which index, and the character of an insertion; or a mark's label.
 fn push_op(out: &mut Vec<u8>, op: &Op) -> Result<(), NoMem>
     ensures { OnOk result (out.new.items ≡ out.old.items ++ spaced (op_words op.now)) }
 {
-    match *op {
-        Op::Ins { at, ch } => push_insertion(out, at, ch),
-        Op::Del { at } => push_word_and_number(out, b"del", at),
+    match op {
+        Op::Ins { at, ch } => push_insertion(out, *at, *ch),
+        Op::Del { at } => push_word_and_number(out, b"del", *at),
+        Op::Mark { label } => push_mark(out, label),
     }
+}
+
+fn push_mark(out: &mut Vec<u8>, label: &Name) -> Result<(), NoMem>
+    ensures { OnOk result (out.new.items ≡ out.old.items ++ spaced (codes "mark" ∷ label.now ∷ [])) }
+{
+    out.extend_from_slice(b"mark ")?;
+    out.extend_from_slice(label.as_slice())
 }
 
 fn push_insertion(out: &mut Vec<u8>, at: u32, ch: char) -> Result<(), NoMem>

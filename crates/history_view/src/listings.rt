@@ -3,7 +3,7 @@
 ghost use Rattle.std.specs.Prelude.{◌≡◌, ◌≤◌, ◌++◌, IfOk, OnOk, length};
 ghost use Rattle.ew_model.specs.Ancestors.{heads};
 ghost use Rattle.ew_model.specs.Cuts.{cuts_of};
-ghost use Rattle.ew_model.specs.File.{agents_of};
+ghost use Rattle.ew_model.specs.Writable.{agents_of};
 ghost use Rattle.history_definitions.specs.Listings as model;
 
 use crate::lines::{push_event, push_id, push_number};
@@ -13,7 +13,8 @@ use ew_model::id::Id;
 use replica::Replica;
 use std::alloc::Global;
 
-/// The log: each event in the history's order on a line, as `ID PARENTS ins AT CH` or `ID PARENTS del AT`.
+/// The log: each event in the history's order on a line, as `ID PARENTS ins AT CH`, `ID PARENTS del AT` or
+/// `ID PARENTS mark LABEL`.
 pub fn log_text(alloc: Global, replica: &Replica) -> Result<Vec<u8>, NoMem>
     ensures { IfOk result (λ text. text.items ≡ model.log_text replica.now.held) }
 {

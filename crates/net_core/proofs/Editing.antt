@@ -1,14 +1,15 @@
 -- Local edits and restarts in a network.
-use Rattle.std.proofs.Common.{◌≡◌, ℕ, ◌+◌, false, inl, inr, List, [], ◌∷◌, ◌++◌, map, set, length, Some, None, sym, ap, ◌∙◌, subst, arith}
+use Rattle.std.proofs.Common.{◌≡◌, ℕ, false, ⊎_elim, List, [], ◌∷◌, ◌++◌, map, set, length, Some, None, sym, ap, ◌∙◌, subst, arith}
+use Rattle.std.proofs.lemmas.Bool.{cases_Bool, false≢true}
 use Rattle.std.specs.List.{slice_get}
 use Rattle.std.specs.Prelude.{codes, decimal}
 use Rattle.ew_model.specs.declared.event.Event.{Event}
-use Rattle.ew_model.specs.declared.event.Op.{Op}
-use Rattle.ew_model.specs.declared.id.Id.{Id}
-use Rattle.ew_model.specs.Edits.{Edit, chain_of, edit_refusal, events_of_edit, events_of_ops, ops_of}
+use Rattle.ew_model.specs.Edits.{Edit, edit_refusal, events_of_edit}
+use Rattle.ew_model.specs.Ids.{name_eq}
 use Rattle.ew_model.specs.Kept.{ReplicaState, is_awaited}
 use Rattle.ew_model.specs.Sets.{Among}
-use Rattle.ew_model.proofs.EditLaws.{edits_keep}
+use Rattle.ew_model.proofs.CoverLaws.{held_of}
+use Rattle.ew_model.proofs.EditLaws.{edit_of_agent, edits_keep}
 use Rattle.ew_model.proofs.IdLaws.{name_exact, names_equal}
 use Rattle.ew_model.proofs.SetLaws.{joined_left, joined_right}
 use Rattle.ew_model.proofs.SortingLaws.{all_at, all_from}
@@ -23,14 +24,11 @@ use Rattle.net_core.proofs.Reaching.{IsHomely, all_on, home_after, put_homely, s
 use Rattle.net_core.proofs.Steps.{at_peer}
 
 -- an agent's edit makes events of its own
-chain_agent : (agent : List ℕ) (n : ℕ) (parents : List Id) (ops : List Op) (e : Event) → Among e (chain_of agent n parents ops) → e.id.agent ≡ agent
-chain_agent agent n parents [] e m = absurd m
-chain_agent agent n parents (op ∷ ops) e (inl same) = ap (λ (x : Event). x.id.agent) same
-chain_agent agent n parents (op ∷ ops) e (inr m) = chain_agent agent (n + 1) _ ops e m
-
 pub made_agent : (history : List Event) (agent : List ℕ) (edit : Edit) (e : Event) → Among e (events_of_edit history agent edit) → e.id.agent ≡ agent
-unfolding events_of_ops
-made_agent history agent edit e m = chain_agent agent _ _ (ops_of edit) e m
+made_agent history agent edit e m = ⊎_elim
+    (λ same. name_exact e.id.agent agent same)
+    (λ other. absurd (false≢true (sym (edit_of_agent history agent edit e.id other) ∙ held_of (events_of_edit history agent edit) e m)))
+    (cases_Bool (name_eq e.id.agent agent))
 
 -- the peer of a name, in a network
 pub named_so : (network : Network) (who : List ℕ) (p : Peer) → peer_of network who ≡ Some p → p.name ≡ who

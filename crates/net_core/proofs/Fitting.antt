@@ -31,7 +31,7 @@ use Rattle.peer_exchange.proofs.Refused.{refused_each}
 use Rattle.peer_definitions.specs.Answering.{answer_to, event_frames, frame_for, question, took_of}
 use Rattle.peer_frames.specs.Laws.{IsTaken}
 use Rattle.peer_definitions.specs.Spelling.{event_bytes, events_body, id_bytes}
-use Rattle.ew_model.specs.File.{four_bytes, op_bytes}
+use Rattle.ew_model.specs.Bytes.{four_bytes, op_bytes}
 use Rattle.peer_definitions.specs.declared.frame.Frame.{Frame}
 use Rattle.peer_definitions.specs.declared.frame.Frame.TheVariants.{Have, Events, Done, Took, Clash, Bye}
 use Rattle.net_core.specs.Keeping.{IsHome, IsReached, IsReplica}
@@ -162,7 +162,7 @@ module _ (network new : Network) (are : AreLimits network.limits) (h : IsHomely 
   edit_sound who e p can found None is left =
       let own = replica_of network who p h found in
       let peer = all_at IsSoundPeer network.peers p sound.peers (peer_there network.peers who p found) in
-      let made = made_sound p.replica.limits p.replica.held p.replica.waiting p.name e (subst AreLimits (sym own.same) are) own.kept peer.held peer.name can is in
+      let made = made_sound p.replica.limits p.replica.held p.replica.waiting p.name (subst AreLimits (sym own.same) are) own.kept peer.held peer.name e can is in
       went_sound _ (put_net p _ (all_joined IsSound p.replica.held (events_of_edit p.replica.held p.name e) peer.held made) peer.waiting) left
 
   sent_sound : (other : Network) → IsSoundNet other → (k : Packet) → AreTaken other.limits k → IsSoundNet

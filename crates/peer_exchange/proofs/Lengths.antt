@@ -5,12 +5,12 @@ use Rattle.std.proofs.lemmas.List.{length-append, length-take}
 use Rattle.std.proofs.Math.Nat.{div-mul-le_self}
 use Rattle.ew_model.specs.declared.id.Id.{Id}
 use Rattle.ew_model.specs.declared.event.Op.{Op}
-use Rattle.ew_model.specs.declared.event.Op.TheVariants.{Ins, Del}
+use Rattle.ew_model.specs.declared.event.Op.TheVariants.{Ins, Del, Mark}
 use Rattle.ew_model.specs.declared.event.Event.{Event}
-use Rattle.ew_model.specs.File.{four_bytes, name_bytes, op_bytes}
+use Rattle.ew_model.specs.Bytes.{four_bytes, name_bytes, op_bytes}
 use Rattle.ew_model.specs.Kept.{ReplicaState}
 use Rattle.ew_model.specs.Limits.{LimitNumbers, AreLimits}
-use Rattle.ew_model.specs.Sound.{IsSoundId, IsSound, AreSound}
+use Rattle.ew_model.specs.Sound.{IsSoundId, IsSoundOp, IsSound, AreSound}
 use Rattle.ew_model.specs.Verdicts.{IsGoodAfter, IsGood}
 use Rattle.ew_model.proofs.GoodLaws.{next_from_good}
 use Rattle.ew_model.proofs.SortingLaws.{all_filter}
@@ -36,16 +36,17 @@ ids_short : (ids : List Id) → AllByRecursion IsSoundId ids → length (flat_ma
 ids_short [] h = omega arith
 ids_short (x ∷ ids) h = let one = id_short x h.0 in let rest = ids_short ids h.1 in let both = length-append (id_bytes x) (flat_map id_bytes ids) in omega (arith, one, rest, both)
 
-op_short : (o : Op) → length (op_bytes o) ≤ 9
-op_short (Ins at ch) = let both = length-append (four_bytes at) (four_bytes ch) in omega (arith, both, four_long at, four_long ch)
-op_short (Del at) = omega (arith, four_long at)
+op_short : (o : Op) → IsSoundOp o → length (op_bytes o) ≤ 34
+op_short (Ins at ch) h = let both = length-append (four_bytes at) (four_bytes ch) in omega (arith, both, four_long at, four_long ch)
+op_short (Del at) h = omega (arith, four_long at)
+op_short (Mark label) h = let name = name_short label h in omega (arith, name)
 
 -- no event with at most 16 parents has more bytes than this
-event_short : (e : Event) → IsSound e → length e.parents ≤ 16 → length (event_bytes e) ≤ 639
+event_short : (e : Event) → IsSound e → length e.parents ≤ 16 → length (event_bytes e) ≤ 664
 event_short e h few =
     let id = id_short e.id h.id in
     let parents = ids_short e.parents h.parents in
-    let op = op_short e.op in
+    let op = op_short e.op h.op in
     let front = length-append (id_bytes e.id) (length e.parents ∷ flat_map id_bytes e.parents) in
     let whole = length-append (id_bytes e.id ++ length e.parents ∷ flat_map id_bytes e.parents) (op_bytes e.op) in
     omega (arith, id, parents, op, front, whole, few)
@@ -53,7 +54,7 @@ event_short e h few =
 abbrev pub HasFew : Event → Type 0
 HasFew e = length e.parents ≤ 16
 
-events_short : (events : List Event) → AreSound events → AllByRecursion HasFew events → length (flat_map event_bytes events) ≤ 639 * length events
+events_short : (events : List Event) → AreSound events → AllByRecursion HasFew events → length (flat_map event_bytes events) ≤ 664 * length events
 events_short [] h few = omega arith
 events_short (e ∷ events) h few =
     let one = event_short e h.0 few.0 in
@@ -71,7 +72,7 @@ may_send (e ∷ events) few = (let one = few.0 in omega (arith, one), may_send e
 events_taken : (limits : LimitNumbers) (events : List Event) → AreLimits limits → AreSound events → AllByRecursion HasFew events → length events ≤ frame_room limits → IsTaken limits (Events events)
 events_taken limits events are sound few fits =
     let flat = events_short events sound few in
-    let room = div-mul-le_self (limits.body - 4) 639 in
+    let room = div-mul-le_self (limits.body - 4) 664 in
     let whole = length-append (four_bytes (length events)) (flat_map event_bytes events) in
     let least = are.room_for_an_event in
     let most = are.short_body in

@@ -6,7 +6,7 @@ use Rattle.ew_model.specs.declared.event.Event.{Event}
 use Rattle.ew_model.specs.declared.id.Id.{Id}
 use Rattle.ew_model.specs.declared.verdict.Refusal.{Refusal}
 use Rattle.ew_model.specs.Arrival.{Answer, Desk, Judgement, judgements, next_judgement, most_judgements, desk_of, arrive}
-use Rattle.ew_model.specs.File.{four_bytes, name_bytes, op_bytes}
+use Rattle.ew_model.specs.Bytes.{four_bytes, name_bytes, op_bytes}
 use Rattle.ew_model.specs.Limits.{LimitNumbers}
 use Rattle.ew_model.proofs.RoundLaws.{then}
 use Rattle.history_definitions.specs.Tallies.{refusal_in, refused_by, refused_in}

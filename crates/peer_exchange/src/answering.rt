@@ -14,7 +14,7 @@ ghost use Rattle.peer_exchange.specs.Replies.{IsReply, IsLeftBy};
 
 use crate::events::all_frames;
 use crate::reply::Reply;
-use crate::sound::{note_counts, note_id};
+use event_graph::Facts;
 use ew_model::NoMem;
 use ew_model::event::Event;
 use ew_model::id::Id;
@@ -43,8 +43,17 @@ fn summary(replica: &Replica) -> Result<Vec<(Name, u32)>, NoMem>
     ensures sound { IfOk result (λ v. AllByRecursion IsSoundCount v.items) }
 {
     let counts = replica.graph().summary()?;
-    note_counts(&counts);
+    count_facts(&counts);
     Ok(counts)
+}
+
+/// The names and the numbers lie in the ranges of their types. It does nothing.
+fn count_facts(counts: &[(Name, u32)])
+    ensures { AllByRecursion IsSoundCount counts.now }
+{
+    for count in counts {
+        count.facts();
+    }
 }
 
 /// Answers a frame that has a spelling. A Have gets the events that it lacks, in full frames, and Done behind them. Events are
@@ -155,7 +164,7 @@ fn told(took: &Took) -> (Frame, Option<End>)
 {
     match first_clash(took.refused.as_slice()) {
         Some(id) => {
-            note_id(&id);
+            id.facts();
             (Frame::Clash(id), Some(End::Clash(id)))
         }
         None => {

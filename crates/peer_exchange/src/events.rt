@@ -8,15 +8,10 @@ ghost use Rattle.peer_definitions.specs.Pieces.{frame_room, pieces};
 
 use ew_model::NoMem;
 use ew_model::event::Event;
-use ew_model::limits::Limits;
+use ew_model::limits::{COUNT_BYTES, Limits, MOST_EVENT_BYTES};
 use peer_frames::{EventList, Frame};
 use std::alloc::Global;
 use std::vec::IntoIter;
-
-/// The bytes of a body that tell the number of its events.
-const COUNT_BYTES: u32 = 4;
-/// The bytes of the greatest event that a history can hold.
-const MOST_EVENT_BYTES: u32 = 639;
 
 /// Frames of the events, in order, each full but the last, and Done behind them.
 pub fn all_frames(alloc: Global, limits: &Limits, events: Vec<Event>) -> Result<Vec<Frame>, NoMem>

@@ -6,7 +6,6 @@ mod answering;
 mod events;
 pub mod laws;
 mod reply;
-mod sound;
 
 pub use answering::{answer, ask};
 pub use events::event_frames;

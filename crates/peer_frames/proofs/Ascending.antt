@@ -9,7 +9,7 @@ use Rattle.std.proofs.lemmas.List.{map-append}
 use Rattle.peer_definitions.specs.Spelling.{AgentCount, names_ascend, IsSoundCount}
 use Rattle.peer_frames.specs.Reading.{may_follow}
 use Rattle.peer_frames.proofs.Lists.{AllBehind}
-use Rattle.ew_model.proofs.FileLists.{some_is}
+use Rattle.ew_model.proofs.ListPlaces.{some_is}
 
 abbrev pub names_of : List AgentCount → List (List ℕ)
 names_of counts = map (λ (c : AgentCount). c.0) counts

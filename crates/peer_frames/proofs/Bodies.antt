@@ -7,9 +7,8 @@ use Rattle.ew_model.specs.declared.id.Id.{Id}
 use Rattle.ew_model.specs.declared.event.Op.{Op}
 use Rattle.ew_model.specs.declared.event.Event.{Event}
 use Rattle.ew_model.specs.Sound.{IsSoundId, IsSound, AreSound}
-use Rattle.ew_model.specs.File.{four_bytes, name_bytes, op_bytes}
-use Rattle.ew_model.specs.FileLaws.{AreBytes}
-use Rattle.ew_model.proofs.FileFields.{Takes, Takes-then}
+use Rattle.ew_model.specs.Bytes.{four_bytes, name_bytes, op_bytes, AreBytes}
+use Rattle.file_words.proofs.FileFields.{Takes, Takes-then}
 use Rattle.peer_frames.specs.declared.kind.Kind.{Kind}
 use Rattle.peer_frames.specs.declared.kind.Kind.TheVariants as kinds
 use Rattle.peer_definitions.specs.declared.frame.Frame.{Frame}
@@ -20,7 +19,7 @@ use Rattle.peer_frames.proofs.Fields.{go_some, byte_some, number_some, number_ba
 use Rattle.peer_frames.proofs.Lists.{AllBehind, AreRead, list_some, list_back}
 use Rattle.peer_frames.proofs.Loops.{ids_step, ids_last, next_id, events_step, events_last, next_event, counts_step, counts_last}
 use Rattle.peer_frames.proofs.Ascending.{names_of, follows, MayCount, counts_read, counts_written}
-use Rattle.ew_model.proofs.FileLists.{some_is}
+use Rattle.ew_model.proofs.ListPlaces.{some_is}
 
 -- things that need nothing of those before them
 abbrev Any : {A : Type 0} → (A → Type 0) → List A → A → Type 0

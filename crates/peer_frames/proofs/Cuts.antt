@@ -4,8 +4,8 @@ use Rattle.std.specs.List.{AllByRecursion}
 use Rattle.std.proofs.lemmas.Bool.{and_parts, ltb-true}
 use Rattle.std.proofs.lemmas.List.{length-take, length-drop}
 use Rattle.ew_model.specs.Limits.{LimitNumbers}
-use Rattle.ew_model.specs.FileLaws.{AreBytes}
-use Rattle.ew_model.proofs.FileFields.{AreBytes-take, AreBytes-drop}
+use Rattle.ew_model.specs.Bytes.{AreBytes}
+use Rattle.ew_model.proofs.ByteLaws.{AreBytes-take, AreBytes-drop}
 use Rattle.peer_frames.specs.declared.kind.Kind.{Kind}
 use Rattle.peer_definitions.specs.declared.frame.Frame.{Frame}
 use Rattle.peer_definitions.specs.declared.frame.Frame.TheVariants.{Have, Events, Done, Took, Clash, Bye}
@@ -19,7 +19,7 @@ use Rattle.peer_frames.specs.Reading.{kind_byte, frame_in}
 use Rattle.peer_frames.specs.Laws.{NoFrameBeginsAnother, FrontsAreFound, FrontsAreOne, is_fault, FaultsStay, CutsAreOne, CutsAreFound, ChunkingIsNotSeen, ChunkingsAgree, IsTaken, FramesComeBack}
 use Rattle.peer_frames.proofs.Bodies.{kind_at, frame_some, frame_back}
 use Rattle.peer_frames.proofs.Heads.{HeadSays, IsThere, head_says, Grows, grows, head_spelled}
-use Rattle.ew_model.proofs.FileLists.{some_is}
+use Rattle.ew_model.proofs.ListPlaces.{some_is}
 
 -- ---- one front
 

@@ -5,13 +5,12 @@ use Rattle.ew_model.specs.declared.id.Id.{Id}
 use Rattle.ew_model.specs.declared.event.Op.{Op}
 use Rattle.ew_model.specs.Names.{is_name}
 use Rattle.ew_model.specs.Sound.{IsSoundId, IsSoundOp}
-use Rattle.ew_model.specs.File.{four_bytes, name_bytes, op_bytes}
-use Rattle.ew_model.specs.FileFaults.{byte, number, read_name, read_op}
-use Rattle.ew_model.specs.FileLaws.{AreBytes}
-use Rattle.ew_model.proofs.FileFields.{Takes, Takes-then, byte_takes, number_takes, number_again, name_takes, name_again, op_takes, op_again}
+use Rattle.ew_model.specs.Bytes.{four_bytes, name_bytes, op_bytes, AreBytes}
+use Rattle.file_words.specs.FileFaults.{byte, number, read_name, read_op}
+use Rattle.file_words.proofs.FileFields.{Takes, Takes-then, byte_takes, number_takes, number_again, name_takes, name_again, op_takes, op_again}
 use Rattle.peer_definitions.specs.Spelling.{id_bytes}
 use Rattle.peer_frames.specs.Reading.{Reader, done, go_on, one_byte, one_number, one_name, one_operation, one_id}
-use Rattle.ew_model.proofs.FileLists.{some_is}
+use Rattle.ew_model.proofs.ListPlaces.{some_is}
 
 pub ok_is : {T E : Type 0} (r : Result T E) (y : T) → result_ok r ≡ Some y → r ≡ Ok y
 ok_is (Ok x) y e = ap Ok (some_is x y e)

@@ -1,10 +1,10 @@
 -- Lists of things that are read one after the other, both ways.
 use Rattle.std.proofs.Common.{◌≡◌, ℕ, zero, suc, List, [], ◌∷◌, ◌++◌, length, flat_map, Some, refl, sym, ap, subst, ◌∙◌, append_assoc, append-nil}
-use Rattle.ew_model.specs.FileLaws.{AreBytes}
-use Rattle.ew_model.proofs.FileFields.{Takes, Takes-then}
+use Rattle.ew_model.specs.Bytes.{AreBytes}
+use Rattle.file_words.proofs.FileFields.{Takes, Takes-then}
 use Rattle.peer_frames.specs.Reading.{Reader, go_on}
 use Rattle.peer_frames.proofs.Fields.{go_some}
-use Rattle.ew_model.proofs.FileLists.{some_is}
+use Rattle.ew_model.proofs.ListPlaces.{some_is}
 
 -- each may stand behind those before it
 abbrev pub AllBehind : {A : Type 0} → (List A → A → Type 0) → List A → List A → Type 0

@@ -1,8 +1,8 @@
 -- Bodies of events alone: what is read is what is spelled there, and the other way round.
 use Rattle.std.proofs.Common.{◌≡◌, ℕ, List, [], ◌∷◌, Option, Some, None, sym, ap, ◌∙◌, append-nil}
 use Rattle.ew_model.specs.declared.event.Event.{Event}
-use Rattle.ew_model.specs.FileLaws.{AreBytes}
-use Rattle.ew_model.proofs.FileLists.{some_is}
+use Rattle.ew_model.specs.Bytes.{AreBytes}
+use Rattle.ew_model.proofs.ListPlaces.{some_is}
 use Rattle.peer_definitions.specs.Spelling.{events_body}
 use Rattle.peer_definitions.specs.Batches.{IsEventsBody}
 use Rattle.peer_frames.specs.Reading.{all_of, all_events}

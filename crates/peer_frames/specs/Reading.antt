@@ -5,7 +5,7 @@ use Rattle.std.specs.Result.{result_ok}
 use Rattle.ew_model.specs.declared.id.Id.{Id}
 use Rattle.ew_model.specs.declared.event.Op.{Op}
 use Rattle.ew_model.specs.declared.event.Event.{Event}
-use Rattle.ew_model.specs.FileFaults.{byte, number, read_name, read_op}
+use Rattle.file_words.specs.FileFaults.{byte, number, read_name, read_op}
 use Rattle.peer_frames.specs.declared.fault.FrameFault.{FrameFault}
 use Rattle.peer_frames.specs.declared.fault.FrameFault.TheVariants.{TooLong, BadKind, BadBody, OutOfMemory}
 use Rattle.peer_frames.specs.declared.kind.Kind.{Kind}

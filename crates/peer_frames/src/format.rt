@@ -9,6 +9,9 @@ pub(crate) const INSERTION: u8 = 0;
 /// The kind of an event that deletes.
 pub(crate) const DELETION: u8 = 1;
 
+/// The kind of an event that is a mark: its label follows.
+pub(crate) const MARK: u8 = 2;
+
 /// The bytes of a Have with no counts.
 pub(crate) const LEAST_HAVE: u32 = 4;
 

@@ -1,13 +1,13 @@
 //! A body as it is read, and the fields that stand in it.
 
 ghost use Rattle.std.specs.Prelude.{◌≡◌};
-ghost use Rattle.ew_model.specs.FileFaults.{number, field, only, is_scalar};
-ghost use Rattle.ew_model.specs.FileFaults.RecordFault.{Scalar};
+ghost use Rattle.file_words.specs.FileFaults.{number, field, only, is_scalar, read_mark};
+ghost use Rattle.file_words.specs.FileFaults.RecordFault.{Scalar};
 ghost use Rattle.std.specs.Result.{result_ok};
 ghost use Rattle.peer_frames.specs.Reading.{Gives, one_byte, one_number, one_name, one_operation, one_id};
 
 use crate::fault::FrameFault;
-use crate::format::{DELETION, INSERTION};
+use crate::format::{DELETION, INSERTION, MARK};
 use ew_model::event::Op;
 use ew_model::id::Id;
 use ew_model::name::{LONGEST_NAME, Name};
@@ -44,7 +44,7 @@ impl<'a> Input<'a> {
     }
 
     /// A name behind its length.
-    #[tactic(auto, unfolding(ew_model::specs::FileFaults::read_name))]
+    #[tactic(auto, unfolding(file_words::specs::FileFaults::read_name))]
     pub(crate) fn name(&mut self) -> Result<Name, FrameFault>
         ensures { Gives (λ name. (name, self.new.left.now)) result (one_name self.old.left.now) }
     {
@@ -69,12 +69,15 @@ impl<'a> Input<'a> {
         Ok(Id { agent, seq })
     }
 
-    /// The kind of an event, its index, and the character of an insertion.
-    #[tactic(auto, unfolding(ew_model::specs::FileFaults::read_op))]
+    /// The kind of an event, its index, and the character of an insertion; or a mark's label.
+    #[tactic(auto, unfolding(file_words::specs::FileFaults::read_op))]
     pub(crate) fn operation(&mut self) -> Result<Op, FrameFault>
         ensures { Gives (λ op. (op, self.new.left.now)) result (one_operation self.old.left.now) }
     {
         let kind = self.byte()?;
+        if kind == MARK {
+            return self.mark();
+        }
         if kind != INSERTION && kind != DELETION {
             return Err(FrameFault::BadBody);
         }
@@ -84,6 +87,13 @@ impl<'a> Input<'a> {
         }
         let ch = self.character()?;
         Ok(Op::Ins { at, ch })
+    }
+
+    fn mark(&mut self) -> Result<Op, FrameFault>
+        ensures { Gives (λ op. (op, self.new.left.now)) result (result_ok (read_mark self.old.left.now)) }
+    {
+        let label = self.name()?;
+        Ok(Op::Mark { label })
     }
 
     fn character(&mut self) -> Result<char, FrameFault>

@@ -3,12 +3,12 @@
 ghost use Rattle.std.specs.Prelude.{◌≡◌, ◌<◌, ◌≤◌, ◌^◌, ◌∷◌, ◌++◌, true, length, flat_map, OnOk, IfOk};
 ghost use Rattle.std.specs.Char.{IsScalar};
 ghost use Rattle.std.specs.List.{AllByRecursion};
-ghost use Rattle.ew_model.specs.File.{four_bytes, name_bytes, op_bytes};
+ghost use Rattle.ew_model.specs.Bytes.{four_bytes, name_bytes, op_bytes};
 ghost use Rattle.ew_model.specs.Names.{is_name};
 ghost use Rattle.ew_model.specs.Sound.{IsSound, IsSoundId, IsSoundOp, AreSound};
 ghost use Rattle.peer_definitions.specs.Spelling.{IsSoundCount, IsSoundFrame, HasSpelling, id_bytes, event_bytes, count_bytes, events_body, counts_body, body_of, frame_bytes};
 
-use crate::format::{DELETION, HEAD_LEN, INSERTION};
+use crate::format::{DELETION, HEAD_LEN, INSERTION, MARK};
 use crate::kind::Kind;
 use ew_model::NoMem;
 use ew_model::event::{Event, Op};
@@ -131,6 +131,10 @@ fn put_operation(out: &mut Vec<u8>, op: &Op) -> Result<(), NoMem>
         Op::Del { at } => {
             out.push(DELETION)?;
             put_number(out, *at)
+        }
+        Op::Mark { label } => {
+            out.push(MARK)?;
+            put_name(out, label)
         }
     }
 }

@@ -6,13 +6,13 @@ use Rattle.std.specs.Str.Parse.{digits_value}
 use Rattle.std.proofs.lemmas.Bool.{cases_Bool, cases_eq, cases_lt, both_ways}
 use Rattle.std.proofs.lemmas.Slice.Eq.{bytes_eq-Decides}
 use Rattle.ew_model.specs.Edits.{Edit}
-use Rattle.ew_model.specs.Edits.Edit.{Insert, Delete}
+use Rattle.ew_model.specs.Edits.Edit.{Insert, Delete, Mark}
 use Rattle.ew_model.specs.Names.{is_name}
 use Rattle.ew_model.specs.Scripts.{escaped_text, IsReadable, MeansEdit}
 use Rattle.ew_model.proofs.Decimals.{decimal_once, digits_value_is}
 use Rattle.ew_model.proofs.EscapedText.{heads_differ}
 use Rattle.ew_model.proofs.LineLaws.{Lacks, cut_once, never_cut}
-use Rattle.ew_model.proofs.ScriptReading.{decimal_lacks_space, delete_line, insert_line, lines_mean_one_edit, readable_decided}
+use Rattle.ew_model.proofs.ScriptReading.{decimal_lacks_space, delete_line, insert_line, mark_line, lines_mean_one_edit, readable_decided}
 use Rattle.history_definitions.proofs.IdTexts.{name_lacks}
 
 -- what a word spells, or that it spells nothing
@@ -130,6 +130,7 @@ inserting text word s e = record { sound = (omega arith, s); spelled = insert_li
 abbrev inserted_text : Edit → List ℕ
 inserted_text (Insert at text) = text
 inserted_text (Delete at count) = []
+inserted_text (Mark label) = []
 
 pub texts : IsSpelling IsOfScalars escaped_text
 texts = record { once = once; decided = λ word. by word (readable_decided (inserting_line word)) }
@@ -147,6 +148,7 @@ texts = record { once = once; decided = λ word. by word (readable_decided (inse
         behind_four : {xs ys : List ℕ} → codes "ins " ++ xs ≡ codes "ins " ++ ys → xs ≡ ys
         behind_four e = cc
     meant word (Delete at count) m = absurd (heads_differ 100 105 _ _ (λ x. omega arith) (sym (delete_line at count) ∙ m.spelled))
+    meant word (Mark label) m = absurd (heads_differ 109 105 _ _ (λ x. omega arith) (sym (mark_line label) ∙ m.spelled))
 
     by : (word : List ℕ) → IsReadable MeansEdit (inserting_line word) ⊎ ¬ IsReadable MeansEdit (inserting_line word) → Decided IsOfScalars escaped_text word
     by word (inl (inl empty)) = cc

@@ -1,15 +1,16 @@
 -- The edits that the program holds, as the edits of the model.
 use Rattle.std.specs.Prelude.{◌≡◌, ℕ, List, [], ◌∷◌, ◌++◌, map, Option, MatchOption}
 use Rattle.ew_model.specs.Edits.{Edit}
-use Rattle.ew_model.specs.Edits.Edit.{Insert, Delete}
+use Rattle.ew_model.specs.Edits as model
 use Rattle.ew_model.specs.Scripts.{Numbered, MeansEdit, LinesMean}
 use Rattle.script_reader.specs.declared.edit as declared
-use Rattle.script_reader.specs.declared.edit.Edit.TheVariants.{Ins, Del}
+use Rattle.script_reader.specs.declared.edit.Edit.TheVariants.{Ins, Del, Mark}
 
 -- the edit that a value stands for
 abbrev pub edit_meant : declared.Edit.Edit → Edit
-edit_meant (Ins at text) = Insert at text
-edit_meant (Del at n) = Delete at n
+edit_meant (Ins at text) = model.Edit.Insert at text
+edit_meant (Del at n) = model.Edit.Delete at n
+edit_meant (Mark label) = model.Edit.Mark label
 
 -- the edits that values stand for, each with the number of its line
 abbrev pub numbered_edits : List (ℕ × declared.Edit.Edit) → List (Numbered Edit)

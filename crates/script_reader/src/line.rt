@@ -6,6 +6,7 @@ ghost use Rattle.script_reader.specs.Meaning.{IsReading};
 use crate::edit::Edit;
 use crate::words::{read_number, read_text, split_once};
 use ew_model::NoMem;
+use ew_model::name::Name;
 use std::alloc::Global;
 
 /// The edit that the line means, if it means one.
@@ -16,6 +17,8 @@ pub(crate) fn read_line(alloc: Global, line: &[u8]) -> Result<Option<Edit>, NoMe
         read_insertion(alloc, words)
     } else if let Some(words) = line.strip_prefix(b"del ") {
         Ok(read_deletion(words))
+    } else if let Some(words) = line.strip_prefix(b"mark ") {
+        Ok(read_mark(words))
     } else {
         Ok(None)
     }
@@ -44,4 +47,11 @@ fn read_deletion(words: &[u8]) -> Option<Edit>
         at: read_number(at)?,
         n: read_number(n)?,
     })
+}
+
+fn read_mark(word: &[u8]) -> Option<Edit>
+    ensures { IsReading (codes "mark " ++ word.now) result }
+{
+    let label = Name::read(word).ok()?;
+    Some(Edit::Mark { label })
 }

@@ -7,15 +7,17 @@ use Rattle.sha2.specs.Sha256.{sha256}
 use Rattle.sha2.proofs.Facts256.{length-sha256}
 use Rattle.ew_model.specs.declared.id.Id.{Id}
 use Rattle.ew_model.specs.declared.event.Op.{Op}
-use Rattle.ew_model.specs.declared.event.Op.TheVariants.{Ins, Del}
+use Rattle.ew_model.specs.declared.event.Op.TheVariants.{Ins, Del, Mark}
 use Rattle.ew_model.specs.declared.event.Event.{Event}
 use Rattle.ew_model.specs.Ancestors.{ids_of, is_held}
 use Rattle.ew_model.specs.Ids.{id_eq, name_eq, ids_ascend}
-use Rattle.ew_model.specs.Sound.{AreSound}
-use Rattle.ew_model.specs.File.{four_bytes, name_bytes, with_agent, agents_of, op_bytes, record_bytes, file_content, file_of, are_writable_after, IsWritable}
+use Rattle.ew_model.specs.Sound.{IsSoundOp, AreSound}
+use Rattle.ew_model.specs.Bytes.{four_bytes, name_bytes, op_bytes}
+use Rattle.ew_model.specs.Writable.{with_agent, agents_of, are_writable_after, IsWritable}
+use Rattle.file_words.specs.File.{record_bytes, file_content, file_of}
 use Rattle.ew_model.specs.Limits.{most_file_bytes}
 use Rattle.ew_model.proofs.EntryLaws.{all_joined}
-use Rattle.ew_model.proofs.FileEvents.{agents_few_from}
+use Rattle.ew_model.proofs.AgentLaws.{agents_few_from}
 use Rattle.peer_frames.proofs.ShortNames.{name_short}
 
 four-long : (n : ℕ) → length (four_bytes n) ≡ 4
@@ -41,26 +43,27 @@ agents_short agents (e ∷ events) h s =
 
 -- ---- records
 
-op_length : (o : Op) → length (op_bytes o) ≤ 9
-op_length (Ins at ch) = omega arith
-op_length (Del at) = omega arith
+op_length : (o : Op) → IsSoundOp o → length (op_bytes o) ≤ 34
+op_length (Ins at ch) h = omega arith
+op_length (Del at) h = omega arith
+op_length (Mark label) h = let name = name_short label h in omega (arith, name)
 
 parents_length : (f : Id → ℕ) (ps : List Id) → length (flat_map (λ p. four_bytes (f p)) ps) ≡ 4 * length ps
 parents_length f [] = omega arith
 parents_length f (p ∷ ps) = omega (arith, length-append (four_bytes (f p)) (flat_map (λ q. four_bytes (f q)) ps), four-long (f p), parents_length f ps)
 
-record_length : (history : List Event) (e : Event) → length e.parents ≤ 16 → length (record_bytes history e) ≤ 82
+record_length : (history : List Event) (e : Event) → IsSoundOp e.op → length e.parents ≤ 16 → length (record_bytes history e) ≤ 107
 unfolding record_bytes
-record_length history e few =
+record_length history e sound few =
     let parents = flat_map (λ (p : Id). four_bytes (position_or_len (id_eq p) (ids_of history))) e.parents in
     let agent = four_bytes (position_or_len (name_eq e.id.agent) (agents_of history)) in
     let seq = four_bytes e.id.seq in
     let first : length (record_bytes history e) ≡ length agent + (length seq + (1 + (length parents + length (op_bytes e.op)))) = simp length-append (omega arith) in
-    omega (arith, first, four-long (position_or_len (name_eq e.id.agent) (agents_of history)), four-long e.id.seq, parents_length (λ p. position_or_len (id_eq p) (ids_of history)) e.parents, op_length e.op, few)
+    omega (arith, first, four-long (position_or_len (name_eq e.id.agent) (agents_of history)), four-long e.id.seq, parents_length (λ p. position_or_len (id_eq p) (ids_of history)) e.parents, op_length e.op sound, few)
 
-records_length : (history events : List Event) → AllByRecursion (λ e. length e.parents ≤ 16) events → length (flat_map (record_bytes history) events) ≤ 82 * length events
-records_length history [] h = omega arith
-records_length history (e ∷ events) h = omega (arith, length-append (record_bytes history e) (flat_map (record_bytes history) events), record_length history e h.0, records_length history events h.1)
+records_length : (history events : List Event) → AreSound events → AllByRecursion (λ e. length e.parents ≤ 16) events → length (flat_map (record_bytes history) events) ≤ 107 * length events
+records_length history [] sound h = omega arith
+records_length history (e ∷ events) sound h = omega (arith, length-append (record_bytes history e) (flat_map (record_bytes history) events), record_length history e sound.0.op h.0, records_length history events sound.1 h.1)
 
 few_parents : (before events : List Event) → are_writable_after before events ≡ true → AllByRecursion (λ e. length e.parents ≤ 16) events
 few_parents before [] h = tt
@@ -74,14 +77,14 @@ few_parents before (e ∷ events) h =
 
 -- ---- the file
 
-content_length : (history : List Event) → AreSound history → IsWritable history → length (file_content history) ≤ 16 + 115 * length history
+content_length : (history : List Event) → AreSound history → IsWritable history → length (file_content history) ≤ 16 + 140 * length history
 unfolding file_content
 content_length history sound writable =
     let agents = agents_of history in
     let names = flat_map name_bytes agents in
     let records = flat_map (record_bytes history) history in
     let all : length (file_content history) ≡ 16 + (length names + length records) = simp length-append (omega (arith, four-long (length agents), four-long (length history))) in
-    omega (arith, all, names_length agents (agents_short [] history tt sound), agents_few_from [] history, records_length history history (few_parents [] history writable.each))
+    omega (arith, all, names_length agents (agents_short [] history tt sound), agents_few_from [] history, records_length history history sound (few_parents [] history writable.each))
 
 pub file_length : (history : List Event) → AreSound history → IsWritable history → length (file_of history) ≤ most_file_bytes (length history)
 unfolding file_of

@@ -1,7 +1,7 @@
 -- Each input has one framing.
 use Rattle.std.proofs.Common.{◌≡◌, ℕ, false, List, [], ◌∷◌, take, refl, sym, ap, subst, ◌∙◌}
 use Rattle.ew_model.specs.Limits.{LimitNumbers}
-use Rattle.ew_model.proofs.FileFields.{AreBytes-take}
+use Rattle.ew_model.proofs.ByteLaws.{AreBytes-take}
 use Rattle.peer_definitions.specs.declared.frame.Frame.{Frame}
 use Rattle.peer_definitions.specs.Cutting.{Front, Finds, AreFrames, is_whole}
 use Rattle.peer_definitions.specs.Cutting.Front.{Whole}

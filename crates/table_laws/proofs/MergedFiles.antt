@@ -10,10 +10,10 @@ use Rattle.ew_model.specs.declared.verdict.Refusal.{Refusal}
 use Rattle.ew_model.specs.Sound.{IsSound, AreSound}
 use Rattle.ew_model.specs.Ids.{name_eq}
 use Rattle.ew_model.specs.Limits.{LimitNumbers, AreLimits, most_file_bytes}
-use Rattle.ew_model.specs.File.{file_of}
-use Rattle.ew_model.specs.FileLaws.{AreBytes}
-use Rattle.ew_model.specs.FileFaults.{FileFinding, file_finding}
-use Rattle.ew_model.specs.FileFaults.FileFinding.{IsFile, Short, BadMagic, BadVersion, BadDigest, BadRecord, TooMany}
+use Rattle.file_words.specs.File.{file_of}
+use Rattle.ew_model.specs.Bytes.{AreBytes}
+use Rattle.file_words.specs.FileFaults.{FileFinding, file_finding}
+use Rattle.file_words.specs.FileFaults.FileFinding.{IsFile, Short, BadMagic, BadVersion, BadDigest, BadRecord, TooMany}
 use Rattle.ew_model.specs.Verdicts.{BadEvent, IsGood, first_bad}
 use Rattle.ew_model.specs.Arrival.{arrive}
 use Rattle.ew_model.specs.Kept.{IsKept}
@@ -22,7 +22,7 @@ use Rattle.ew_model.proofs.SetLaws.{among_joined}
 use Rattle.ew_model.proofs.SortingLaws.{all_at, all_from}
 use Rattle.ew_model.proofs.IdLaws.{names_equal}
 use Rattle.ew_model.proofs.FirstBadLaws.{good_has_no_bad}
-use Rattle.ew_model.proofs.FileReading.{file_take, file_again, file_is}
+use Rattle.file_words.proofs.FileReading.{file_take, file_again, file_is}
 use Rattle.ew_model.proofs.LimitsKept.{arrivals_keep}
 use Rattle.ew_model.proofs.WritableLaws.{good_is_writable}
 use Rattle.ew_outside.specs.Files.{Files}
@@ -36,7 +36,7 @@ use Rattle.ew_model.proofs.MergeByAnswers.{merge_unless_clash}
 use Rattle.table_laws.proofs.Merges.{none_ends, appended_none}
 use Rattle.table_laws.proofs.FileSizes.{file_length}
 use Rattle.replica.proofs.Beginnings.{good_from_none_bad}
-use Rattle.ew_model.proofs.FileLists.{some_is}
+use Rattle.ew_model.proofs.ListPlaces.{some_is}
 
 -- ---- a file that is opened
 

@@ -1,6 +1,6 @@
 -- What holds of the frames of an input.
 use Rattle.std.specs.Prelude.{◌≡◌, ℕ, List, take}
-use Rattle.ew_model.specs.FileLaws.{AreBytes}
+use Rattle.ew_model.specs.Bytes.{AreBytes}
 use Rattle.ew_model.specs.Limits.{LimitNumbers}
 use Rattle.peer_definitions.specs.Cutting.{AreFrames}
 use Rattle.command_table.specs.Framings.{Framing, IsFramingOf}

@@ -2,7 +2,7 @@
 use Rattle.std.specs.Prelude.{◌≡◌, ⊤, ℕ, ◌+◌, ◌⊎◌, List, [], ◌∷◌, ◌++◌, length, Some, IfSome}
 use Rattle.std.specs.FinMap.{get}
 use Rattle.ew_model.specs.declared.event.Event.{Event}
-use Rattle.ew_model.specs.FileLaws.{AreBytes}
+use Rattle.ew_model.specs.Bytes.{AreBytes}
 use Rattle.ew_model.specs.Sets.{SameElements}
 use Rattle.ew_model.specs.Limits.{LimitNumbers, AreLimits}
 use Rattle.ew_outside.specs.Files.{Files}

@@ -3,7 +3,7 @@ use Rattle.std.specs.BTreeSet.{contains}
 use Rattle.std.specs.Cmp.Lexicographic.{slice_cmp}
 use Rattle.std.specs.Ordering.{nat_cmp}
 use Rattle.std.proofs.lemmas.Result.{err_from_is_err_and}
-use Rattle.ew_model.specs.FileFaults.{read_names}
+use Rattle.file_words.specs.FileFaults.{read_names}
 use Rattle.event_file.proofs.NameLoop.{names_go_on, names_end, names_done, names_new}
 use Rattle.event_file.proofs.names.read_names.Goals as goal
 

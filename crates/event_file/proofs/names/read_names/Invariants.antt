@@ -5,7 +5,7 @@ use Rattle.std.specs.Cmp.Lexicographic.{slice_cmp}
 use Rattle.std.specs.Ordering.{nat_cmp}
 use Rattle.ew_model.specs.Ids.{name_eq}
 use Rattle.ew_model.specs.Distinct.{AreDistinct}
-use Rattle.ew_model.specs.FileFaults.{read_names}
+use Rattle.file_words.specs.FileFaults.{read_names}
 use Rattle.event_file.proofs.names.read_names.Given as goal
 
 abbrev pub invariant-loop : goal.invariant-loop

@@ -1,6 +1,6 @@
 use Rattle.std.proofs.Common.{◌-◌, length, take, drop, ap, sym, ◌∙◌, arith}
 use Rattle.std.proofs.lemmas.List.{take_all, length-drop}
-use Rattle.ew_model.specs.FileFaults.{finding_of, read_events}
+use Rattle.file_words.specs.FileFaults.{finding_of, read_events}
 use Rattle.event_file.specs.Progress.{Known}
 use Rattle.event_file.specs.Rest.{rest_found}
 use Rattle.event_file.proofs.Rest.{begins, events_from}

@@ -1,6 +1,6 @@
 use Rattle.std.proofs.Common.{length, List, ℕ, ap, ◌∙◌, arith}
 use Rattle.event_file.proofs.writing.encode.Goals as goal
-use Rattle.ew_model.proofs.FileEvents.{few_agents}
+use Rattle.ew_model.proofs.AgentLaws.{few_agents}
 
 pub new-requires : goal.new-requires
 new-requires c =

@@ -1,5 +1,5 @@
 use Rattle.std.proofs.Common.{◌≡◌, ◌++◌, take, flat_map}
-use Rattle.ew_model.specs.File.{name_bytes}
+use Rattle.ew_model.specs.Bytes.{name_bytes}
 use Rattle.event_file.proofs.writing.put_agents.Given as goal
 
 abbrev pub invariant-loop-name : goal.invariant-loop-name

@@ -1,5 +1,5 @@
 use Rattle.std.proofs.Common.{◌≡◌, ◌++◌, take, flat_map}
-use Rattle.ew_model.specs.File.{four_bytes}
+use Rattle.ew_model.specs.Bytes.{four_bytes}
 use Rattle.event_file.proofs.writing.put_parents.Given as goal
 
 abbrev pub invariant-loop-parent : goal.invariant-loop-parent

@@ -7,7 +7,8 @@ use Rattle.std.proofs.lemmas.List.{length-map, take_more, flat_map_more}
 use Rattle.ew_model.specs.declared.id.Id.{Id}
 use Rattle.ew_model.specs.Ids.{name_eq, id_cmp}
 use Rattle.ew_model.specs.Ancestors.{ids_of}
-use Rattle.ew_model.specs.File.{agents_of, record_bytes}
+use Rattle.ew_model.specs.Writable.{agents_of}
+use Rattle.file_words.specs.File.{record_bytes}
 use Rattle.event_file.specs.Writing.{fields_of}
 use Rattle.event_file.proofs.Tables.{all_have, follows_at, agent_there, record_by, fields_by, record_is, places_more}
 use Rattle.event_file.proofs.writing.put_records.Goals as goal

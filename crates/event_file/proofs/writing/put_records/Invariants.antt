@@ -2,7 +2,7 @@ use Rattle.std.proofs.Common.{◌≡◌, ◌++◌, take, flat_map}
 use Rattle.std.specs.BTreeMap.{get}
 use Rattle.ew_model.specs.Ids.{id_cmp, id_eq}
 use Rattle.ew_model.specs.Ancestors.{ids_of}
-use Rattle.ew_model.specs.File.{record_bytes}
+use Rattle.file_words.specs.File.{record_bytes}
 use Rattle.event_file.specs.Places.{HasPlaces}
 use Rattle.event_file.proofs.writing.put_records.Given as goal
 

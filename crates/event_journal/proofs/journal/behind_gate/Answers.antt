@@ -1,7 +1,8 @@
 use Rattle.std.proofs.Common.{◌-◌, [], ◌∷◌, ◌++◌, length, refl, ap, arith, rules}
 use Rattle.std.proofs.Math.Nat.{div-mul-le_self}
 use Rattle.std.proofs.lemmas.List.{length-append}
-use Rattle.ew_model.specs.File.{four_bytes}
+use Rattle.ew_model.specs.declared.limits.TheConstants.{COUNT_BYTES, MOST_EVENT_BYTES}
+use Rattle.ew_model.specs.Bytes.{four_bytes}
 use Rattle.peer_definitions.specs.Spelling.{events_body}
 use Rattle.event_journal.proofs.Lengths.{body_short, room_enough, fewer_parents}
 use Rattle.event_journal.proofs.journal.behind_gate.Goals as goal
@@ -26,7 +27,7 @@ returns-clause-batch c =
       some = c.requires.some;
       body = record {
         sound = c.note_events.ensures;
-        few = omega (arith, div-mul-le_self (c.args.most - 4) 664, c.requires.few, c.requires.short);
+        few = omega (arith, div-mul-le_self (c.args.most - COUNT_BYTES) MOST_EVENT_BYTES, c.requires.few, c.requires.short);
         parents = fewer_parents c.args.events.now c.requires.parents;
         spelled = refl;
       };

@@ -6,8 +6,8 @@ use Rattle.std.specs.Option.{option_copied}
 use Rattle.std.specs.Ordering.{nat_cmp}
 use Rattle.std.proofs.lemmas.Bool.{cond-true}
 use Rattle.ew_model.specs.Ids.{name_eq}
-use Rattle.ew_model.proofs.FileLists.{one_more_new}
-use Rattle.ew_model.proofs.FileRecords.{names_equal, name_exact}
+use Rattle.ew_model.proofs.ListPlaces.{one_more_new}
+use Rattle.ew_model.proofs.IdLaws.{names_equal, name_exact}
 use Rattle.event_file.proofs.Tables.{one_more_place, no_place}
 use Rattle.event_file.proofs.agents.Agents.add.Goals as goal
 

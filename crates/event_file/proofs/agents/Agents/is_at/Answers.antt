@@ -3,8 +3,8 @@ use Rattle.std.specs.Prelude.{slice_get}
 use Rattle.std.proofs.lemmas.Option.{slice_get_read}
 use Rattle.ew_model.specs.Distinct.{AreDistinct}
 use Rattle.ew_model.specs.Ids.{name_eq}
-use Rattle.ew_model.proofs.FileLists.{place_of, there_among}
-use Rattle.ew_model.proofs.FileRecords.{names_equal, name_exact}
+use Rattle.ew_model.proofs.ListPlaces.{place_of, there_among}
+use Rattle.ew_model.proofs.IdLaws.{names_equal, name_exact}
 use Rattle.event_file.proofs.agents.Agents.is_at.Goals as goal
 
 pub returns-in-Some-clause-there : goal.returns-in-Some-clause-there

@@ -1,5 +1,5 @@
 use Rattle.std.proofs.Common.{◌≡◌, take}
-use Rattle.ew_model.specs.File.{agents_of}
+use Rattle.ew_model.specs.Writable.{agents_of}
 use Rattle.event_file.proofs.agents.Agents.of.Given as goal
 
 abbrev pub invariant-loop-event : goal.invariant-loop-event

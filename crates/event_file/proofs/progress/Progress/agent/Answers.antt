@@ -1,7 +1,7 @@
 use Rattle.std.proofs.Common.{[], None, Some, get_or, suc, length, ◌∙◌}
 use Rattle.std.proofs.lemmas.Bool.{cond-true}
-use Rattle.ew_model.specs.File.{agents_of}
-use Rattle.ew_model.proofs.FileLists.{get-take}
+use Rattle.ew_model.specs.Writable.{agents_of}
+use Rattle.ew_model.proofs.ListPlaces.{get-take}
 use Rattle.event_file.proofs.Indexes.{known_open}
 use Rattle.event_file.proofs.progress.Progress.agent.Goals as goal
 

@@ -2,7 +2,7 @@ use Rattle.std.proofs.Common.{◌≡◌, [], None, Some, cond, sym, ap, ◌∙�
 use Rattle.std.specs.Prelude.{get_or, nat_lt, slice_get}
 use Rattle.std.specs.BTreeSet.{contains}
 use Rattle.ew_model.specs.Ids.{id_cmp}
-use Rattle.ew_model.specs.FileFaults.{open_agents}
+use Rattle.file_words.specs.FileFaults.{open_agents}
 use Rattle.event_file.specs.Known.{known}
 use Rattle.event_file.specs.Progress.{Known}
 use Rattle.event_file.specs.SeenIds.{is_seen}

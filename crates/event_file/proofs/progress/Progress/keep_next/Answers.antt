@@ -3,7 +3,7 @@ use Rattle.std.specs.Prelude.{get_or}
 use Rattle.std.specs.BTreeSet.{contains}
 use Rattle.ew_model.specs.declared.event.Event.{Event}
 use Rattle.ew_model.specs.Ids.{id_cmp}
-use Rattle.ew_model.specs.File.{agents_of}
+use Rattle.ew_model.specs.Writable.{agents_of}
 use Rattle.event_file.specs.declared.short_id.ShortId.{ShortId}
 use Rattle.event_file.specs.Known.{known, known_by, id_by, AreWithin}
 use Rattle.event_file.specs.Progress.{IsIndexed}

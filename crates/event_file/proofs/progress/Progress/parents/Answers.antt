@@ -1,7 +1,7 @@
 use Rattle.std.proofs.Common.{[]}
 use Rattle.std.proofs.lemmas.Result.{err_from_is_err_and}
 use Rattle.ew_model.specs.Ancestors.{ids_of}
-use Rattle.ew_model.specs.FileFaults.{read_parents}
+use Rattle.file_words.specs.FileFaults.{read_parents}
 use Rattle.event_file.proofs.ParentLoop.{parents_go_on, parents_end, parents_done, parent_ascends}
 use Rattle.event_file.proofs.progress.Progress.parents.Goals as goal
 

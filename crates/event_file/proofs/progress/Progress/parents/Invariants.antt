@@ -1,7 +1,7 @@
 use Rattle.std.proofs.Common.{◌≡◌, [], true, ◌-◌}
 use Rattle.ew_model.specs.Ids.{ids_ascend}
 use Rattle.ew_model.specs.Ancestors.{ids_of}
-use Rattle.ew_model.specs.FileFaults.{read_parents}
+use Rattle.file_words.specs.FileFaults.{read_parents}
 use Rattle.event_file.proofs.progress.Progress.parents.Given as goal
 
 abbrev pub invariant-loop : goal.invariant-loop
