@@ -18,7 +18,7 @@ use Rattle.command_table.specs.Table.{Line, does, serves, refuses}
 use Rattle.command_table.specs.Reads.{shape_of, reads_input, needs_file, makes_file, most_asked, loads_of_all, TakesAtMost, LeavesInput, CountsLoads, LoadsFront, IfFileRefused}
 use Rattle.command_texts.specs.Reasons.{refusal_view}
 use Rattle.command_texts.specs.declared.refusal.Refusal.{Refusal}
-use Rattle.opened_files.specs.Views.{IsTakenReply, IsRefusal, LoadsAll, LostBy, ReadsNone, reply_status, reply_view}
+use Rattle.opened_files.specs.Views.{IsTakenReply, IsRefusal, LoadsAll, FailedLoadsBy, ReadsNone, reply_status, reply_view}
 use Rattle.opened_files.specs.declared.reply.Reply as own
 use Rattle.opened_files.specs.declared.reply.Reply.TheVariants as reply_is
 use Rattle.serve_plans.specs.Plans.{Causes, KeepsStreams}
@@ -42,7 +42,7 @@ pub record Facts (l : Option Line) (limits : LimitNumbers) (planned : Result own
   pub misses : MissesFor (needs_file l) old.shelf.misses mid.shelf.misses planned
   pub front : LoadsFront (shape_of l).files old.shelf.loads mid.shelf.loads
   pub loads : IfOk planned (λ p. CountsLoads (shape_of l).files limits old.shelf.files old.shelf.loads mid.shelf.loads)
-  pub lost : LostBy old.shelf.lost mid.shelf.lost planned
+  pub failed_loads : FailedLoadsBy old.shelf.failed_loads mid.shelf.failed_loads planned
   pub all : LoadsAll (shape_of l).files old.shelf.loads mid.shelf.loads planned
   pub makes : MakesBy (makes_file l) old.shelf.misses mid.shelf.misses planned
   pub asked : AsksAtMost (most_asked l limits) old.shelf.asked mid.shelf.asked
@@ -60,7 +60,7 @@ pub record Facts (l : Option Line) (limits : LimitNumbers) (planned : Result own
   pub sink_count : EndSinkCount planned ending mid.out.faults new.out.faults
   pub no_miss : new.shelf.misses ≡ mid.shelf.misses
   pub no_load : new.shelf.loads ≡ mid.shelf.loads
-  pub no_loss : new.shelf.lost ≡ mid.shelf.lost
+  pub no_loss : new.shelf.failed_loads ≡ mid.shelf.failed_loads
   pub no_ask : new.shelf.asked ≡ mid.shelf.asked
   pub end_stores : EndStores planned ending mid.shelf.stores new.shelf.stores
   pub status : code ≡ end_status ending
@@ -128,7 +128,7 @@ pub record BrokenOff (l : Option Line) (object : Object) (old mid new : Seen) (c
   pub struck : Struck object old new
   pub text : TellsErr old new (failed_text object)
   pub leaves : FaultLeaves l object old new
-  pub load : object ≡ shelf → Rose old.shelf.lost new.shelf.lost
+  pub load : object ≡ shelf → Rose old.shelf.failed_loads new.shelf.failed_loads
 
 -- the store failed
 pub record Unstored (p : own.Reply) (old mid new : Seen) (code : ℕ) : Type 0 where
@@ -140,7 +140,7 @@ pub record Unstored (p : own.Reply) (old mid new : Seen) (code : ℕ) : Type 0 w
   pub flushed : new.out.flushed ≡ mid.out.flushed
   pub struck : Struck shelf old new
   pub text : TellsErr old new (failed_text shelf)
-  pub lost : new.shelf.lost ≡ old.shelf.lost
+  pub failed_loads : new.shelf.failed_loads ≡ old.shelf.failed_loads
 
 -- the output failed at last
 pub record Unprinted (p : own.Reply) (old mid new : Seen) (code : ℕ) : Type 0 where
@@ -152,7 +152,7 @@ pub record Unprinted (p : own.Reply) (old mid new : Seen) (code : ℕ) : Type 0 
   pub flushed : new.out.flushed ≡ mid.out.flushed
   pub struck : Struck sink old new
   pub text : TellsErr old new (failed_text sink)
-  pub lost : new.shelf.lost ≡ old.shelf.lost
+  pub failed_loads : new.shelf.failed_loads ≡ old.shelf.failed_loads
 
 -- memory ran out
 pub record RanShort (old mid new : Seen) (code : ℕ) : Type 0 where
@@ -175,7 +175,7 @@ pub data Course (l : Option Line) (planned : Result own.Reply Fault) (old mid ne
 module _ (l : Option Line) (limits : LimitNumbers) (ending : Result (Option Told) Fault) (old mid new : Seen) (code : ℕ) where
   shelf_stops : Facts l limits (Err fault_is.Shelf) ending old mid new code → BrokenOff l shelf old mid new code
   shelf_stops h =
-      let lost : Rose old.shelf.lost new.shelf.lost = subst (Rose old.shelf.lost) (sym h.no_loss) h.lost.1 in
+      let failed_loads : Rose old.shelf.failed_loads new.shelf.failed_loads = subst (Rose old.shelf.failed_loads) (sym h.no_loss) h.failed_loads.1 in
       record {
         six = h.status ∙ ap end_status h.which;
         files = h.files ∙ h.same;
@@ -188,8 +188,8 @@ module _ (l : Option Line) (limits : LimitNumbers) (ending : Result (Option Told
           others = elim [ shelf ↦ λ bad. absurd (bad refl) | source ↦ λ _. h.cause.1 | sink ↦ λ _. h.sink_count ∙ h.cause.2 ];
         };
         text = told_end ending (Err fault_is.Shelf) old new h.which h.text;
-        leaves = inl (lost, h.files ∙ h.same, h.end_stores ∙ h.no_store, h.out ∙ h.kept.1, h.kept.0);
-        load = λ _. lost;
+        leaves = inl (failed_loads, h.files ∙ h.same, h.end_stores ∙ h.no_store, h.out ∙ h.kept.1, h.kept.0);
+        load = λ _. failed_loads;
       }
 
   source_stops : Facts l limits (Err fault_is.Source) ending old mid new code → BrokenOff l source old mid new code
@@ -205,7 +205,7 @@ module _ (l : Option Line) (limits : LimitNumbers) (ending : Result (Option Told
       others = elim [ shelf ↦ λ _. h.shelf_count ∙ h.cause.0 | source ↦ λ bad. absurd (bad refl) | sink ↦ λ _. h.sink_count ∙ h.cause.2 ];
     };
     text = told_end ending (Err fault_is.Source) old new h.which h.text;
-    leaves = (h.no_loss ∙ h.lost, (h.files ∙ h.same, h.end_stores ∙ h.no_store, sends_none l (λ same. h.out ∙ same.0) h.sends));
+    leaves = (h.no_loss ∙ h.failed_loads, (h.files ∙ h.same, h.end_stores ∙ h.no_store, sends_none l (λ same. h.out ∙ same.0) h.sends));
     load = λ bad. cc;
   }
 
@@ -222,7 +222,7 @@ module _ (l : Option Line) (limits : LimitNumbers) (ending : Result (Option Told
       others = elim [ shelf ↦ λ _. h.shelf_count ∙ h.cause.0 | source ↦ λ _. h.cause.1 | sink ↦ λ bad. absurd (bad refl) ];
     };
     text = told_end ending (Err fault_is.Sink) old new h.which h.text;
-    leaves = h.no_loss ∙ h.lost;
+    leaves = h.no_loss ∙ h.failed_loads;
     load = λ bad. cc;
   }
 
@@ -279,7 +279,7 @@ module _ (l : Option Line) (limits : LimitNumbers) (old mid new : Seen) (code : 
       others = elim [ shelf ↦ λ _. h.shelf_count ∙ h.cause.0 | source ↦ λ _. h.cause.1 | sink ↦ λ bad. absurd (bad refl) ];
     };
     text = h.text;
-    lost = h.no_loss ∙ h.lost;
+    failed_loads = h.no_loss ∙ h.failed_loads;
   }
 
   landed : IsStoring p → Facts l limits (Ok p) (Err fault_is.Shelf) old mid new code → Unstored p old mid new code
@@ -296,7 +296,7 @@ module _ (l : Option Line) (limits : LimitNumbers) (old mid new : Seen) (code : 
       others = elim [ shelf ↦ λ bad. absurd (bad refl) | source ↦ λ _. h.cause.1 | sink ↦ λ _. h.sink_count ∙ h.cause.2 ];
     };
     text = h.text;
-    lost = h.no_loss ∙ h.lost;
+    failed_loads = h.no_loss ∙ h.failed_loads;
   }
 
   starved : Facts l limits (Ok p) (Err fault_is.OutOfMemory) old mid new code → RanShort old mid new code
@@ -346,7 +346,7 @@ course l limits (Ok (reply_is.Stores out to bytes)) (Err fault_is.OutOfMemory) o
 module _ (l : Option Line) (limits : LimitNumbers) (old mid new : Seen) (code : ℕ) where
   -- at status 0, and where something failed that is no load, all loads were made
   pub loaded_all : (planned : Result own.Reply Fault) (ending : Result (Option Told) Fault) → Facts l limits planned ending old mid new code
-      → (code ≡ 0) ⊎ ((code ≡ 6) × IsQuiet old.shelf.lost new.shelf.lost) → new.shelf.loads ≡ loads_of_all (shape_of l).files old.shelf.loads
+      → (code ≡ 0) ⊎ ((code ≡ 6) × IsQuiet old.shelf.failed_loads new.shelf.failed_loads) → new.shelf.loads ≡ loads_of_all (shape_of l).files old.shelf.loads
   loaded_all (Ok (reply_is.Prints out)) ending h well = h.no_load ∙ h.all
   loaded_all (Ok (reply_is.Stores out to bytes)) ending h well = h.no_load ∙ h.all
   loaded_all (Ok (reply_is.Refuses why)) (Ok (Some told)) h well =
@@ -360,7 +360,7 @@ module _ (l : Option Line) (limits : LimitNumbers) (old mid new : Seen) (code : 
   loaded_all (Err fault_is.Sink) ending h well = h.no_load ∙ h.all
   loaded_all (Err fault_is.Shelf) ending h well =
       let six : code ≡ 6 = h.status ∙ ap end_status h.which in
-      absurd (elim well [ inl zero ↦ omega (arith, zero, six) | inr quiet ↦ omega (arith, quiet.1.0, quiet.1.1, h.no_loss, h.lost.0, h.lost.1) ])
+      absurd (elim well [ inl zero ↦ omega (arith, zero, six) | inr quiet ↦ omega (arith, quiet.1.0, quiet.1.1, h.no_loss, h.failed_loads.0, h.failed_loads.1) ])
   loaded_all (Err fault_is.OutOfMemory) ending h well =
       let eight : code ≡ 8 = h.status ∙ ap end_status h.which in
       absurd (omega (arith, eight, well))

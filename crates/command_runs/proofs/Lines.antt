@@ -21,7 +21,7 @@ use Rattle.command_table.specs.Table.{Text, Command, create, edit, show, merge, 
 use Rattle.peer_definitions.specs.Making.{made}
 use Rattle.opened_files.specs.declared.reply.Reply as code
 use Rattle.opened_files.specs.declared.reply.Reply.TheVariants as reply_is
-use Rattle.opened_files.specs.Views.{IsTakenReply, LoadsAll, LoadsDone, LostBy, ReadsNone, ShelfCauses, reply_status, reply_view}
+use Rattle.opened_files.specs.Views.{IsTakenReply, LoadsAll, LoadsDone, FailedLoadsBy, ReadsNone, ShelfCauses, reply_status, reply_view}
 use Rattle.opened_files.proofs.Reading.{if_refused}
 use Rattle.line_plans.specs.Sources as line
 use Rattle.line_plans.specs.Sources.{KeepsInput, PlansBy}
@@ -137,9 +137,9 @@ pub no_causes : (n : ℕ) (result : Result code.Reply Fault) → IfErr result (�
 no_causes n (Ok p) h = refl
 no_causes n (Err e) h = subst (λ fault. ShelfCauses {T = code.Reply} n n (Err fault)) (sym h) refl
 
-pub none_lost : (n : ℕ) (result : Result code.Reply Fault) → IfErr result (λ fault. fault ≡ fault_is.OutOfMemory) → LostBy n n result
-none_lost n (Ok p) h = refl
-none_lost n (Err e) h = subst (λ fault. LostBy {T = code.Reply} n n (Err fault)) (sym h) refl
+pub none_failed_loads : (n : ℕ) (result : Result code.Reply Fault) → IfErr result (λ fault. fault ≡ fault_is.OutOfMemory) → FailedLoadsBy n n result
+none_failed_loads n (Ok p) h = refl
+none_failed_loads n (Err e) h = subst (λ fault. FailedLoadsBy {T = code.Reply} n n (Err fault)) (sym h) refl
 
 pub none_all : (n : ℕ) (result : Result code.Reply Fault) → LoadsAll [] n n result
 none_all n (Ok (reply_is.Prints out)) = refl

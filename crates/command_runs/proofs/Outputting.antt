@@ -59,11 +59,11 @@ prints_front s p old mid new flushed h g =
     let is : out_of p ≡ printed_by s.closing = sym (printed p) ∙ ap printed_by h.0 in
     subst (λ x. GrowsByFront old.out.taken new.out.taken (s.sent ++ x)) is (then_front old.out.taken mid.out.taken new.out.taken s.sent (out_of p) h.1.0 g)
 
--- a session that was broken off while the shelf failed lost a load
-not_lost : (l : Option Line) (object : Object) (old mid new : Seen) (code : ℕ) → BrokenOff l object old mid new code → old.shelf.faults < new.shelf.faults → IsQuiet old.shelf.lost new.shelf.lost → ⊥
-not_lost l shelf old mid new code h rose quiet = quiet_not_rose _ _ quiet (h.load refl)
-not_lost l source old mid new code h rose quiet = let same = h.struck.others shelf (λ bad. cc) in omega (arith, same, rose)
-not_lost l sink old mid new code h rose quiet = let same = h.struck.others shelf (λ bad. cc) in omega (arith, same, rose)
+-- a session that was broken off while the shelf failed had a load that failed
+not_failed_loads : (l : Option Line) (object : Object) (old mid new : Seen) (code : ℕ) → BrokenOff l object old mid new code → old.shelf.faults < new.shelf.faults → IsQuiet old.shelf.failed_loads new.shelf.failed_loads → ⊥
+not_failed_loads l shelf old mid new code h rose quiet = quiet_not_rose _ _ quiet (h.load refl)
+not_failed_loads l source old mid new code h rose quiet = let same = h.struck.others shelf (λ bad. cc) in omega (arith, same, rose)
+not_failed_loads l sink old mid new code h rose quiet = let same = h.struck.others shelf (λ bad. cc) in omega (arith, same, rose)
 
 -- a plan whose store failed
 fails_to_store : (s : Session) (p : own.Reply) (old mid new : Seen) → IsStoring p → (reply_view p ≡ s.closing) × Sends old.out.taken mid.out.taken mid.out.flushed s.sent
@@ -116,10 +116,10 @@ module _ (l : Option Line) (s : Session) (planned : Result own.Reply Fault) (old
   failed_so (Broken p is h) six = prints_front s p old mid new mid.out.flushed (by_plan p is) h.out
   failed_so (Starved h) six = absurd (omega (arith, h.eight, six))
 
-  store_failed_so : Course l planned old mid new code → old.shelf.faults < new.shelf.faults → IsQuiet old.shelf.lost new.shelf.lost → FailsToStore s old new
+  store_failed_so : Course l planned old mid new code → old.shelf.faults < new.shelf.faults → IsQuiet old.shelf.failed_loads new.shelf.failed_loads → FailsToStore s old new
   store_failed_so (Done p is h) rose quiet = absurd (omega (arith, h.calm.shelf_same, rose))
   store_failed_so (Refused why is h) rose quiet = absurd (omega (arith, h.calm.shelf_same, rose))
-  store_failed_so (Stopped object x other named is h) rose quiet = absurd (not_lost l object old mid new code h rose quiet)
+  store_failed_so (Stopped object x other named is h) rose quiet = absurd (not_failed_loads l object old mid new code h rose quiet)
   store_failed_so (Landed p is h) rose quiet = fails_to_store s p old mid new h.storing (by_plan p is) h.out h.flushed
   store_failed_so (Broken p is h) rose quiet = let same = h.struck.others shelf (λ bad. cc) in absurd (omega (arith, same, rose))
   store_failed_so (Starved h) rose quiet = absurd (omega (arith, h.calm.shelf_same, rose))

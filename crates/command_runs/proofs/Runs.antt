@@ -97,8 +97,8 @@ module _ (l : Option Line) (planned : Result own.Reply Fault) (old mid new : See
   fault_so (Done p is h) six = absurd (omega (arith, h.zero, six))
   fault_so (Refused why is h) six = absurd (omega (arith, h.refusal, h.status_is, six))
   fault_so (Stopped object x other named is h) six = record { object = object; rose = h.struck.rose; others = h.struck.others; leaves = h.leaves; text = h.text }
-  fault_so (Landed p is h) six = record { object = shelf; rose = h.struck.rose; others = h.struck.others; leaves = inr (h.lost, h.stores ∙ stores_one p old.shelf.stores h.storing, kept_out h.out); text = h.text }
-  fault_so (Broken p is h) six = record { object = sink; rose = h.struck.rose; others = h.struck.others; leaves = h.lost; text = h.text }
+  fault_so (Landed p is h) six = record { object = shelf; rose = h.struck.rose; others = h.struck.others; leaves = inr (h.failed_loads, h.stores ∙ stores_one p old.shelf.stores h.storing, kept_out h.out); text = h.text }
+  fault_so (Broken p is h) six = record { object = sink; rose = h.struck.rose; others = h.struck.others; leaves = h.failed_loads; text = h.text }
   fault_so (Starved h) six = absurd (omega (arith, h.eight, six))
 
   pub always_so : Course l planned old mid new code → (object : Object) → faults_of object old < faults_of object new → code ≡ 6

@@ -8,7 +8,7 @@ ghost use Rattle.command_table.specs.Table.{create_reply, listing_text, open_fil
 ghost use Rattle.ew_model.specs.Ancestors.{version_events};
 ghost use Rattle.ew_model.specs.Touches.{touches};
 ghost use Rattle.opened_files.specs.Touches.{TouchesAtMost, file_touches, listing_touches, touches_over};
-ghost use Rattle.opened_files.specs.Views.{IsTakenReply, LostBy, MissesBy, ShelfCauses, reply_view, reply_status};
+ghost use Rattle.opened_files.specs.Views.{IsTakenReply, FailedLoadsBy, MissesBy, ShelfCauses, reply_view, reply_status};
 ghost use Rattle.ew_model.specs.Limits.{most_file_bytes};
 ghost use Rattle.ew_outside.specs.Counts.{Asks, Rose, next};
 ghost use Rattle.command_reader.specs.Words.{listing_view};
@@ -119,7 +119,7 @@ pub fn show<H: Shelf, L: Ledger>(
     ensures cause { ShelfCauses (H.seen shelf.old).faults (H.seen shelf.new).faults result }
     ensures misses { MissesBy (H.seen shelf.old).misses (H.seen shelf.new).misses result }
     ensures loads { (H.seen shelf.new).loads ≡ next (H.seen shelf.old).loads }
-    ensures lost { LostBy (H.seen shelf.old).lost (H.seen shelf.new).lost result }
+    ensures failed_loads { FailedLoadsBy (H.seen shelf.old).failed_loads (H.seen shelf.new).failed_loads result }
     ensures asked { Asks (most_file_bytes limits.now.events) (H.seen shelf.old).asked (H.seen shelf.new).asked }
     ensures stores { (H.seen shelf.new).stores ≡ (H.seen shelf.old).stores }
     ensures most { TouchesAtMost (λ m. file_touches name.now limits.now m + touches_over (listing_touches (listing_view listing)) (open_file name.now limits.now m)) (H.seen shelf.old).files steps.old steps.new }
@@ -144,7 +144,7 @@ pub fn create<H: Shelf>(alloc: Global, name: &str, shelf: &mut H) -> Result<Repl
     ensures there { IfOk result (λ p. reply_status p ≡ 3 → (H.seen shelf.new).misses ≡ (H.seen shelf.old).misses) }
     ensures absent { IfOk result (λ p. reply_status p ≡ 0 → Rose (H.seen shelf.old).misses (H.seen shelf.new).misses) }
     ensures loads { (H.seen shelf.new).loads ≡ next (H.seen shelf.old).loads }
-    ensures lost { LostBy (H.seen shelf.old).lost (H.seen shelf.new).lost result }
+    ensures failed_loads { FailedLoadsBy (H.seen shelf.old).failed_loads (H.seen shelf.new).failed_loads result }
     ensures asked { Asks 0 (H.seen shelf.old).asked (H.seen shelf.new).asked }
     ensures stores { (H.seen shelf.new).stores ≡ (H.seen shelf.old).stores }
 {

@@ -58,7 +58,7 @@ pub fn carry_out<H: Shelf, K: Sink>(
     ensures sink { EndSinkCount planned result (K.seen out.old).faults (K.seen out.new).faults }
     ensures misses { (H.seen shelf.new).misses ≡ (H.seen shelf.old).misses }
     ensures loads { (H.seen shelf.new).loads ≡ (H.seen shelf.old).loads }
-    ensures lost { (H.seen shelf.new).lost ≡ (H.seen shelf.old).lost }
+    ensures failed_loads { (H.seen shelf.new).failed_loads ≡ (H.seen shelf.old).failed_loads }
     ensures asked { (H.seen shelf.new).asked ≡ (H.seen shelf.old).asked }
     ensures stores { EndStores planned result (H.seen shelf.old).stores (H.seen shelf.new).stores }
 {

@@ -4,7 +4,7 @@ ghost use Rattle.std.specs.Option.{option_map};
 ghost use Rattle.command_table.specs.Reads.{IfFileRefused, LeavesInput, CountsLoads, LoadsFront, TakesAtMost, makes_file, most_asked, needs_file, reads_input, shape_of};
 ghost use Rattle.command_table.specs.Table.{MeansTo, does, reply_to};
 ghost use Rattle.opened_files.specs.Touches.{CommandTakes};
-ghost use Rattle.opened_files.specs.Views.{IsTakenReply, LoadsAll, LostBy, ReadsNone, ShelfCauses};
+ghost use Rattle.opened_files.specs.Views.{IsTakenReply, LoadsAll, FailedLoadsBy, ReadsNone, ShelfCauses};
 ghost use Rattle.line_plans.specs.Sources.{KeepsInput, PlansBy};
 ghost use Rattle.line_plans.specs.Sources as line;
 ghost use Rattle.serve_plans.specs.Plans.{Causes, KeepsStreams};
@@ -54,7 +54,7 @@ pub fn plan<H: Shelf, S: Source, K: Sink, L: Ledger>(
     ensures untouched { IfSome (H.seen shelf.old).files (λ m. IfFileRefused (shape_of (option_map line_view line.entry)) limits.now m (LeavesInput (S.seen input.old) (S.seen input.new))) }
     ensures front { LoadsFront (shape_of (option_map line_view line.entry)).files (H.seen shelf.old).loads (H.seen shelf.new).loads }
     ensures loads { IfOk result (λ p. CountsLoads (shape_of (option_map line_view line.entry)).files limits.now (H.seen shelf.old).files (H.seen shelf.old).loads (H.seen shelf.new).loads) }
-    ensures lost { LostBy (H.seen shelf.old).lost (H.seen shelf.new).lost result }
+    ensures failed_loads { FailedLoadsBy (H.seen shelf.old).failed_loads (H.seen shelf.new).failed_loads result }
     ensures all { LoadsAll (shape_of (option_map line_view line.entry)).files (H.seen shelf.old).loads (H.seen shelf.new).loads result }
     ensures makes { MakesBy (makes_file (option_map line_view line.entry)) (H.seen shelf.old).misses (H.seen shelf.new).misses result }
     ensures asked { AsksAtMost (most_asked (option_map line_view line.entry) limits.now) (H.seen shelf.old).asked (H.seen shelf.new).asked }
@@ -93,7 +93,7 @@ fn plan_command<H: Shelf, S: Source, L: Ledger>(
     ensures untouched { IfSome (H.seen shelf.old).files (λ m. IfFileRefused (shape_of (Some (does (command_view command.entry)))) limits.now m (LeavesInput (S.seen input.old) (S.seen input.new))) }
     ensures front { LoadsFront (shape_of (Some (does (command_view command.entry)))).files (H.seen shelf.old).loads (H.seen shelf.new).loads }
     ensures loads { IfOk result (λ p. CountsLoads (shape_of (Some (does (command_view command.entry)))).files limits.now (H.seen shelf.old).files (H.seen shelf.old).loads (H.seen shelf.new).loads) }
-    ensures lost { LostBy (H.seen shelf.old).lost (H.seen shelf.new).lost result }
+    ensures failed_loads { FailedLoadsBy (H.seen shelf.old).failed_loads (H.seen shelf.new).failed_loads result }
     ensures all { LoadsAll (shape_of (Some (does (command_view command.entry)))).files (H.seen shelf.old).loads (H.seen shelf.new).loads result }
     ensures makes { MakesBy (makes_file (Some (does (command_view command.entry)))) (H.seen shelf.old).misses (H.seen shelf.new).misses result }
     ensures asked { AsksAtMost (most_asked (Some (does (command_view command.entry))) limits.now) (H.seen shelf.old).asked (H.seen shelf.new).asked }
@@ -126,7 +126,7 @@ fn plan_unread<H: Shelf, L: Ledger>(
     ensures misses { MissesFor (needs_file (Some (does (command_view command.entry)))) (H.seen shelf.old).misses (H.seen shelf.new).misses result }
     ensures front { LoadsFront (shape_of (Some (does (command_view command.entry)))).files (H.seen shelf.old).loads (H.seen shelf.new).loads }
     ensures loads { IfOk result (λ p. CountsLoads (shape_of (Some (does (command_view command.entry)))).files limits.now (H.seen shelf.old).files (H.seen shelf.old).loads (H.seen shelf.new).loads) }
-    ensures lost { LostBy (H.seen shelf.old).lost (H.seen shelf.new).lost result }
+    ensures failed_loads { FailedLoadsBy (H.seen shelf.old).failed_loads (H.seen shelf.new).failed_loads result }
     ensures all { LoadsAll (shape_of (Some (does (command_view command.entry)))).files (H.seen shelf.old).loads (H.seen shelf.new).loads result }
     ensures makes { MakesBy (makes_file (Some (does (command_view command.entry)))) (H.seen shelf.old).misses (H.seen shelf.new).misses result }
     ensures asked { AsksAtMost (most_asked (Some (does (command_view command.entry))) limits.now) (H.seen shelf.old).asked (H.seen shelf.new).asked }

@@ -9,7 +9,7 @@ pub record ShelfSeen : Type 0 where
   pub faults : ℕ
   pub misses : ℕ
   pub loads : ℕ
-  pub lost : ℕ
+  pub failed_loads : ℕ
   pub asked : ℕ
   pub stores : ℕ
 

@@ -38,7 +38,7 @@ pub struct DirShelf<R> {
     pub faults: Counter,
     pub misses: Counter,
     pub loads: Counter,
-    pub lost: Counter,
+    pub failed_loads: Counter,
     pub asked: Greatest,
     pub stores: Counter,
 }
@@ -48,7 +48,7 @@ impl<R: Files<File = File>> DirShelf<R> {
         ensures faults { result.faults ≡ 0 }
         ensures misses { result.misses ≡ 0 }
         ensures loads { result.loads ≡ 0 }
-        ensures lost { result.lost ≡ 0 }
+        ensures failed_loads { result.failed_loads ≡ 0 }
         ensures asked { result.asked ≡ 0 }
         ensures stores { result.stores ≡ 0 }
     {
@@ -59,7 +59,7 @@ impl<R: Files<File = File>> DirShelf<R> {
             faults: Counter::new(),
             misses: Counter::new(),
             loads: Counter::new(),
-            lost: Counter::new(),
+            failed_loads: Counter::new(),
             asked: Greatest::new(),
             stores: Counter::new(),
         }
@@ -67,7 +67,7 @@ impl<R: Files<File = File>> DirShelf<R> {
 }
 
 impl<R: Files<File = File>> Shelf for DirShelf<R> {
-    ghost seen = { λ s. record { files = None; faults = s.faults; misses = s.misses; loads = s.loads; lost = s.lost; asked = s.asked; stores = s.stores } };
+    ghost seen = { λ s. record { files = None; faults = s.faults; misses = s.misses; loads = s.loads; failed_loads = s.failed_loads; asked = s.asked; stores = s.stores } };
 
     /// `None` is for a file that isn't there. Whatever else the system refuses is a fault. A store stands on what was opened here.
     fn load(&mut self, name: &str, max: usize) -> Result<Option<Vec<u8>>, ShelfFault> {
@@ -83,7 +83,7 @@ impl<R: Files<File = File>> Shelf for DirShelf<R> {
             Err(ShelfFault::OutOfMemory) => Err(ShelfFault::OutOfMemory),
             Err(ShelfFault::Failed) => {
                 self.faults.rise();
-                self.lost.rise();
+                self.failed_loads.rise();
                 Err(ShelfFault::Failed)
             }
         }

@@ -16,7 +16,7 @@ pub struct MemShelf {
     pub landing: Vec<u64>,
     pub misses: Counter,
     pub loads: Counter,
-    pub lost: Counter,
+    pub failed_loads: Counter,
     pub asked: Greatest,
     pub stores: Counter,
 }
@@ -29,7 +29,7 @@ impl MemShelf {
         ensures landing { result.landing.items ≡ landing.items }
         ensures misses { result.misses ≡ 0 }
         ensures loads { result.loads ≡ 0 }
-        ensures lost { result.lost ≡ 0 }
+        ensures failed_loads { result.failed_loads ≡ 0 }
         ensures asked { result.asked ≡ 0 }
         ensures stores { result.stores ≡ 0 }
     {
@@ -39,7 +39,7 @@ impl MemShelf {
             landing,
             misses: Counter::new(),
             loads: Counter::new(),
-            lost: Counter::new(),
+            failed_loads: Counter::new(),
             asked: Greatest::new(),
             stores: Counter::new(),
         }
@@ -54,7 +54,7 @@ impl MemShelf {
         ensures landing { self.new.landing.items ≡ self.old.landing.items }
         ensures misses { self.new.misses ≡ self.old.misses }
         ensures loads { self.new.loads ≡ self.old.loads }
-        ensures lost { self.new.lost ≡ self.old.lost }
+        ensures failed_loads { self.new.failed_loads ≡ self.old.failed_loads }
         ensures asked { self.new.asked ≡ self.old.asked }
         ensures stores { CountsStores self.old.stores self.new.stores result }
     {
@@ -78,7 +78,7 @@ impl MemShelf {
 }
 
 impl Shelf for MemShelf {
-    ghost seen = { λ s. record { files = Some s.files; faults = s.calls.faults; misses = s.misses; loads = s.loads; lost = s.lost; asked = s.asked; stores = s.stores } };
+    ghost seen = { λ s. record { files = Some s.files; faults = s.calls.faults; misses = s.misses; loads = s.loads; failed_loads = s.failed_loads; asked = s.asked; stores = s.stores } };
 
     fn load(&mut self, name: &str, max: usize) -> Result<Option<Vec<u8>>, ShelfFault>
         requires { max < 2 ^ 62 }
@@ -88,7 +88,7 @@ impl Shelf for MemShelf {
         ensures cause { CountsFaults self.old.calls.faults self.new.calls.faults result }
         ensures misses { CountsMisses self.old.misses self.new.misses result }
         ensures loads { self.new.loads ≡ next self.old.loads }
-        ensures lost { CountsFaults self.old.lost self.new.lost result }
+        ensures failed_loads { CountsFaults self.old.failed_loads self.new.failed_loads result }
         ensures asked { Asks max self.old.asked self.new.asked }
         ensures stores { self.new.stores ≡ self.old.stores }
         ensures exactly { IsTrue (is_failed result) ↔ Contains self.old.calls.failing self.old.calls.made }
@@ -99,7 +99,7 @@ impl Shelf for MemShelf {
         self.asked.reach(max);
         if self.calls.fails_next() {
             self.calls.count(true);
-            self.lost.rise();
+            self.failed_loads.rise();
             return Err(ShelfFault::Failed);
         }
         self.calls.count(false);
@@ -117,7 +117,7 @@ impl Shelf for MemShelf {
         ensures cause { CountsFaults self.old.calls.faults self.new.calls.faults result }
         ensures misses { self.new.misses ≡ self.old.misses }
         ensures loads { self.new.loads ≡ self.old.loads }
-        ensures lost { self.new.lost ≡ self.old.lost }
+        ensures failed_loads { self.new.failed_loads ≡ self.old.failed_loads }
         ensures asked { self.new.asked ≡ self.old.asked }
         ensures stores { CountsStores self.old.stores self.new.stores result }
         ensures planned { StoresAsPlanned (Contains self.old.calls.failing self.old.calls.made) (Contains self.old.landing.items self.old.calls.made) self.old.files self.new.files name.now bytes.now result }

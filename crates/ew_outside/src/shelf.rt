@@ -20,7 +20,7 @@ pub trait Shelf {
         ensures cause { CountsFaults (seen self.old).faults (seen self.new).faults result }
         ensures misses { CountsMisses (seen self.old).misses (seen self.new).misses result }
         ensures loads { (seen self.new).loads ≡ next (seen self.old).loads }
-        ensures lost { CountsFaults (seen self.old).lost (seen self.new).lost result }
+        ensures failed_loads { CountsFaults (seen self.old).failed_loads (seen self.new).failed_loads result }
         ensures asked { Asks max (seen self.old).asked (seen self.new).asked }
         ensures stores { (seen self.new).stores ≡ (seen self.old).stores };
 
@@ -30,7 +30,7 @@ pub trait Shelf {
         ensures cause { CountsFaults (seen self.old).faults (seen self.new).faults result }
         ensures misses { (seen self.new).misses ≡ (seen self.old).misses }
         ensures loads { (seen self.new).loads ≡ (seen self.old).loads }
-        ensures lost { (seen self.new).lost ≡ (seen self.old).lost }
+        ensures failed_loads { (seen self.new).failed_loads ≡ (seen self.old).failed_loads }
         ensures asked { (seen self.new).asked ≡ (seen self.old).asked }
         ensures stores { CountsStores (seen self.old).stores (seen self.new).stores result };
 }

@@ -37,7 +37,7 @@ impl SureShelf {
 }
 
 impl Shelf for SureShelf {
-    ghost seen = { λ s. record { files = Some s.files; faults = 0; misses = s.misses; loads = s.loads; lost = 0; asked = s.asked; stores = s.stores } };
+    ghost seen = { λ s. record { files = Some s.files; faults = 0; misses = s.misses; loads = s.loads; failed_loads = 0; asked = s.asked; stores = s.stores } };
 
     fn load(&mut self, name: &str, max: usize) -> Result<Option<Vec<u8>>, ShelfFault>
         requires { max < 2 ^ 62 }
@@ -47,7 +47,7 @@ impl Shelf for SureShelf {
         ensures cause { CountsFaults 0 0 result }
         ensures misses { CountsMisses self.old.misses self.new.misses result }
         ensures loads { self.new.loads ≡ next self.old.loads }
-        ensures lost { CountsFaults 0 0 result }
+        ensures failed_loads { CountsFaults 0 0 result }
         ensures asked { Asks max self.old.asked self.new.asked }
         ensures stores { self.new.stores ≡ self.old.stores }
         ensures sure { is_failed result ≡ false }
@@ -68,7 +68,7 @@ impl Shelf for SureShelf {
         ensures cause { CountsFaults 0 0 result }
         ensures misses { self.new.misses ≡ self.old.misses }
         ensures loads { self.new.loads ≡ self.old.loads }
-        ensures lost { ◌≡◌ {A = ℕ} 0 0 }
+        ensures failed_loads { ◌≡◌ {A = ℕ} 0 0 }
         ensures asked { self.new.asked ≡ self.old.asked }
         ensures stores { CountsStores self.old.stores self.new.stores result }
         ensures sure { is_failed result ≡ false }

@@ -9,7 +9,7 @@ use Rattle.command_table.specs.Refusals.{Refusal}
 use Rattle.command_table.specs.Table.{Text, merge, Reply, refuses, Opened, opened, refused, open_file, opened_as, merge_reply, over_events, over_both}
 use Rattle.opened_files.specs.declared.reply.Reply as code
 use Rattle.ew_outside.specs.declared.fault.Fault.{Fault}
-use Rattle.opened_files.specs.Views.{LostBy, MissesBy, ShelfCauses, reply_view}
+use Rattle.opened_files.specs.Views.{FailedLoadsBy, MissesBy, ShelfCauses, reply_view}
 
 -- a plan over the second of two files that were opened, of which the first left the map as it was
 pub both_opened :
@@ -31,8 +31,8 @@ later_causes before mid now result same cause = subst (λ n. ShelfCauses n now r
 pub later_misses : (before mid now : ℕ) (result : Result code.Reply Fault) → mid ≡ before → MissesBy mid now result → MissesBy before now result
 later_misses before mid now result same missed = subst (λ n. MissesBy n now result) same missed
 
-pub later_lost : (before mid now : ℕ) (result : Result code.Reply Fault) → mid ≡ before → LostBy mid now result → LostBy before now result
-later_lost before mid now result same lost = subst (λ n. LostBy n now result) same lost
+pub later_failed_loads : (before mid now : ℕ) (result : Result code.Reply Fault) → mid ≡ before → FailedLoadsBy mid now result → FailedLoadsBy before now result
+later_failed_loads before mid now result same failed_loads = subst (λ n. FailedLoadsBy n now result) same failed_loads
 
 module _ (name : Text) (limits : LimitNumbers) where
   -- a merge into a file that is refused, or open

@@ -2,7 +2,7 @@
 use Rattle.std.proofs.Common.{◌≡◌, ◌≤◌, ◌∙◌, inl, inr, ℕ, List, length, Option, Result, Ok, Err, IfOk, ap, refl, sym, subst}
 use Rattle.std.specs.declared.alloc.AllocError.{AllocError}
 use Rattle.ew_model.specs.declared.event.Event.{Event}
-use Rattle.ew_model.specs.FileLaws.{AreBytes}
+use Rattle.ew_model.specs.Bytes.{AreBytes}
 use Rattle.ew_model.specs.Limits.{LimitNumbers}
 use Rattle.ew_model.specs.Kept.{ReplicaState}
 use Rattle.ew_model.specs.Edits.{Edit}
@@ -15,7 +15,7 @@ use Rattle.opened_files.specs.declared.reply.Reply as code
 use Rattle.ew_outside.specs.Seen.{SourceSeen}
 use Rattle.ew_outside.specs.declared.fault.Fault.{Fault}
 use Rattle.ew_outside.specs.declared.fault.Fault.TheVariants as fault_is
-use Rattle.opened_files.specs.Views.{LostBy, ReadsNone, reply_status, reply_view}
+use Rattle.opened_files.specs.Views.{FailedLoadsBy, ReadsNone, reply_status, reply_view}
 use Rattle.ew_outside.specs.Counts.{RisesOnceAtMost}
 use Rattle.line_plans.specs.Inputs.{MeetsEnd}
 use Rattle.line_plans.specs.declared.input.Input.{Input}
@@ -83,9 +83,9 @@ causes_of_source before now source source' (Err fault_is.Source) same cause = (s
 causes_of_source before now source source' (Err fault_is.Sink) same cause = absurd cause
 causes_of_source before now source source' (Err fault_is.OutOfMemory) same cause = (same, cause)
 
-pub lost_of_source : (before now source source' : ℕ) (result : Result code.Reply Fault) → now ≡ before → SourceCauses source source' result → LostBy before now result
-lost_of_source before now source source' (Ok p) same cause = same
-lost_of_source before now source source' (Err fault_is.Shelf) same cause = absurd cause
-lost_of_source before now source source' (Err fault_is.Source) same cause = same
-lost_of_source before now source source' (Err fault_is.Sink) same cause = absurd cause
-lost_of_source before now source source' (Err fault_is.OutOfMemory) same cause = same
+pub failed_loads_of_source : (before now source source' : ℕ) (result : Result code.Reply Fault) → now ≡ before → SourceCauses source source' result → FailedLoadsBy before now result
+failed_loads_of_source before now source source' (Ok p) same cause = same
+failed_loads_of_source before now source source' (Err fault_is.Shelf) same cause = absurd cause
+failed_loads_of_source before now source source' (Err fault_is.Source) same cause = same
+failed_loads_of_source before now source source' (Err fault_is.Sink) same cause = absurd cause
+failed_loads_of_source before now source source' (Err fault_is.OutOfMemory) same cause = same

@@ -1,6 +1,6 @@
 //! The command that edits a file by a script.
 ghost use Rattle.std.specs.Prelude.{◌≡◌, ◌≢◌, ◌<◌, ◌+◌, ◌^◌, [], length, IfOk, IfSome};
-ghost use Rattle.ew_model.specs.FileLaws.{AreBytes};
+ghost use Rattle.ew_model.specs.Bytes.{AreBytes};
 ghost use Rattle.script_reader.specs.Meaning.{edit_meant, numbered_edits};
 ghost use Rattle.replica.specs.Answers.{EditsBy};
 ghost use Rattle.line_plans.specs.Edits.{EditsTo, LineRefuses, MayScript, PlansInput, PlansScript, edits_reply};
@@ -10,7 +10,7 @@ ghost use Rattle.command_table.specs.Scripts.{Means};
 ghost use Rattle.command_table.specs.Table as table;
 ghost use Rattle.command_table.specs.Table.{input_reply, made_reply, open_file, opened, over_events};
 ghost use Rattle.opened_files.specs.Touches.{TouchesAtMost, file_touches};
-ghost use Rattle.opened_files.specs.Views.{IsTakenReply, LostBy, MissesBy, ReadsNone, reply_view, reply_status};
+ghost use Rattle.opened_files.specs.Views.{IsTakenReply, FailedLoadsBy, MissesBy, ReadsNone, reply_view, reply_status};
 ghost use Rattle.line_plans.specs.Sources.{Causes, KeepsInput, PlansBy, ReadsAll, SourceCauses};
 ghost use Rattle.ew_outside.specs.Counts.{Asks, RisesOnceAtMost, next};
 ghost use Rattle.ew_model.specs.Limits.{most_file_bytes};
@@ -45,6 +45,7 @@ fn do_edit<L: Ledger>(
     match edit {
         Edit::Ins { at, text } => replica.insert(agent, *at, text.as_str(), steps),
         Edit::Del { at, n } => replica.delete(agent, *at, *n, steps),
+        Edit::Mark { label } => replica.mark(agent, *label, steps),
     }
 }
 
@@ -202,7 +203,7 @@ pub fn edit<H: Shelf, S: Source, L: Ledger>(
     ensures kept { KeepsInput (S.seen input.old) (S.seen input.new) result }
     ensures untouched { IfSome (H.seen shelf.old).files (λ m. IfRefused (open_file name.now limits.now m) (LeavesInput (S.seen input.old) (S.seen input.new))) }
     ensures loads { (H.seen shelf.new).loads ≡ next (H.seen shelf.old).loads }
-    ensures lost { LostBy (H.seen shelf.old).lost (H.seen shelf.new).lost result }
+    ensures failed_loads { FailedLoadsBy (H.seen shelf.old).failed_loads (H.seen shelf.new).failed_loads result }
     ensures asked { Asks (most_file_bytes limits.now.events) (H.seen shelf.old).asked (H.seen shelf.new).asked }
     ensures stores { (H.seen shelf.new).stores ≡ (H.seen shelf.old).stores }
     ensures ends { RisesOnceAtMost (S.seen input.old).ends (S.seen input.new).ends }

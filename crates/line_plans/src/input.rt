@@ -4,6 +4,7 @@ ghost use Rattle.line_plans.specs.Inputs.{input_view, input_of, EndsInput, IsWit
 ghost use Rattle.line_plans.specs.Sources.{SourceCauses};
 ghost use Rattle.command_table.specs.Reads.{TakesAtMost};
 
+use ew_model::limits::INPUT_PIECE;
 use ew_outside::{Failed, Fault, Source};
 use std::alloc::Global;
 
@@ -13,8 +14,6 @@ pub enum Input {
     TooLong,
     Whole(Vec<u8>),
 }
-
-const PIECE: usize = 4096;
 
 /// Reads to the end, but at most one byte more than `most`.
 pub fn read_input<S: Source>(alloc: Global, source: &mut S, most: u32) -> Result<Input, Fault>
@@ -27,9 +26,9 @@ pub fn read_input<S: Source>(alloc: Global, source: &mut S, most: u32) -> Result
 {
     let bound = most as usize;
     let mut bytes = Vec::new(alloc);
-    let mut buffer = [0u8; PIECE];
+    let mut buffer = [0u8; INPUT_PIECE];
     'pieces: while bytes.len() <= bound {
-        let room = (bound + 1 - bytes.len()).min(PIECE);
+        let room = (bound + 1 - bytes.len()).min(INPUT_PIECE);
         let count = match source.read(&mut buffer[..room]) {
             Ok(count) => count,
             Err(Failed) => return Err(Fault::Source),

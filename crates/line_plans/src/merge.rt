@@ -12,7 +12,7 @@ ghost use Rattle.ew_model.specs.Limits.{most_file_bytes};
 ghost use Rattle.ew_model.specs.Rounds.{most_touches};
 ghost use Rattle.opened_files.specs.Touches.{TouchesAtMost, file_touches, merge_touches, touches_over};
 ghost use Rattle.peer_definitions.specs.Answering as answering;
-ghost use Rattle.opened_files.specs.Views.{IsTakenReply, LoadsDone, LostBy, MissesBy, ShelfCauses, reply_view, reply_status};
+ghost use Rattle.opened_files.specs.Views.{IsTakenReply, LoadsDone, FailedLoadsBy, MissesBy, ShelfCauses, reply_view, reply_status};
 ghost use Rattle.command_table.specs.Reads.{CountsLoads, LoadsFront};
 ghost use Rattle.ew_outside.specs.Counts.{Asks, AsksAtMost, next};
 
@@ -139,7 +139,7 @@ fn take_other<H: Shelf, L: Ledger>(
     ensures cause { ShelfCauses (H.seen shelf.old).faults (H.seen shelf.new).faults result }
     ensures misses { MissesBy (H.seen shelf.old).misses (H.seen shelf.new).misses result }
     ensures loads { (H.seen shelf.new).loads ≡ next (H.seen shelf.old).loads }
-    ensures lost { LostBy (H.seen shelf.old).lost (H.seen shelf.new).lost result }
+    ensures failed_loads { FailedLoadsBy (H.seen shelf.old).failed_loads (H.seen shelf.new).failed_loads result }
     ensures asked { Asks (most_file_bytes limits.now.events) (H.seen shelf.old).asked (H.seen shelf.new).asked }
     ensures stores { (H.seen shelf.new).stores ≡ (H.seen shelf.old).stores }
     ensures most { TouchesAtMost (λ m. merge_touches other.now limits.now m replica.old.held) (H.seen shelf.old).files steps.old steps.new }
@@ -171,7 +171,7 @@ pub fn merge<H: Shelf, L: Ledger>(
     ensures front { LoadsFront (name.now ∷ other.now ∷ []) (H.seen shelf.old).loads (H.seen shelf.new).loads }
     ensures loads { IfOk result (λ p. CountsLoads (name.now ∷ other.now ∷ []) limits.now (H.seen shelf.old).files (H.seen shelf.old).loads (H.seen shelf.new).loads) }
     ensures all { IfOk result (LoadsDone (name.now ∷ other.now ∷ []) (H.seen shelf.old).loads (H.seen shelf.new).loads) }
-    ensures lost { LostBy (H.seen shelf.old).lost (H.seen shelf.new).lost result }
+    ensures failed_loads { FailedLoadsBy (H.seen shelf.old).failed_loads (H.seen shelf.new).failed_loads result }
     ensures asked { AsksAtMost (most_file_bytes limits.now.events) (H.seen shelf.old).asked (H.seen shelf.new).asked }
     ensures stores { (H.seen shelf.new).stores ≡ (H.seen shelf.old).stores }
     ensures most { TouchesAtMost (λ m. file_touches name.now limits.now m + touches_over (merge_touches other.now limits.now m) (open_file name.now limits.now m)) (H.seen shelf.old).files steps.old steps.new }

@@ -1,6 +1,6 @@
 //! The command that runs a net script.
 ghost use Rattle.std.specs.Prelude.{◌≡◌, ◌<◌, ◌≤◌, ◌+◌, length, IfOk, IfSome};
-ghost use Rattle.ew_model.specs.FileLaws.{AreBytes};
+ghost use Rattle.ew_model.specs.Bytes.{AreBytes};
 ghost use Rattle.command_table.specs.Possible.{MayReplyTo};
 ghost use Rattle.command_table.specs.Reads.{TakesAtMost};
 ghost use Rattle.command_table.specs.Table as table;

@@ -3,7 +3,8 @@ use Rattle.std.proofs.Common.{◌≡◌, ℕ, List, Vec, Result, IfOk, sym, subs
 use Rattle.std.specs.Global.{Global}
 use Rattle.std.specs.declared.alloc.AllocError.{AllocError}
 use Rattle.ew_model.specs.declared.event.Event.{Event}
-use Rattle.ew_model.specs.File.{file_of, IsWritable}
+use Rattle.file_words.specs.File.{file_of}
+use Rattle.ew_model.specs.Writable.{IsWritable}
 
 pub writable_same : (listed held : List Event) → listed ≡ held → IsWritable held → IsWritable listed
 writable_same listed held same h = subst IsWritable (sym same) h

@@ -3,8 +3,8 @@ use Rattle.std.proofs.Common.{◌≡◌, ◌∙◌, ◌+◌, ◌≤◌, ℕ, suc
 use Rattle.std.proofs.lemmas.List.{length-append}
 use Rattle.ew_model.specs.declared.event.Event.{Event}
 use Rattle.ew_model.specs.declared.event.Op.{Op}
-use Rattle.ew_model.specs.FileFaults.{FileFinding}
-use Rattle.ew_model.specs.FileFaults as model
+use Rattle.file_words.specs.FileFaults.{FileFinding}
+use Rattle.file_words.specs.FileFaults as model
 use Rattle.event_file.specs.declared.fault.FileFault.{FileFault}
 use Rattle.event_file.specs.declared.fault.FileFault.TheVariants.{Short, BadMagic, BadVersion, BadDigest, BadRecord, TooMany, OutOfMemory}
 use Rattle.event_file.specs.Faults.{IsFault}

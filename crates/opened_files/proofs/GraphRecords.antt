@@ -9,11 +9,13 @@ use Rattle.std.proofs.lemmas.Option.{get_or_from_slice_get, slice_get_within}
 use Rattle.ew_model.specs.declared.id.Id.{Id}
 use Rattle.ew_model.specs.declared.event.Event.{Event}
 use Rattle.ew_model.specs.Ancestors.{ids_of, is_held}
-use Rattle.ew_model.specs.File.{four_bytes, op_bytes, agents_of, record_bytes, are_writable_after, IsWritable}
+use Rattle.ew_model.specs.Bytes.{four_bytes, op_bytes}
+use Rattle.ew_model.specs.Writable.{agents_of, are_writable_after, IsWritable}
+use Rattle.file_words.specs.File.{record_bytes}
 use Rattle.ew_model.specs.Ids.{id_eq, name_eq}
-use Rattle.ew_model.proofs.FileEvents.{agents_push, ids_count}
-use Rattle.ew_model.proofs.FileLists.{found_there, place_of as place_at}
-use Rattle.ew_model.proofs.FileRecords.{id_eq_exact}
+use Rattle.ew_model.proofs.AgentLaws.{agents_push, ids_count}
+use Rattle.ew_model.proofs.ListPlaces.{found_there, place_of as place_at}
+use Rattle.file_words.proofs.FileRecords.{id_eq_exact}
 use Rattle.ew_model.proofs.KeptLaws.{held_joined}
 use Rattle.ew_model.proofs.ListParts.{take_next}
 use Rattle.ew_model.proofs.TextLaws.{ids_equal}
@@ -22,7 +24,7 @@ use Rattle.ew_model.specs.Distinct.{AllNew}
 use Rattle.ew_model.specs.Ids.{id_cmp}
 use Rattle.ew_model.specs.Positions.{parent_positions, parents_at}
 use Rattle.ew_model.specs.Sorting.{sort_by}
-use Rattle.ew_model.proofs.FileEvents.{writable_parts}
+use Rattle.file_words.proofs.FileEvents.{writable_parts}
 use Rattle.event_graph.specs.Keeping.{IsAdmitted, id_of}
 use Rattle.event_graph.proofs.Counted.{event_there}
 use Rattle.agreement.proofs.ParentIds.{parents_told}

@@ -1,7 +1,7 @@
 -- Files that are opened by what is read of them.
 use Rattle.std.proofs.Common.{◌≡◌, ◌∙◌, ℕ, List, ⊎_elim, inl, inr, refl, sym, ap}
 use Rattle.ew_model.specs.declared.event.Event.{Event}
-use Rattle.ew_model.specs.FileFaults.{file_finding}
+use Rattle.file_words.specs.FileFaults.{file_finding}
 use Rattle.ew_model.specs.Limits.{LimitNumbers}
 use Rattle.ew_model.specs.Verdicts.{first_bad}
 use Rattle.command_table.specs.Loads.{File, whole}

@@ -1,7 +1,7 @@
 -- What a fault of a file says, as the finding that it is.
 use Rattle.std.specs.Prelude.{Option, Some, None}
-use Rattle.ew_model.specs.FileFaults.{FileFinding}
-use Rattle.ew_model.specs.FileFaults as model
+use Rattle.file_words.specs.FileFaults.{FileFinding}
+use Rattle.file_words.specs.FileFaults as model
 use Rattle.event_file.specs.declared.fault.FileFault.{FileFault}
 use Rattle.event_file.specs.declared.fault.FileFault.TheVariants.{Short, BadMagic, BadVersion, BadDigest, BadRecord, TooMany, OutOfMemory}
 use Rattle.event_file.specs.Faults.{kind_of}

@@ -1,8 +1,8 @@
 -- Events of a file that were given to a replica.
 use Rattle.std.specs.Prelude.{◌≡◌, ℕ, ◌+◌, ◌≤◌, List, [], ◌∷◌, ◌++◌, length, Some}
 use Rattle.ew_model.specs.declared.event.Event.{Event}
-use Rattle.ew_model.specs.FileFaults.{FileFinding}
-use Rattle.ew_model.specs.FileFaults.FileFinding.{IsFile}
+use Rattle.file_words.specs.FileFaults.{FileFinding}
+use Rattle.file_words.specs.FileFaults.FileFinding.{IsFile}
 use Rattle.event_file.specs.Rest.{Rest, in_front}
 use Rattle.replica.specs.Giving.{Given, WereGiven}
 

@@ -1,6 +1,6 @@
 -- Files as they are read, before their events are judged.
 use Rattle.std.specs.Prelude.{◌≡◌, List, ℕ}
-use Rattle.ew_model.specs.FileFaults.{FileFinding, file_finding}
+use Rattle.file_words.specs.FileFaults.{FileFinding, file_finding}
 use Rattle.ew_model.specs.Limits.{LimitNumbers}
 use Rattle.command_table.specs.Loads.{File, whole}
 use Rattle.command_table.specs.Table.{Text, opened_as, read_as, refused}

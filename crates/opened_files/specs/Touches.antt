@@ -3,8 +3,8 @@ use Rattle.std.specs.Prelude.{◌≤◌, ⊤, ℕ, ◌+◌, List, [], Option, No
 use Rattle.std.specs.FinMap.{get}
 use Rattle.ew_model.specs.declared.event.Event.{Event}
 use Rattle.ew_model.specs.Ancestors.{version_events}
-use Rattle.ew_model.specs.FileFaults.{FileFinding, file_finding}
-use Rattle.ew_model.specs.FileFaults.FileFinding.{IsFile}
+use Rattle.file_words.specs.FileFaults.{FileFinding, file_finding}
+use Rattle.file_words.specs.FileFaults.FileFinding.{IsFile}
 use Rattle.ew_model.specs.Limits.{LimitNumbers, most_file_bytes}
 use Rattle.ew_model.specs.Rounds.{most_touches}
 use Rattle.ew_model.specs.Touches.{touches}

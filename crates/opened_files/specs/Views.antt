@@ -55,9 +55,9 @@ MissesBy before now (Ok p) = (before ≤ now) × (reply_status p ≡ 3 → Rose 
 MissesBy before now (Err _) = before ≤ now
 
 -- a load failed exactly where the shelf did
-abbrev pub LostBy : {T : Type 0} → ℕ → ℕ → Result T Fault → Type 0
-LostBy before now (Err fault_is.Shelf) = (before ≤ now) × Rose before now
-LostBy before now result = now ≡ before
+abbrev pub FailedLoadsBy : {T : Type 0} → ℕ → ℕ → Result T Fault → Type 0
+FailedLoadsBy before now (Err fault_is.Shelf) = (before ≤ now) × Rose before now
+FailedLoadsBy before now result = now ≡ before
 
 -- unless the line is refused, one load was made of each of these files
 abbrev pub LoadsDone : List Text → ℕ → ℕ → code.Reply → Type 0

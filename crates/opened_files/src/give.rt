@@ -1,6 +1,6 @@
 //! The events of a file's bytes, given one after another to be loaded.
 ghost use Rattle.std.specs.Prelude.{◌≡◌, ◌≤◌, IfOk, IfErr, OnOk};
-ghost use Rattle.ew_model.specs.FileFaults.{FileFinding, file_finding};
+ghost use Rattle.file_words.specs.FileFaults.{FileFinding, file_finding};
 ghost use Rattle.event_file.specs.Faults.{IsFault};
 ghost use Rattle.opened_files.specs.Giving.{HasGivenLast, HoldsFile};
 

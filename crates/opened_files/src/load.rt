@@ -1,7 +1,7 @@
 //! Loading a file whole, where it isn't above a bound.
 ghost use Rattle.std.specs.Prelude.{◌≡◌, ◌<◌, ◌^◌, length, nat_lt, IfSome, IfOk};
 ghost use Rattle.std.specs.FinMap.{get};
-ghost use Rattle.ew_model.specs.FileLaws.{AreBytes};
+ghost use Rattle.ew_model.specs.Bytes.{AreBytes};
 ghost use Rattle.ew_outside.specs.Counts.{Asks, CountsFaults, next};
 ghost use Rattle.opened_files.specs.Loading.{LoadMisses, loaded_view};
 ghost use Rattle.command_table.specs.Loads.{whole_of};
@@ -34,7 +34,7 @@ pub fn load_whole<H: Shelf>(shelf: &mut H, name: &str, most: u64) -> Result<Load
     ensures cause { CountsFaults (H.seen shelf.old).faults (H.seen shelf.new).faults result }
     ensures misses { LoadMisses (H.seen shelf.old).misses (H.seen shelf.new).misses result }
     ensures loads { (H.seen shelf.new).loads ≡ next (H.seen shelf.old).loads }
-    ensures lost { CountsFaults (H.seen shelf.old).lost (H.seen shelf.new).lost result }
+    ensures failed_loads { CountsFaults (H.seen shelf.old).failed_loads (H.seen shelf.new).failed_loads result }
     ensures asked { Asks most (H.seen shelf.old).asked (H.seen shelf.new).asked }
     ensures stores { (H.seen shelf.new).stores ≡ (H.seen shelf.old).stores }
 {

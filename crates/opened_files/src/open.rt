@@ -2,7 +2,7 @@
 ghost use Rattle.std.specs.FinMap.{get};
 ghost use Rattle.std.specs.Prelude.{◌≡◌, ◌≤◌, ◌<◌, ◌+◌, ◌^◌, List, IfOk, IfSome, IsSomeAnd};
 ghost use Rattle.ew_model.specs.declared.event.Event.{Event};
-ghost use Rattle.ew_model.specs.FileFaults.{file_finding};
+ghost use Rattle.file_words.specs.FileFaults.{file_finding};
 ghost use Rattle.ew_model.specs.Limits.{most_file_bytes};
 ghost use Rattle.ew_model.specs.Touches.{touches};
 ghost use Rattle.ew_model.specs.Verdicts.{first_bad};
@@ -15,7 +15,7 @@ ghost use Rattle.command_table.specs.Refusals.{refusal_status};
 ghost use Rattle.command_texts.specs.Reasons.{refusal_view};
 ghost use Rattle.command_table.specs.Table.{judged, open_file, read_as, refused};
 ghost use Rattle.opened_files.specs.Reads.{IsLoadedAs, IsReadAs};
-ghost use Rattle.opened_files.specs.Views.{IsFileStatus, IsFresh, IsJudged, IsOpenable, LostBy, OpenMisses, ShelfCauses, graph_view, opened_view};
+ghost use Rattle.opened_files.specs.Views.{IsFileStatus, IsFresh, IsJudged, IsOpenable, FailedLoadsBy, OpenMisses, ShelfCauses, graph_view, opened_view};
 ghost use Rattle.opened_files.specs.Touches.{TouchesAtMost, file_touches};
 ghost use Rattle.ew_outside.specs.Counts.{Asks, next};
 
@@ -145,7 +145,7 @@ fn load_events<H: Shelf>(
     ensures cause { ShelfCauses (H.seen shelf.old).faults (H.seen shelf.new).faults result }
     ensures misses { OpenMisses (H.seen shelf.old).misses (H.seen shelf.new).misses result }
     ensures loads { (H.seen shelf.new).loads ≡ next (H.seen shelf.old).loads }
-    ensures lost { LostBy (H.seen shelf.old).lost (H.seen shelf.new).lost result }
+    ensures failed_loads { FailedLoadsBy (H.seen shelf.old).failed_loads (H.seen shelf.new).failed_loads result }
     ensures asked { Asks (most_file_bytes limits.now.events) (H.seen shelf.old).asked (H.seen shelf.new).asked }
     ensures stores { (H.seen shelf.new).stores ≡ (H.seen shelf.old).stores }
 {
@@ -176,7 +176,7 @@ pub fn open<H: Shelf, L: Ledger>(
     ensures cause { ShelfCauses (H.seen shelf.old).faults (H.seen shelf.new).faults result }
     ensures misses { OpenMisses (H.seen shelf.old).misses (H.seen shelf.new).misses result }
     ensures loads { (H.seen shelf.new).loads ≡ next (H.seen shelf.old).loads }
-    ensures lost { LostBy (H.seen shelf.old).lost (H.seen shelf.new).lost result }
+    ensures failed_loads { FailedLoadsBy (H.seen shelf.old).failed_loads (H.seen shelf.new).failed_loads result }
     ensures asked { Asks (most_file_bytes limits.now.events) (H.seen shelf.old).asked (H.seen shelf.new).asked }
     ensures stores { (H.seen shelf.new).stores ≡ (H.seen shelf.old).stores }
     ensures most { TouchesAtMost (file_touches name.now limits.now) (H.seen shelf.old).files steps.old steps.new }
@@ -202,7 +202,7 @@ pub fn open_graph<H: Shelf, L: Ledger>(
     ensures cause { ShelfCauses (H.seen shelf.old).faults (H.seen shelf.new).faults result }
     ensures misses { OpenMisses (H.seen shelf.old).misses (H.seen shelf.new).misses result }
     ensures loads { (H.seen shelf.new).loads ≡ next (H.seen shelf.old).loads }
-    ensures lost { LostBy (H.seen shelf.old).lost (H.seen shelf.new).lost result }
+    ensures failed_loads { FailedLoadsBy (H.seen shelf.old).failed_loads (H.seen shelf.new).failed_loads result }
     ensures asked { Asks (most_file_bytes limits.now.events) (H.seen shelf.old).asked (H.seen shelf.new).asked }
     ensures stores { (H.seen shelf.new).stores ≡ (H.seen shelf.old).stores }
     ensures most { TouchesAtMost (file_touches name.now limits.now) (H.seen shelf.old).files steps.old steps.new }
@@ -218,5 +218,5 @@ fn most_bytes(limits: &Limits) -> u64
     ensures value { result ≡ most_file_bytes limits.now.events }
     ensures small { result < 2 ^ 62 }
 {
-    48 + 115 * u64::from(limits.events())
+    limits.file_bytes()
 }

@@ -1,6 +1,6 @@
 //! Replies that store the events of a replica.
 ghost use Rattle.std.specs.Prelude.{◌≡◌, ◌≢◌, IfOk};
-ghost use Rattle.ew_model.specs.File.{file_of};
+ghost use Rattle.file_words.specs.File.{file_of};
 ghost use Rattle.command_table.specs.Table.{stores};
 ghost use Rattle.opened_files.specs.Views.{IsTakenReply, reply_status, reply_view};
 

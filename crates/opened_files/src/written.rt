@@ -3,7 +3,8 @@ ghost use Rattle.std.specs.Prelude.{◌≡◌, ◌<◌, ◌^◌, ◌++◌, true,
 ghost use Rattle.std.specs.List.{All};
 ghost use Rattle.ew_model.specs.declared.event.Event.{Event};
 ghost use Rattle.ew_model.specs.Ancestors.{is_held};
-ghost use Rattle.ew_model.specs.File.{agents_of, file_of, record_bytes, IsWritable};
+ghost use Rattle.ew_model.specs.Writable.{agents_of, IsWritable};
+ghost use Rattle.file_words.specs.File.{file_of, record_bytes};
 ghost use Rattle.opened_files.specs.Places.{place_of, places_of};
 
 use event_file::{Agents, FileWriter};
@@ -14,7 +15,7 @@ use frontier::Parentage;
 use std::alloc::Global;
 
 /// The one event file of a graph's events.
-#[tactic(auto, unfolding(ew_model::specs::File::file_of, ew_model::specs::File::file_content))]
+#[tactic(auto, unfolding(file_words::specs::File::file_of, file_words::specs::File::file_content))]
 pub fn written(alloc: Global, graph: &Graph) -> Result<Vec<u8>, NoMem>
     requires { IsWritable graph.now }
     ensures { IfOk result (λ bytes. bytes.items ≡ file_of graph.now) }

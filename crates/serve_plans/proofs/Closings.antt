@@ -26,7 +26,7 @@ use Rattle.serve_plans.specs.declared.closing.Closing.{Closing}
 use Rattle.serve_plans.specs.declared.closing.Closing.TheVariants as closing
 use Rattle.serve_plans.proofs.Cutting.{GoesOn, begins_more, begins_goes_on, begins_are_one}
 use Rattle.serve_plans.proofs.Talks.{talked_ended}
-use Rattle.ew_model.proofs.FileLists.{some_is}
+use Rattle.ew_model.proofs.ListPlaces.{some_is}
 
 -- what is known of the bytes behind those that were read
 abbrev pub IsBehind : LimitNumbers → List ℕ → List ℕ → Closing → Type 0

@@ -20,7 +20,7 @@ use Rattle.ew_outside.specs.declared.fault.Fault.{Fault}
 use Rattle.serve_plans.specs.Plans.{SendsReplies, ReadsOn}
 use Rattle.serve_plans.specs.Serving.{Spoken, IsPieceBehind, PlansTalk}
 use Rattle.serve_plans.proofs.Speaking.{any_flushed}
-use Rattle.ew_model.proofs.FileLists.{some_is}
+use Rattle.ew_model.proofs.ListPlaces.{some_is}
 use Rattle.command_table.proofs.Openings.{same_events}
 
 -- ---- the front of an input

@@ -5,7 +5,7 @@ ghost use Rattle.ew_outside.specs.Outputs.{Takes};
 ghost use Rattle.ew_outside.specs.declared.fault.Fault.TheVariants as fault_is;
 ghost use Rattle.std.specs.List.{All};
 ghost use Rattle.command_table.specs.Sessions.{bytes_of};
-ghost use Rattle.ew_model.specs.FileLaws.{AreBytes};
+ghost use Rattle.ew_model.specs.Bytes.{AreBytes};
 ghost use Rattle.peer_exchange.specs.AnswerTouches.{answer_touches};
 ghost use Rattle.peer_definitions.specs.Answering.{answer_to};
 ghost use Rattle.peer_definitions.specs.Spelling.{HasSpelling};

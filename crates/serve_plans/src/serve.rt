@@ -4,7 +4,7 @@ ghost use Rattle.command_table.specs.Reads.{IfRefused, LeavesInput, TakesAtMost}
 ghost use Rattle.command_table.specs.Table.{open_file};
 ghost use Rattle.ew_model.specs.Limits.{most_file_bytes};
 ghost use Rattle.ew_outside.specs.Counts.{Asks, RisesOnceAtMost, next};
-ghost use Rattle.opened_files.specs.Views.{IsTakenReply, LostBy, MissesBy, ReadsNone, reply_status};
+ghost use Rattle.opened_files.specs.Views.{IsTakenReply, FailedLoadsBy, MissesBy, ReadsNone, reply_status};
 ghost use Rattle.serve_plans.specs.Plans.{Causes, KeepsStreams, MayPlan, ReadsAll, ReadsOn, ReadsWithin, SendsReplies, Serves, StreamCauses};
 ghost use Rattle.serve_plans.specs.Serving.{IsPieceBehind, PlansTalk};
 ghost use Rattle.serve_plans.specs.SessionTouches.{SessionTakes, TalkTakes};
@@ -65,7 +65,7 @@ pub fn serve<H: Shelf, S: Source, K: Sink, L: Ledger>(
     ensures cause { Causes (H.seen shelf.old).faults (H.seen shelf.new).faults (S.seen input.old).faults (S.seen input.new).faults (K.seen out.old).faults (K.seen out.new).faults result }
     ensures misses { MissesBy (H.seen shelf.old).misses (H.seen shelf.new).misses result }
     ensures loads { (H.seen shelf.new).loads ≡ next (H.seen shelf.old).loads }
-    ensures lost { LostBy (H.seen shelf.old).lost (H.seen shelf.new).lost result }
+    ensures failed_loads { FailedLoadsBy (H.seen shelf.old).failed_loads (H.seen shelf.new).failed_loads result }
     ensures asked { Asks (most_file_bytes limits.now.events) (H.seen shelf.old).asked (H.seen shelf.new).asked }
     ensures stores { (H.seen shelf.new).stores ≡ (H.seen shelf.old).stores }
     ensures ends { RisesOnceAtMost (S.seen input.old).ends (S.seen input.new).ends }

@@ -7,16 +7,13 @@ ghost use Rattle.serve_plans.specs.SessionTouches.{TalkTakes};
 
 use crate::answering::take_piece;
 use crate::closing::Closing;
-use ew_model::limits::Limits;
+use ew_model::limits::{INPUT_PIECE, Limits};
 use ew_model::steps::Steps;
 use ew_outside::{Failed, Fault, Sink, Source};
 use peer_frames::FrameReader;
 use replica::Replica;
 use std::alloc::Global;
 use std::sync::ledger::Ledger;
-
-/// The most bytes that are read at a time.
-const PIECE: usize = 4096;
 
 /// The end of the input is between two frames, or within the next.
 fn closing_at_end(reader: &FrameReader, number: u32) -> Closing
@@ -60,10 +57,10 @@ pub fn talk<S: Source, K: Sink, L: Ledger>(
 {
     let mut reader = FrameReader::new(alloc, *limits)?;
     let mut number = 0u32;
-    let mut buffer = [0u8; PIECE];
+    let mut buffer = [0u8; INPUT_PIECE];
     let mut room = limits.input() as usize;
     'pieces: while room > 0 {
-        let most = room.min(PIECE);
+        let most = room.min(INPUT_PIECE);
         let count = read_piece(input, &mut buffer, most)?;
         if count == 0 {
             return Ok(closing_at_end(&reader, number));

@@ -55,8 +55,8 @@ returns-in-Some-Does-clause-front g c = rw c.in-Some-Does.is (rw c.in-Some-Does.
 pub returns-in-Some-Does-clause-loads : goal.returns-in-Some-Does-clause-loads
 returns-in-Some-Does-clause-loads g c = rw c.in-Some-Does.is (rw c.in-Some-Does.field-0-is (c.plan_command.ensures.loads))
 
-pub returns-in-Some-Does-clause-lost : goal.returns-in-Some-Does-clause-lost
-returns-in-Some-Does-clause-lost g c = c.plan_command.ensures.lost
+pub returns-in-Some-Does-clause-failed_loads : goal.returns-in-Some-Does-clause-failed_loads
+returns-in-Some-Does-clause-failed_loads g c = c.plan_command.ensures.failed_loads
 
 pub returns-in-Some-Does-clause-most : goal.returns-in-Some-Does-clause-most
 returns-in-Some-Does-clause-most g c = rw c.in-Some-Does.is (rw c.in-Some-Does.field-0-is (c.plan_command.ensures.most))
@@ -106,8 +106,8 @@ returns-in-Some-Serves-clause-front g c = rw c.in-Some-Serves.is (rw c.in-Some-S
 pub returns-in-Some-Serves-clause-loads : goal.returns-in-Some-Serves-clause-loads
 returns-in-Some-Serves-clause-loads g c = rw c.in-Some-Serves.is (rw c.in-Some-Serves.field-0-is (loads_one c.in-Some-Serves.file.now c.args.limits.now (g.H.Shelf.seen c.args.shelf.now).files _ _ c.serve.result c.serve.ensures.loads))
 
-pub returns-in-Some-Serves-clause-lost : goal.returns-in-Some-Serves-clause-lost
-returns-in-Some-Serves-clause-lost g c = c.serve.ensures.lost
+pub returns-in-Some-Serves-clause-failed_loads : goal.returns-in-Some-Serves-clause-failed_loads
+returns-in-Some-Serves-clause-failed_loads g c = c.serve.ensures.failed_loads
 
 pub returns-in-Some-Serves-clause-most : goal.returns-in-Some-Serves-clause-most
 returns-in-Some-Serves-clause-most g c = rw c.in-Some-Serves.is (rw c.in-Some-Serves.field-0-is (c.serve.ensures.most))

@@ -6,7 +6,7 @@ use Rattle.command_runs.proofs.Lines.{asks_most, asks_none, causes_of_shelf, fil
 use Rattle.std.proofs.Common.{refl, inl, Some}
 use Rattle.std.proofs.lemmas.Bool.{false≢true}
 use Rattle.opened_files.proofs.Reading.{takes_none}
-use Rattle.line_plans.proofs.Replies.{causes_of_source, keeps_same, lost_of_source, source_keeps}
+use Rattle.line_plans.proofs.Replies.{causes_of_source, keeps_same, failed_loads_of_source, source_keeps}
 use Rattle.command_runs.proofs.plan.plan_command.Goals as goal
 
 pub returns-in_default-clause-told : goal.returns-in_default-clause-told
@@ -67,8 +67,8 @@ returns-in-Net-clause-front g c = rw c.in-Net.is (no_front _)
 pub returns-in-Net-clause-loads : goal.returns-in-Net-clause-loads
 returns-in-Net-clause-loads g c = rw c.in-Net.is (loads_none c.args.limits.now (g.H.Shelf.seen c.args.shelf.now).files _ c.net.result)
 
-pub returns-in-Net-clause-lost : goal.returns-in-Net-clause-lost
-returns-in-Net-clause-lost g c = lost_of_source _ _ _ _ c.net.result refl c.net.ensures.cause
+pub returns-in-Net-clause-failed_loads : goal.returns-in-Net-clause-failed_loads
+returns-in-Net-clause-failed_loads g c = failed_loads_of_source _ _ _ _ c.net.result refl c.net.ensures.cause
 
 pub returns-in-Edit-clause-all : goal.returns-in-Edit-clause-all
 returns-in-Edit-clause-all g c = rw c.in-Edit.is (one_all c.in-Edit.file.now _ _ c.edit.result c.edit.ensures.loads)

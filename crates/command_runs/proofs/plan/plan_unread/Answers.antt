@@ -4,7 +4,7 @@ use Rattle.command_table.specs.Loads.{whole_of}
 use Rattle.command_table.specs.Table.{create, make, merge, show, create_reply, make_reply, merge_reply, open_file, over_both, over_events, show_reply}
 use Rattle.peer_definitions.specs.Making.{made}
 use Rattle.command_reader.specs.Words.{listing_view}
-use Rattle.command_runs.proofs.Lines.{all_of_shelf, asks_most, asks_none, loads_none, loads_one, made_file, may_plan, no_causes, no_front, none_all, none_lost, none_made, one_all, one_front, plans_alone, plans_any}
+use Rattle.command_runs.proofs.Lines.{all_of_shelf, asks_most, asks_none, loads_none, loads_one, made_file, may_plan, no_causes, no_front, none_all, none_failed_loads, none_made, one_all, one_front, plans_alone, plans_any}
 use Rattle.command_runs.proofs.plan.plan_unread.Goals as goal
 
 pub returns-in-New-clause-told : goal.returns-in-New-clause-told
@@ -70,8 +70,8 @@ returns-in-Make-clause-some g c = rw c.in-Make.is (may_plan (make c.in-Make.seed
 pub returns-in-Make-clause-cause : goal.returns-in-Make-clause-cause
 returns-in-Make-clause-cause g c = no_causes _ c.make_history.result c.make_history.ensures.starved
 
-pub returns-in-Make-clause-lost : goal.returns-in-Make-clause-lost
-returns-in-Make-clause-lost g c = none_lost _ c.make_history.result c.make_history.ensures.starved
+pub returns-in-Make-clause-failed_loads : goal.returns-in-Make-clause-failed_loads
+returns-in-Make-clause-failed_loads g c = none_failed_loads _ c.make_history.result c.make_history.ensures.starved
 
 pub returns-in-Make-clause-front : goal.returns-in-Make-clause-front
 returns-in-Make-clause-front g c = rw c.in-Make.is (no_front _)

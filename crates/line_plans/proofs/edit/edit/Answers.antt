@@ -1,7 +1,7 @@
 use Rattle.std.proofs.Common.{refl}
 use Rattle.opened_files.proofs.Reading.{holds_refused, open_not_refused, takes_none}
 use Rattle.line_plans.proofs.Readings.{plans_opened}
-use Rattle.line_plans.proofs.Replies.{causes_of_source, keeps_same, lost_of_source, opened_edits, reads_open, refused_edits, source_keeps}
+use Rattle.line_plans.proofs.Replies.{causes_of_source, keeps_same, failed_loads_of_source, opened_edits, reads_open, refused_edits, source_keeps}
 use Rattle.command_texts.specs.Reasons.{refusal_view}
 use Rattle.line_plans.proofs.edit.edit.Goals as goal
 
@@ -45,8 +45,8 @@ returns-in-Open-clause-some g c =
 pub returns-in-Open-clause-cause : goal.returns-in-Open-clause-cause
 returns-in-Open-clause-cause g c = causes_of_source _ _ _ _ c.take_input.result c.in_ok-why.ensures.cause c.take_input.ensures.cause
 
-pub returns-in-Open-clause-lost : goal.returns-in-Open-clause-lost
-returns-in-Open-clause-lost g c = lost_of_source _ _ _ _ c.take_input.result c.in_ok-why.ensures.lost c.take_input.ensures.cause
+pub returns-in-Open-clause-failed_loads : goal.returns-in-Open-clause-failed_loads
+returns-in-Open-clause-failed_loads g c = failed_loads_of_source _ _ _ _ c.take_input.result c.in_ok-why.ensures.failed_loads c.take_input.ensures.cause
 
 pub returns-in-Open-clause-refused : goal.returns-in-Open-clause-refused
 returns-in-Open-clause-refused g c = reads_open _ _ c.take_input.result c.take_input.ensures.found c.take_input.ensures.good

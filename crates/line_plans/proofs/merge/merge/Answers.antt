@@ -3,7 +3,7 @@ use Rattle.opened_files.specs.Touches.{TouchesAtMost, merge_touches}
 use Rattle.command_table.specs.Table.{merge_reply}
 use Rattle.opened_files.proofs.Touches.{opened_touched}
 use Rattle.line_plans.proofs.Loads.{all_both, asked_both, both_front, first_front, loads_opened, loads_refused}
-use Rattle.line_plans.proofs.Merges.{both_opened, later_causes, later_lost, later_misses, opened_merges, refused_merges}
+use Rattle.line_plans.proofs.Merges.{both_opened, later_causes, later_failed_loads, later_misses, opened_merges, refused_merges}
 use Rattle.command_texts.specs.Reasons.{refusal_view}
 use Rattle.line_plans.proofs.merge.merge.Goals as goal
 
@@ -27,8 +27,8 @@ returns-in-Open-clause-cause g c = later_causes _ _ _ c.take_other.result c.in_o
 pub returns-in-Open-clause-misses : goal.returns-in-Open-clause-misses
 returns-in-Open-clause-misses g c = later_misses _ _ _ c.take_other.result (rw c.in-Open.is at c.in_ok-why.ensures.misses) c.take_other.ensures.misses
 
-pub returns-in-Open-clause-lost : goal.returns-in-Open-clause-lost
-returns-in-Open-clause-lost g c = later_lost _ _ _ c.take_other.result c.in_ok-why.ensures.lost c.take_other.ensures.lost
+pub returns-in-Open-clause-failed_loads : goal.returns-in-Open-clause-failed_loads
+returns-in-Open-clause-failed_loads g c = later_failed_loads _ _ _ c.take_other.result c.in_ok-why.ensures.failed_loads c.take_other.ensures.failed_loads
 
 pub returns-in-Open-clause-front : goal.returns-in-Open-clause-front
 returns-in-Open-clause-front g c = both_front c.args.name.now c.args.other.now _ _ _ c.in_ok-why.ensures.loads c.take_other.ensures.loads

@@ -1,5 +1,5 @@
 use Rattle.std.proofs.Common.{◌≡◌, ◌≤◌}
-use Rattle.ew_model.specs.FileFaults.{FileFinding}
+use Rattle.file_words.specs.FileFaults.{FileFinding}
 use Rattle.opened_files.specs.Giving.{HasGivenLast}
 use Rattle.opened_files.proofs.give.give_behind.Given as goal
 

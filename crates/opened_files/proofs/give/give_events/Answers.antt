@@ -1,7 +1,7 @@
 use Rattle.std.proofs.Common.{◌≡◌, ◌∙◌, sym, ap, subst, [], ◌∷◌, ◌++◌, Ok, Err, IfErr, Some, Result, Option}
 use Rattle.std.proofs.lemmas.Result.{err_from_is_err_and}
 use Rattle.ew_model.specs.declared.event.Event.{Event}
-use Rattle.ew_model.specs.FileFaults.{FileFinding, file_finding}
+use Rattle.file_words.specs.FileFaults.{FileFinding, file_finding}
 use Rattle.event_file.specs.declared.fault.FileFault.{FileFault}
 use Rattle.event_file.specs.Faults.{IsFault}
 use Rattle.event_file.specs.Rest.{IsNext, in_front}

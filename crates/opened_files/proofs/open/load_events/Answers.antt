@@ -1,5 +1,5 @@
 use Rattle.std.proofs.Common.{subst}
-use Rattle.ew_model.specs.FileFaults.{file_finding}
+use Rattle.file_words.specs.FileFaults.{file_finding}
 use Rattle.command_table.specs.Loads.{whole}
 use Rattle.command_table.specs.Possible.{KeepsTo}
 use Rattle.opened_files.specs.Reads.{IsReadAs}

@@ -1,5 +1,5 @@
 use Rattle.std.proofs.Common.{◌≡◌, take}
-use Rattle.ew_model.specs.File.{agents_of}
+use Rattle.ew_model.specs.Writable.{agents_of}
 use Rattle.opened_files.proofs.written.agents_in.Given as goal
 
 abbrev pub invariant-loop-lv : goal.invariant-loop-lv

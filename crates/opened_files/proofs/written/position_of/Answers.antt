@@ -1,6 +1,6 @@
 use Rattle.std.proofs.Common.{◌∙◌, sym}
 use Rattle.ew_model.specs.Ancestors.{ids_of}
-use Rattle.ew_model.proofs.FileLists.{none_is_some}
+use Rattle.ew_model.proofs.ListPlaces.{none_is_some}
 use Rattle.opened_files.specs.Places.{place_of}
 use Rattle.opened_files.proofs.GraphRecords.{position_there}
 use Rattle.opened_files.proofs.written.position_of.Goals as goal

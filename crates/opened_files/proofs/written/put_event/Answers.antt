@@ -4,7 +4,7 @@ use Rattle.std.proofs.lemmas.List.{length-map}
 use Rattle.ew_model.specs.declared.id.Id.{Id}
 use Rattle.ew_model.specs.declared.event.Event.{Event}
 use Rattle.ew_model.specs.declared.event.Op.{Op}
-use Rattle.ew_model.specs.File.{agents_of}
+use Rattle.ew_model.specs.Writable.{agents_of}
 use Rattle.ew_model.specs.Ids.{name_eq}
 use Rattle.ew_model.proofs.ListParts.{element_there}
 use Rattle.agreement.proofs.Shared.{same_made}

@@ -1,5 +1,5 @@
 use Rattle.std.proofs.Common.{◌∙◌, ◌++◌, ap, arith}
-use Rattle.ew_model.specs.File.{record_bytes}
+use Rattle.file_words.specs.File.{record_bytes}
 use Rattle.ew_model.proofs.ListParts.{element_there}
 use Rattle.opened_files.proofs.GraphRecords.{records_next}
 use Rattle.opened_files.proofs.written.put_events.Goals as goal

@@ -1,5 +1,5 @@
 use Rattle.std.proofs.Common.{◌≡◌, ◌++◌, take, flat_map}
-use Rattle.ew_model.specs.File.{record_bytes}
+use Rattle.file_words.specs.File.{record_bytes}
 use Rattle.opened_files.proofs.written.put_events.Given as goal
 
 abbrev pub invariant-loop-lv : goal.invariant-loop-lv

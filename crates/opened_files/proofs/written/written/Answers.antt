@@ -1,5 +1,5 @@
 use Rattle.std.proofs.Common.{◌∙◌, List, ℕ, ap, length, arith}
-use Rattle.ew_model.proofs.FileEvents.{few_agents}
+use Rattle.ew_model.proofs.AgentLaws.{few_agents}
 use Rattle.opened_files.proofs.written.written.Goals as goal
 
 pub new-requires : goal.new-requires
