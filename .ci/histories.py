@@ -3,11 +3,11 @@
 from bisect import insort
 from collections import namedtuple
 
-from egw_bytes import DELETE, INSERT, content, record, with_digest
+from egw_bytes import DELETE, INSERT, MARK, content, record, with_digest
 
 MOST_EVENTS = 1_000_000
 MOST_INPUT = 16_777_216
-MOST_FILE = 48 + 115 * MOST_EVENTS
+MOST_FILE = 48 + 140 * MOST_EVENTS
 
 USAGE = b"""usage: egw new FILE
        egw edit FILE --agent NAME
@@ -24,7 +24,7 @@ USAGE = b"""usage: egw new FILE
 """
 
 Id = namedtuple("Id", "agent seq")  # a name's bytes and a number: compared in this order, as the page wants it
-Op = namedtuple("Op", "at ch")  # ch is a code point for an insertion, None for a deletion
+Op = namedtuple("Op", "at ch label", defaults=(None,))  # an insertion has a code point, a mark a label
 Event = namedtuple("Event", "id parents op")
 
 
@@ -75,9 +75,18 @@ class History:
         before = self.position.get(Id(event.id.agent, event.id.seq - 1), len(self.events))
         if event.id.seq and not known >> before & 1:
             return "skipped"
+        fault = None if event.op.label else self.place(event, known)
+        if not fault:
+            self.position[event.id] = len(self.events)
+            self.ancestors.append(known)
+            self.events.append(event)
+        return fault
+
+    def place(self, event, known):
+        """Does on the tree what an insertion or a deletion does, or says why it can't."""
         walk = [node for node in self.walk() if node is self.root or node.event & known]
         visible = [node for node in walk if node.event & known and not node.deleters & known]
-        at, ch = event.op
+        at, ch, _ = event.op
         if at > len(visible) or ch is None and at == len(visible):
             return f"out of range, length {len(visible)}"
         bit = 1 << len(self.events)
@@ -87,9 +96,6 @@ class History:
             left = visible[at - 1] if at else self.root
             has_right_child = any(child.event & known for child in left.right)
             insort(walk[walk.index(left) + 1].left if has_right_child else left.right, Node(event.id, ch, bit))
-        self.position[event.id] = len(self.events)
-        self.ancestors.append(known)
-        self.events.append(event)
         return None
 
     def text(self):
@@ -112,9 +118,12 @@ def file_of(events):
     agents = list(dict.fromkeys(event.id.agent for event in events))
     number_of = {agent: n for n, agent in enumerate(agents)}
     position = {event.id: p for p, event in enumerate(events)}
-    records = [record(number_of[event.id.agent], event.id.seq, [position[parent] for parent in event.parents], kind_of(event.op), *event.op) for event in events]
+    records = [record(number_of[event.id.agent], event.id.seq, [position[parent] for parent in event.parents], *parts_of(event.op)) for event in events]
     return with_digest(content(agents, records))
 
 
-def kind_of(op):
-    return DELETE if op.ch is None else INSERT
+def parts_of(op):
+    """What stands of an operation in files and frames: the kind, and the index and the code point, or the label."""
+    if op.label:
+        return MARK, op.label
+    return (DELETE, op.at) if op.ch is None else (INSERT, op.at, op.ch)

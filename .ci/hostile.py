@@ -7,7 +7,7 @@ import sys
 sys.dont_write_bytecode = True
 sys.path.insert(0, str(pathlib.Path(__file__).parent.parent / "tools"))
 
-from egw_bytes import INSERT, MARK, counted, event_bytes, events_frame, frame, id_bytes, number, record, sized, with_digest  # noqa: E402
+from egw_bytes import INSERT, MARK, START, counted, event_bytes, events_frame, frame, id_bytes, number, record, sized, with_digest  # noqa: E402
 
 GREATEST = 4294967295
 MOST_INPUT = 16_777_216
@@ -21,7 +21,7 @@ def put(name, *parts):
 
 def put_file(name, *parts):
     """A file with its digest behind it."""
-    put(name, with_digest(MARK + b"".join(parts)))
+    put(name, with_digest(START + b"".join(parts)))
 
 
 def names(agents):
@@ -77,6 +77,34 @@ def make_files():
     put_file("letter", names(a), counted([first]))
 
 
+def joins(heads):
+    """Marks that join the heads of that many agents at positions from 0 on: 16 of them in the first, and then 15 and the one before."""
+    yield 0, list(range(min(heads, 16)))
+    for seq, start in enumerate(range(16, heads, 15), 1):
+        yield seq, [*range(start, min(start + 15, heads)), heads + seq - 1]
+
+
+def make_marks():
+    """Files of marks, and a file and a frame with marks of which one byte is changed."""
+    a, first, label = [b"a"], record(0, 0, [], INSERT, 0, 97), b"m" * 32
+    put_file("marks", names(a), counted([first, *(record(0, n, [n - 1], MARK, label) for n in range(1, 1_000_000))]))
+    put_file("marks_thousand", names(a), counted([first, *(record(0, n, [n - 1], MARK, label) for n in range(1, 1001))]))
+    heads = [b"h%05d" % n for n in range(10_000)]
+    apart = [record(n, 0, [], INSERT, 0, 97) for n in range(10_000)]
+    put_file("heads_apart", names(heads), counted(apart))
+    put_file("heads_joined", names([*heads, b"j"]), counted([*apart, *(record(10_000, seq, parents, MARK, label) for seq, parents in joins(10_000))]))
+    ids = [*((name, 0) for name in heads), *((b"j", seq) for seq in range(667))]
+    put("heads_marks", events_frame(event_bytes((b"j", seq), [ids[p] for p in parents], MARK, label) for seq, parents in joins(10_000)), BYE)
+    put("heads_marks_backwards", events_frame(reversed([event_bytes((b"j", seq), [ids[p] for p in parents], MARK, label) for seq, parents in joins(10_000)])), BYE)
+    parents = [(b"p" * 30 + b"%02d" % n, n) for n in range(16)]
+    greatest = [event_bytes((b"n" * 32, n), parents, MARK, label) for n in range(15 * 1579)]
+    put("marks_unknown", *(events_frame(greatest[at : at + 1579]) for at in range(0, len(greatest), 1579)))
+    for name, kind, size in (("label_none", 2, 0), ("label_long", 2, 33), ("label_claimed", 2, 255), ("label_cut", 2, 32), ("kind", 3, 1)):
+        operation = number(kind, 1) + number(size, 1) + b"m" * (size if size in (0, 1, 33) else 2)
+        put_file(name, names(a), counted([first[:9] + operation]))
+        put(f"{name}_sent", frame(2, counted([id_bytes((b"a", 1)) + number(1, 1) + id_bytes((b"a", 0)) + operation])))
+
+
 def make_inputs():
     """Scripts and frames."""
     put("line", b"ins 0 ", b"x" * (MOST_INPUT - 6))
@@ -127,4 +155,5 @@ def make_inputs():
 
 
 make_files()
+make_marks()
 make_inputs()

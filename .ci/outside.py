@@ -116,7 +116,7 @@ class Reader:
 
     def set_limits(self, events, waiting, body, input):
         self.code.MAX_EVENTS, self.code.MAX_WAITING, self.code.MAX_BODY, self.code.MAX_INPUT = events, waiting, body, input
-        self.code.MAX_FILE, self.code.MAX_HAVE = 48 + 115 * events, 4 + 37 * events
+        self.code.MAX_FILE, self.code.MAX_HAVE = 48 + 140 * events, 4 + 37 * events
 
     def set_program_limits(self):
         vars(self.code).update(self.program)

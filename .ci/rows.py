@@ -16,7 +16,7 @@ from collections import namedtuple
 sys.dont_write_bytecode = True
 sys.path[:0] = [str(pathlib.Path(__file__).parent), str(pathlib.Path(__file__).parent.parent / "tools")]
 
-from egw_bytes import INSERT, content, event_bytes, frame, number, record  # noqa: E402
+from egw_bytes import INSERT, MARK, content, event_bytes, frame, number, record  # noqa: E402
 from outside import OBJECTS, Reader, Rows, escaped  # noqa: E402
 
 ROOT = pathlib.Path(sys.argv[1])
@@ -48,11 +48,13 @@ FILES = {
     "both": content([b"a", b"b"], ABC + typed(1, "xyz", 3)),
     "abcQ": content([b"a", b"b"], ABC + [LATER]),
     "other_abc": content([b"a"], typed(0, "Abc")),
+    "marked": content([b"a", b"b"], [*typed(0, "a"), record(0, 1, [0], MARK, b"m_1"), record(1, 0, [1], INSERT, 1, ord("Q"))]),
     "unreduced": content([b"a", b"b"], [*typed(0, "ab"), record(1, 0, [0, 1], INSERT, 0, ord("X"))]),
     "unlike": bytes(20),
 }
 HAVE = frame(1, number(1) + b"\x01a" + number(2))
 EVENTS = frame(2, number(1) + inserts(b"b", 0, [(b"a", 2)], 3, "Q"))
+MARKS = frame(2, number(2) + event_bytes((b"b", 0), [(b"a", 2)], MARK, b"m-1") + inserts(b"b", 1, [(b"b", 0)], 3, "Q"))
 WAITING = frame(2, number(1) + inserts(b"c", 0, [(b"z", 0)], 0, "w"))
 CLASH = frame(2, number(1) + inserts(b"a", 0, [], 0, "A"))
 BYE = frame(6)
@@ -69,8 +71,8 @@ CASES = [
     Case("edit of no lines", "edit F --agent b", F),
     Case("edit by a line that is unreadable", "edit F --agent b", F, b"ins 0 x\nins 00 x"),
     Case("edit by a line that is out of range", "edit F --agent b", F, b"ins 0 x\nins 9 x"),
-    Case("edit past the limit of events", "edit F --agent b", F, b"ins 0 x", (), "3 1 64 643"),
-    Case("edit past the limit of the input", "edit F --agent b", F, b"ins 0 " + b"x" * 60, (), "3 1 64 643"),
+    Case("edit past the limit of events", "edit F --agent b", F, b"ins 0 x", (), "3 1 64 668"),
+    Case("edit past the limit of the input", "edit F --agent b", F, b"ins 0 " + b"x" * 60, (), "3 1 64 668"),
     Case("edit of no file", "edit F --agent b", {}, b"ins 3 Q"),
     Case("cat", "cat F", F),
     Case("cat, in pieces", "cat F", F, b"", ("piece 1",)),
@@ -96,7 +98,7 @@ CASES = [
     Case("merge that meets a clash", "merge F G", {"F": "abc", "G": "other_abc"}),
     Case("merge with no file", "merge F G", F),
     Case("merge with a file that is none", "merge F G", {"F": "abc", "G": "unlike"}),
-    Case("merge past the limit of events", "merge F G", FG, b"", (), "5 1 64 643"),
+    Case("merge past the limit of events", "merge F G", FG, b"", (), "5 1 64 668"),
     Case("serve: what is lacking", "serve F", F, HAVE),
     Case("serve: events, up to the end of the input", "serve F", F, EVENTS),
     Case("serve: events, and a Bye", "serve F", F, EVENTS + BYE),
@@ -108,19 +110,19 @@ CASES = [
     Case("serve: a frame that is cut", "serve F", F, EVENTS + BYE[:4]),
     Case("serve: a frame of no kind", "serve F", F, EVENTS + b"\x07"),
     Case("serve: no frames", "serve F", F),
-    Case("serve past the limit of the input", "serve F", F, EVENTS + BYE, (), "8 1 33 643"),
+    Case("serve past the limit of the input", "serve F", F, EVENTS + BYE, (), "8 1 33 668"),
     Case("serve of no file", "serve F", {}, EVENTS),
     Case("net", "net", {}, NET),
     Case("net, in pieces", "net", {}, NET, ("slow 9", "piece 20")),
     Case("net of no lines", "net"),
     Case("net by a line that is unreadable", "net", {}, b"deliver 0\nagree "),
     Case("net by a line that is refused", "net", {}, b"peer a\nins a 0 x\nshow b\n"),
-    Case("net past the limit of events", "net", {}, b"peer a\nins a 0 abc\nins a 0 x\n", (), "3 1 64 643"),
-    Case("net past the limit of the input", "net", {}, b"peer a\n" + b"agree\n" * 10, (), "3 1 64 643"),
+    Case("net past the limit of events", "net", {}, b"peer a\nins a 0 abc\nins a 0 x\n", (), "3 1 64 668"),
+    Case("net past the limit of the input", "net", {}, b"peer a\n" + b"agree\n" * 10, (), "3 1 64 668"),
     Case("make", "make --seed 7 --count 3"),
     Case("make, in pieces", "make --seed 7 --count 3", {}, b"", ("piece 9",)),
     Case("make of no events", "make --seed 18446744073709551615 --count 0"),
-    Case("make past the limit of events", "make --seed 1 --count 6", {}, b"", (), "3 1 64 643"),
+    Case("make past the limit of events", "make --seed 1 --count 6", {}, b"", (), "3 1 64 668"),
     Case("make of a number that is too great", "make --seed 7 --count 1000001"),
     Case("words that are not taken", "cat F G", F),
     Case("an error text, in pieces", "cat G", F, b"", ("err_piece 7",)),
@@ -134,7 +136,7 @@ ROOMED = [Case("cat", "cat F", F), Case("merge", "merge F G", FG), Case("serve",
 CHANGES = [
     (12, 0, "byte 12: bad name"), (13, 0x20, "byte 12: bad name"), (8, 2, "byte 14: bad name"), (18, 1, "byte 18: agent number"),
     (26, 17, "byte 26: parent count"), (26, 1, "byte 27: parent position"), (14, 2, "byte 36: cut"), (14, 0, "byte 18: trailing bytes"),
-    (33, 0xD8, "byte 32: scalar"), (27, 2, "byte 27: kind"), (31, 1, "event 0: out of range, length 0"),
+    (33, 0xD8, "byte 32: scalar"), (27, 3, "byte 27: kind"), (27, 2, "byte 28: bad name"), (31, 1, "event 0: out of range, length 0"),
     (22, 1, "event 0: skipped"), (7, 2, "version 2"), (0, 0x65, "not an event file"), (8, 0, "byte 16: agent number"),
 ]
 
@@ -220,21 +222,22 @@ class Table:
             assert self.groups[-1][-1] == f"run cat F = 4 err egw: F: {fault}%0a", (place, self.groups[-1][-1])
         self.file_bytes("changed", content([b"a"], []))
         assert self.groups[-1][-1].endswith("byte 18: unused agent%0a")
-        self.begin("program", "a file with each byte made 255 in turn")
-        for place in range(len(letter)):
-            self.file_bytes("changed", letter[:place] + b"\xff" + letter[place + 1 :], "check F")
+        marked = FILES["marked"]
+        self.begin("program", "a file with a mark, and with each byte made 255 in turn")
+        for place in range(len(marked)):
+            self.file_bytes("changed", marked[:place] + b"\xff" + marked[place + 1 :], "check F")
 
     def add_cuts(self):
-        """The file of three events, cut at each place, and with its digest right again."""
-        whole = self.rows.bytes["abc_file"]
+        """The file of three letters cut at each place, and one with a mark so and with its digest right again."""
+        whole, marked = self.rows.bytes["abc_file"], self.rows.bytes["marked_undigested"]
         self.begin("program", "a file that is cut at each place")
         for size in range(len(whole)):
             self.ready(f"front cut abc_file {size}")
             self.ready("file F cut")
             self.ask("run cat F")
-        self.begin("program", "a file that is cut at each place, with a digest behind it")
-        for size in range(16, len(whole) - 32):
-            self.ready(f"front cut abc_undigested {size}")
+        self.begin("program", "a file with a mark that is cut at each place, with a digest behind it")
+        for size in range(16, len(marked)):
+            self.ready(f"front cut marked_undigested {size}")
             self.ready("sealed cut_digested cut")
             self.ready("file F cut_digested")
             self.ask("run cat F")
@@ -242,7 +245,7 @@ class Table:
     def add_inputs(self):
         """Frames and scripts with each byte made 255, and cut at each place. Where the status isn't 0 the file stays as it was."""
         script, net = b"del 0 1\nins 2 Q\\n", b"peer a\nins a 0 x\\n\nsend a a 0 1\ndeliver 0\nshow a"
-        inputs = ("an Events frame", "serve F", EVENTS), ("a Have", "serve F", HAVE), ("a script", "edit F --agent b", script), ("a net script", "net", net)
+        inputs = ("an Events frame with a mark", "serve F", MARKS), ("a Have", "serve F", HAVE), ("a script", "edit F --agent b", script), ("a net script", "net", net)
         for title, words, data in inputs:
             changed = [data[:place] + b"\xff" + data[place + 1 :] for place in range(len(data))]
             for how, givens in (("with each byte made 255", changed), ("that is cut at each place", [data[:size] for size in range(1, len(data))])):

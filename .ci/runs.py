@@ -7,13 +7,13 @@ import sys
 sys.dont_write_bytecode = True
 sys.path.insert(0, str(pathlib.Path(__file__).parent.parent / "tools"))
 
-from second_reader import INSERT, parse_file  # noqa: E402
+from second_reader import DELETE, INSERT, parse_file  # noqa: E402
 
 # How an operation goes on with the one before it, one way for a whole run.
 WAYS = (
     lambda before, after: before.kind == after.kind == INSERT and after.index == before.index + 1,
-    lambda before, after: INSERT not in (before.kind, after.kind) and after.index == before.index,
-    lambda before, after: INSERT not in (before.kind, after.kind) and after.index == before.index - 1,
+    lambda before, after: before.kind == after.kind == DELETE and after.index == before.index,
+    lambda before, after: before.kind == after.kind == DELETE and after.index == before.index - 1,
 )
 
 

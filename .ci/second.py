@@ -10,8 +10,8 @@ sys.dont_write_bytecode = True
 sys.path[:0] = [str(pathlib.Path(__file__).parent), str(pathlib.Path(__file__).parent.parent / "tools")]
 
 from beside import FOLDER, ROOT, Alone, Beside, Draws, list_all, reader  # noqa: E402
-from egw_bytes import content, counted, event_bytes, frame, id_bytes, number, record, with_digest  # noqa: E402
-from histories import MOST_EVENTS, MOST_FILE, MOST_INPUT, USAGE, Event, History, Id, Op, file_of, kind_of  # noqa: E402
+from egw_bytes import MARK, content, counted, event_bytes, frame, id_bytes, number, record, with_digest  # noqa: E402
+from histories import MOST_EVENTS, MOST_FILE, MOST_INPUT, USAGE, Event, History, Id, Op, file_of, parts_of  # noqa: E402
 
 SEED = 2718281828
 
@@ -155,8 +155,13 @@ def edit_once(beside, draws, name, agent):
     beside.run("edit", name, "--agent", agent, input=draw_script(draws, len(text)))
 
 
+def mark_once(beside, draws, name, agent):
+    """Marks a file, and then perhaps goes on with an insertion."""
+    beside.run("edit", name, "--agent", agent, input=b"mark " + draws.one_of(LABELS) + draws.one_of([b"", b"\n", b"\nins 0 x"]))
+
+
 def people(beside, draws):
-    """Three people edit apart, merge now and then, and at the end in all orders."""
+    """Three people edit apart, set marks, merge now and then, and at the end in all orders."""
     agents = [draws.one_of(["a", "ab", "b", "B", "0", "_x", "z-9"]) + str(n) for n in range(3)]
     beside.run("new", "start")
     if draws.below(2):
@@ -167,6 +172,8 @@ def people(beside, draws):
         for agent in agents:
             if draws.below(4):
                 edit_once(beside, draws, agent, agent)
+            if draws.below(4) == 0:
+                mark_once(beside, draws, agent, agent)
         if draws.below(2):
             beside.run("merge", draws.one_of(agents), draws.one_of(agents))
     for agent in agents:
@@ -194,8 +201,11 @@ def people(beside, draws):
 # Event graphs of any form, and files that are damaged
 
 
+LABELS = [b"m", b"draft", b"_", b"9-_Z", b"m" * 32]
+
+
 def draw_graph(draws, size):
-    """Events with any reduced parents, each behind its agent's last."""
+    """Events with any reduced parents, each behind its agent's last. One of six is a mark, and some of these join all heads."""
     history, last = History(), {}
     while len(history.events) < size:
         agent = draws.one_of([b"a", b"b", b"c", b"d", b"ab"])
@@ -203,13 +213,18 @@ def draw_graph(draws, size):
         for _ in range(draws.below(3)):
             if history.events:
                 parents.add(draws.one_of(history.events).id)
+        is_mark = draws.below(6) == 0
+        if is_mark and draws.below(2):
+            parents |= set(history.heads()[:13])
         known = history.version(parents)
         covered = 0
         for parent in parents:
             covered |= history.ancestors[history.position[parent]]
         parents = tuple(sorted(p for p in parents if not covered >> history.position[p] & 1))
         length = sum(node.event & known != 0 and not node.deleters & known for node in history.walk())
-        if length and draws.below(4) == 0:
+        if is_mark:
+            op = Op(None, None, draws.one_of(LABELS))
+        elif length and draws.below(4) == 0:
             op = Op(draws.below(length), None)
         else:
             op = Op(draws.below(length + 1), ord(draws.one_of("abcdefghijklmnopqrstuvwxyz")))
@@ -249,6 +264,18 @@ def graphs(beside, draws):
     return 3
 
 
+def other_op(draws, op, more):
+    """The operation with another index, or with another label."""
+    return op._replace(label=draws.one_of(LABELS)) if op.label else op._replace(at=op.at + more)
+
+
+def other_kind(op):
+    """An operation of another kind."""
+    if op.label:
+        return Op(0, 65)
+    return Op(None, None, b"m") if op.ch is None else Op(op.at, None)
+
+
 def bad_events(draws, events):
     """One event changed, so that it may not be good any more, or clash with the one that it was."""
     place = draws.below(len(events))
@@ -256,13 +283,13 @@ def bad_events(draws, events):
     earlier = sorted(e.id for e in events[:place])
     choice = draws.below(4)
     if choice == 0:
-        event = event._replace(op=Op(event.op.at + draws.below(40), event.op.ch))
+        event = event._replace(op=other_op(draws, event.op, draws.below(40)))
     elif choice == 1:
         event = event._replace(parents=tuple(sorted({draws.one_of(earlier) for _ in range(3)} if earlier else ())))
     elif choice == 2:
         event = event._replace(id=Id(event.id.agent, event.id.seq + draws.below(3)))
     else:
-        event = event._replace(op=Op(event.op.at, 65) if event.op.ch is not None else Op(event.op.at, None))
+        event = event._replace(op=other_kind(event.op))
     changed = events[:place] + [event] + events[place + 1 :]
     ids = [e.id for e in changed]
     held = set()
@@ -329,7 +356,19 @@ def by_hand(beside, draws):
         content([b"a"], [first, record(0, 1, [0, 0], 0, 1, 98)]),
         content([b"b", b"a"], [first, other, record(0, 1, [0, 1], 0, 1, 98)]),
         content([b"b", b"a"], [first, other, record(0, 1, [1, 0], 0, 2, 98)]),
-        content([b"a"], [first, record(0, 1, [0], 2, 1, 98)]),
+        content([b"a"], [first, record(0, 1, [0], 3, 1, 98)]),
+        content([b"a"], [first, record(0, 1, [0], MARK, b"m" * 32), record(0, 2, [1], 1, 0)]),
+        content([b"a"], [first, record(0, 1, [0], MARK, b"")]),
+        content([b"a"], [first, record(0, 1, [0], MARK, b"m" * 33)]),
+        content([b"a"], [first, record(0, 1, [0], MARK, b"-m")]),
+        content([b"a"], [first, record(0, 1, [0], MARK, b"m")])[:-1],
+        content([b"a"], [first, record(0, 1, [0], MARK, b"m")])[:-2],
+        content([b"a"], [first, record(0, 1, [0], MARK, b"m")]) + b"m",
+        content([b"b", b"a"], [first, record(0, 1, [0], MARK, b"a"), record(1, 0, [1], MARK, b"a")]),
+        content([b"a"], [first, record(0, 1, [0], MARK, b"m"), record(0, 2, [0, 1], MARK, b"m")]),
+        content([b"a"], [first, record(0, 2, [0], MARK, b"m")]),
+        content([b"%c" % (97 + n) for n in range(17)], [*(record(n, 0, [], 0, 0, 97) for n in range(16)), record(16, 0, range(16), MARK, b"m")]),
+        content([b"%c" % (97 + n) for n in range(18)], [*(record(n, 0, [], 0, 0, 97) for n in range(17)), record(17, 0, range(17), MARK, b"m")]),
         content([b"a"], [record(0, 0, [], 0, 0, 0xD800)]),
         content([b"a"], [record(0, 0, [], 0, 0, 0xDFFF)]),
         content([b"a"], [record(0, 0, [], 0, 0, 0xE000)]),
@@ -384,7 +423,7 @@ def page_rows(beside, draws):
 
 
 # Which of the histories of the page each row of versions and changes is about, and the orders of its agents, one for each list of changes.
-TOLD = [(2, b"ab", b"ba"), (5, b"abcd"), (6, b"abc", b"acb")]
+TOLD = [(2, b"ab", b"ba"), (5, b"abcd"), (6, b"abc", b"acb"), (10, b"abcd", b"bacd")]
 
 
 def page_versions(beside, events, texts, changes, orders):
@@ -411,9 +450,10 @@ def event_of(line):
         agent, seq = text.split(":")
         return Id(agent.encode(), int(seq))
 
-    id, parents, kind, at, *ch = line.split(" ")
+    id, parents, kind, what, *ch = line.split(" ")
     known = () if parents == "root" else tuple(id_of(parent) for parent in parents.split(","))
-    return Event(id_of(id), known, Op(int(at), ord(ch[0]) if kind == "ins" else None))
+    op = Op(None, None, what.encode()) if kind == "mark" else Op(int(what), ord(ch[0]) if kind == "ins" else None)
+    return Event(id_of(id), known, op)
 
 
 # Sessions
@@ -421,7 +461,7 @@ def event_of(line):
 
 def sent(event):
     """An event as it stands in a frame."""
-    return event_bytes(event.id, event.parents, kind_of(event.op), *event.op)
+    return event_bytes(event.id, event.parents, *parts_of(event.op))
 
 
 def draw_event(draws, events):
@@ -429,7 +469,7 @@ def draw_event(draws, events):
     event = draws.one_of(events)
     choice = draws.below(24)
     if choice == 0:
-        event = event._replace(op=Op(event.op.at + draws.below(30), event.op.ch))
+        event = event._replace(op=other_op(draws, event.op, draws.below(30)))
     elif choice == 1:
         event = event._replace(parents=tuple(draws.one_of(events).id for _ in range(draws.below(4))))
     elif choice == 2:
@@ -439,7 +479,7 @@ def draw_event(draws, events):
     elif choice == 4:
         event = event._replace(parents=(*event.parents, event.id))
     elif choice == 5:
-        event = event._replace(op=Op(event.op.at, 65))
+        event = event._replace(op=other_kind(event.op))
     return event
 
 
@@ -508,7 +548,8 @@ LINES = [b"", b"ins 0 x", b"ins 0 ", b"ins 0", b"ins  0 x", b" ins 0 x", b"ins 0
          b"ins 0 \xc0\x80", b"ins 0 \xf4\x90\x80\x80", b"ins 0 a\rb\0c", b"ins 0 x\r", b"INS 0 x", b"ins x 0", b"del 0 1", b"del 0 0", b"del 3 0", b"del 4 0",
          b"del 2 1", b"del 2 2", b"del 0 4", b"del 0 3", b"del 0", b"del 0 ", b"del 0 1 ", b"del 0  1", b"del 01 1", b"del 0 01", b"del 0 4294967295",
          b"del 4294967295 4294967295", b"del 0 4294967296", b"del 0 -1", b"del 0 1\r", b"del a 1", b"dele 0 1", b"del", b"ins", b"x", b" ", b"\xff",
-         b"\xef\xbb\xbfins 0 x", "del ٣ ٤".encode(), "ins ١ x".encode()]
+         b"mark m", b"mark", b"mark ", b"mark  m", b" mark m", b"mark m ", b"mark m\r", b"mark a b", b"mark -x", b"mark x-", b"mark " + b"m" * 32,
+         b"mark " + b"m" * 33, b"MARK m", b"marks m", b"mark \\n", b"mark \xc3\xa4", b"mark 0", b"mark _", b"\xef\xbb\xbfins 0 x", "del ٣ ٤".encode(), "ins ١ x".encode()]
 
 
 def scripts(beside, draws):
@@ -721,11 +762,22 @@ def limits(beside):
     for agents in (16, 17):
         events = [Event(Id(b"p%d" % n, 0), (), Op(0, 97 + n)) for n in range(agents)]
         beside.file("heads", file_of(events))
-        for script in (b"ins 0 x", b"ins 0 ", b"del 0 1", b"del 0 0", b"ins 99 x", b"ins 99 "):
+        beside.copy("heads", "kept")
+        for script in (b"ins 0 x", b"ins 0 ", b"del 0 1", b"del 0 0", b"ins 99 x", b"ins 99 ", b"mark m", b"mark m\nins 0 x"):
+            beside.copy("kept", "heads")
             beside.run("edit", "heads", "--agent", "a", input=script)
         beside.run("replay", "heads")
         beside.run("ask", "heads")
         beside.run("cat", "heads", "--at", ",".join(f"p{n}:0" for n in reversed(range(agents))))
+    for heads in (1, 2, 15, 16, 17, 31, 32, 46, 47):
+        letters = sorted(b"p%d" % n for n in range(heads))
+        events = [Event(Id(name, 0), (), Op(0, 97 + n % 26)) for n, name in enumerate(letters)]
+        beside.file("kept", file_of(events))
+        for agent in (letters[0], letters[-1], letters[heads // 2], b"a", b"z"):
+            beside.copy("kept", "heads")
+            beside.run("edit", "heads", "--agent", agent.decode(), input=b"mark m\nins 0 x\nmark n")
+            beside.run("log", "heads")
+            beside.run("check", "heads")
     for heads in (16, 17):
         script = [f"peer p{n}\nins p{n} 0 x\npush p{n} p0" for n in range(heads)] + [f"deliver {n}" for n in range(1, heads)]
         for edit in ("ins p0 0 x", "ins p0 0 ", "del p0 0 1", "del p0 0 0", "ins p0 99 x"):

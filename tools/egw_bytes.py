@@ -2,8 +2,8 @@
 
 import hashlib
 
-MARK = b"EGWFILE\x01"
-INSERT, DELETE = 0, 1
+START = b"EGWFILE\x01"
+INSERT, DELETE, MARK = 0, 1, 2
 HAVE, EVENTS, DONE, TOOK, CLASH, BYE = range(1, 7)
 
 
@@ -25,22 +25,24 @@ def sized(name):
     return number(len(name), 1) + name
 
 
-def operation(kind, at, ch):
-    """What an event does; of an insertion with the code point of its character."""
-    return number(kind, 1) + number(at) + (b"" if ch is None else number(ch))
+def operation(kind, what, ch):
+    """What an event does: at which index, and of an insertion the code point of its character; or the label of a mark."""
+    if kind == MARK:
+        return number(kind, 1) + sized(what)
+    return number(kind, 1) + number(what) + (b"" if ch is None else number(ch))
 
 
 # Files
 
 
-def record(agent, seq, parents, kind, at, ch=None):
+def record(agent, seq, parents, kind, what, ch=None):
     """An event in a file: the agent and the parents are numbers."""
-    return number(agent) + number(seq) + number(len(parents), 1) + numbers(parents) + operation(kind, at, ch)
+    return number(agent) + number(seq) + number(len(parents), 1) + numbers(parents) + operation(kind, what, ch)
 
 
 def content(agents, records, count=None):
     """A file without its digest; it may tell of another number of events than it has."""
-    return MARK + counted(map(sized, agents)) + (counted(records) if count is None else number(count) + b"".join(records))
+    return START + counted(map(sized, agents)) + (counted(records) if count is None else number(count) + b"".join(records))
 
 
 def with_digest(content):
@@ -56,9 +58,9 @@ def id_bytes(id):
     return sized(name) + number(seq)
 
 
-def event_bytes(id, parents, kind, at, ch=None):
+def event_bytes(id, parents, kind, what, ch=None):
     """An event in a frame; its parents are ids."""
-    return id_bytes(id) + number(len(parents), 1) + b"".join(map(id_bytes, parents)) + operation(kind, at, ch)
+    return id_bytes(id) + number(len(parents), 1) + b"".join(map(id_bytes, parents)) + operation(kind, what, ch)
 
 
 def frame(kind, body=b""):

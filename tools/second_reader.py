@@ -19,17 +19,18 @@ import stat
 import struct
 import sys
 
-MAX_EVENTS, MAX_FILE, MAX_INPUT, MAX_PARENTS = 1000000, 115000048, 16777216, 16
+MAX_EVENTS, MAX_FILE, MAX_INPUT, MAX_PARENTS = 1000000, 140000048, 16777216, 16
 MAX_NUMBER = 4294967295
 MAX_WAITING, MAX_BODY, MAX_HAVE, PIECE = 65536, 1048576, 4 + 37 * MAX_EVENTS, 4096
+EVENT_ROOM = 664
 ESCAPE = re.compile(r'\\(.?)', re.DOTALL)
 PLAIN = {'n': '\n', '\\': '\\'}
-INSERT, DELETE, LEFT, RIGHT = 0, 1, 0, 1
+INSERT, DELETE, MARK, LEFT, RIGHT = 0, 1, 2, 0, 1
 HAVE, EVENTS, DONE, TOOK, CLASH, BYE = range(1, 7)
 NAME = re.compile('[a-zA-Z0-9_][a-zA-Z0-9_-]{0,31}')
 NUMBER = '(0|[1-9][0-9]{0,9})'
 IDENT = re.compile('(%s):%s' % (NAME.pattern, NUMBER))
-LINE = re.compile('ins %s (.*)|del %s %s' % (NUMBER, NUMBER, NUMBER), re.DOTALL)
+LINE = re.compile('ins %s (.*)|del %s %s|mark (%s)' % (NUMBER, NUMBER, NUMBER, NAME.pattern), re.DOTALL)
 USAGE = 'usage: egw ' + '\n       egw '.join((
     'new FILE', 'edit FILE --agent NAME', 'cat FILE [--at VERSION]', 'heads FILE', 'log FILE',
     'replay FILE', 'check FILE', 'merge FILE OTHER', 'ask FILE', 'serve FILE', 'net',
@@ -37,8 +38,9 @@ USAGE = 'usage: egw ' + '\n       egw '.join((
 
 
 # An id is a pair (name, number), so ids compare as the page orders them.
-# The parents of an event are ids; char is '' for a deletion.
-Event = collections.namedtuple('Event', 'id parents kind index char')
+# The parents of an event are ids. What an insertion has is its character, and a mark its label;
+# a deletion has ''. The index of a mark is None.
+Event = collections.namedtuple('Event', 'id parents kind index what')
 
 
 class Refusal(Exception):
@@ -55,13 +57,27 @@ def name_bytes(name):
     return bytes([len(name)]) + name.encode()
 
 
-def spell_operation(kind, index, char):
-    """An operation or a change as it is written; a change without an index is nothing."""
-    if index is None:
-        return 'nothing'
+def spell_operation(kind, index, what):
+    """An operation as it is written."""
+    if kind == MARK:
+        return 'mark ' + what
     if kind == DELETE:
         return 'del %d' % index
-    return 'ins %d %s' % (index, {'\n': '\\n', '\\': '\\\\'}.get(char, char))
+    return 'ins %d %s' % (index, {'\n': '\\n', '\\': '\\\\'}.get(what, what))
+
+
+def spell_change(kind, index, what):
+    """A change as it is written; one without an index is nothing."""
+    return 'nothing' if index is None else spell_operation(kind, index, what)
+
+
+def operation_bytes(event):
+    """What an event does, as it stands in files and frames."""
+    kind = bytes([event.kind])
+    if event.kind == MARK:
+        return kind + name_bytes(event.what)
+    char = struct.pack('<I', ord(event.what)) if event.kind == INSERT else b''
+    return kind + struct.pack('<I', event.index) + char
 
 
 # Events, histories, texts
@@ -112,7 +128,7 @@ class History:
     is told by a count for each agent: clocks[p] has those of the event at
     position p, with that event itself. reach[p] is the first position that
     isn't one of its ancestors. touched[p] is the node that it inserts or
-    deletes. shown has the nodes of the text, or None.
+    deletes, None for a mark. shown has the nodes of the text, or None.
     """
 
     def __init__(self, file):
@@ -177,6 +193,9 @@ class History:
 
     def place(self, event, known):
         """Do what the event does on the tree."""
+        if event.kind == MARK:
+            self.touched.append(None)
+            return
         seen = self.visible(known)
         if event.index > len(seen) - event.kind:
             raise self.not_good('out of range, length %d' % len(seen))
@@ -189,17 +208,20 @@ class History:
                 parent, side = parent.after, LEFT
                 while not knows(known, parent.id):
                     parent = parent.after
-            node = Node(event.id, event.char)
+            node = Node(event.id, event.what)
             node.hang(parent, side)
             seen.insert(event.index, node)
         self.touched.append(node)
         self.shown = seen if known is None else None
 
     def changes(self):
-        """What each event does to the text of all before it: kind, index or None, char."""
+        """What each event does to the text of all before it: kind, index or None, what."""
         places = {node: place for place, node in enumerate(self.walk())}
         text = []  # the places of its nodes, ascending: no node moves in the walk
         for event, node in zip(self.events, self.touched):
+            if event.kind == MARK:
+                yield event.kind, None, event.what
+                continue
             place = places[node]
             index = bisect.bisect_left(text, place)
             if event.kind == INSERT:
@@ -208,7 +230,7 @@ class History:
                 del text[index]
             else:
                 index = None
-            yield event.kind, index, event.char
+            yield event.kind, index, event.what
 
     def cuts(self):
         """The critical cuts, from the greatest to the least."""
@@ -239,7 +261,7 @@ class Fields:
         self.at += size
         return int.from_bytes(self.data[self.start:self.at], 'little')
 
-    def name(self, names):
+    def name(self, names=()):
         """Take a name that isn't among the names."""
         size = self.number(1)
         self.refuse_if(not 1 <= size <= 32, 'bad name')
@@ -264,9 +286,11 @@ class Fields:
         return tuple(parents)
 
     def operation(self):
-        """Take the kind, the index and the character."""
+        """Take the kind, and the index and the character, or the label."""
         kind = self.number(1)
-        self.refuse_if(kind > DELETE, 'kind')
+        self.refuse_if(kind > MARK, 'kind')
+        if kind == MARK:
+            return kind, None, self.name()
         index = self.number()
         if kind == DELETE:
             return kind, index, ''
@@ -319,9 +343,7 @@ def file_bytes(events):
         agent = agents.setdefault(name, len(agents))
         records.append(struct.pack('<IIB', agent, number, len(event.parents)))
         records.extend(struct.pack('<I', where[parent]) for parent in event.parents)
-        records.append(struct.pack('<BI', event.kind, event.index))
-        if event.kind == INSERT:
-            records.append(struct.pack('<I', ord(event.char)))
+        records.append(operation_bytes(event))
         where[event.id] = len(where)
     body = b''.join([b'EGWFILE\1', struct.pack('<I', len(agents)), *map(name_bytes, agents),
                      struct.pack('<I', len(events)), *records])
@@ -340,6 +362,8 @@ def parse_line(line):
         return None
     if not words or any(int(number or 0) > MAX_NUMBER for number in words.group(1, 3, 4)):
         return None
+    if words[5]:
+        return MARK, 0, 0, words[5]
     if words[1] is None:
         return DELETE, int(words[3]), int(words[4]), ''
     return INSERT, int(words[1]), len(text), text
@@ -357,6 +381,8 @@ def parse_script(data, parse):
 def do_edit(history, agent, number, edit):
     """Do the edit of one line on the history."""
     kind, index, count, text = edit
+    if kind == MARK:
+        return do_mark(history, agent, text)
     length = len(history.visible())
     if (index if kind == INSERT else index + count) > length:
         raise Refusal(5, 'line %d: out of range, length %d' % (number, length))
@@ -369,6 +395,23 @@ def do_edit(history, agent, number, edit):
         at = index if kind == DELETE else index + step
         parents = tuple(sorted(history.heads))
         history.add(Event(ident, parents, kind, at, text[step:step + 1]))
+
+
+def do_mark(history, agent, label):
+    """Join all heads by marks of the agent."""
+    heads = sorted(history.heads)
+    number = len(history.by_agent.get(agent, ()))
+    own = [head for head in heads if number and history.clocks[history.where[head]].get(agent, 0) == number]
+    order = own[:1] + [head for head in heads if head not in own[:1]]
+    groups = [order[:MAX_PARENTS]]
+    groups += [order[at:at + MAX_PARENTS - 1] for at in range(MAX_PARENTS, len(order), MAX_PARENTS - 1)]
+    if len(history.events) + len(groups) > MAX_EVENTS:
+        raise Refusal(7, 'more than %d events' % MAX_EVENTS)
+    before = []
+    for place, group in enumerate(groups):
+        ident = (agent, number + place)
+        history.add(Event(ident, tuple(sorted(before + group)), MARK, None, label))
+        before = [ident]
 
 
 # Frames
@@ -393,14 +436,12 @@ def have_frame(counts):
 def event_bytes(event):
     """An event as it stands in frames."""
     parents = b''.join(map(ident_bytes, event.parents))
-    operation = struct.pack('<BI', event.kind, event.index)
-    char = struct.pack('<I', ord(event.char)) if event.kind == INSERT else b''
-    return ident_bytes(event.id) + bytes([len(event.parents)]) + parents + operation + char
+    return ident_bytes(event.id) + bytes([len(event.parents)]) + parents + operation_bytes(event)
 
 
 def events_frames(events):
     """The Events frames of a list of events, one behind the other."""
-    count = (MAX_BODY - 4) // 639
+    count = (MAX_BODY - 4) // EVENT_ROOM
     parts = [events[at:at + count] for at in range(0, len(events), count)]
     return b''.join(frame(EVENTS, struct.pack('<I', len(part)) + b''.join(map(event_bytes, part)))
                     for part in parts)
@@ -427,12 +468,16 @@ class Body:
         """Take a number of one byte or four."""
         return int.from_bytes(self.take(size), 'little')
 
-    def ident(self):
-        """Take an id, or a name and a count."""
+    def name(self):
+        """Take a name."""
         name = self.take(self.number(1)).decode('latin-1')
         if not NAME.fullmatch(name):
             raise BadBody
-        return name, self.number()
+        return name
+
+    def ident(self):
+        """Take an id, or a name and a count."""
+        return self.name(), self.number()
 
     def counts(self):
         """Take the content of a Have: how many events of each agent."""
@@ -446,11 +491,22 @@ class Body:
         """Take an event."""
         ident = self.ident()
         parents = tuple(self.ident() for _ in range(self.number(1)))
-        kind, index = self.number(1), self.number()
-        scalar = self.number() if kind == INSERT else None
-        if kind > DELETE or scalar and (scalar > 0x10FFFF or 0xD800 <= scalar <= 0xDFFF):
+        return Event(ident, parents, *self.operation())
+
+    def operation(self):
+        """Take the kind, and the index and the character, or the label."""
+        kind = self.number(1)
+        if kind > MARK:
             raise BadBody
-        return Event(ident, parents, kind, index, '' if scalar is None else chr(scalar))
+        if kind == MARK:
+            return kind, None, self.name()
+        index = self.number()
+        if kind == DELETE:
+            return kind, index, ''
+        scalar = self.number()
+        if scalar > 0x10FFFF or 0xD800 <= scalar <= 0xDFFF:
+            raise BadBody
+        return kind, index, chr(scalar)
 
     def events(self):
         """Take the content of an Events frame."""
@@ -860,14 +916,14 @@ def run_log(files, _values):
     lines = []
     for event in load(files[0]).events:
         parents = ','.join(map(spell, event.parents)) or 'root'
-        operation = spell_operation(event.kind, event.index, event.char)
+        operation = spell_operation(event.kind, event.index, event.what)
         lines.append('%s %s %s\n' % (spell(event.id), parents, operation))
     return ''.join(lines)
 
 
 def run_replay(files, _values):
     """Print the changes."""
-    return ''.join(spell_operation(*change) + '\n' for change in load(files[0]).changes())
+    return ''.join(spell_change(*change) + '\n' for change in load(files[0]).changes())
 
 
 def run_check(files, _values):

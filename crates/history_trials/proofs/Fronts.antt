@@ -1,5 +1,5 @@
 -- A history that only grew has the one that it was as its front.
-use Rattle.std.proofs.Common.{◌≡◌, List, [], ◌∷◌, ◌++◌, sym, ap, ◌∙◌, append-nil, append_assoc}
+use Rattle.std.proofs.Common.{◌≡◌, List, [], ◌∷◌, ◌++◌, sym, ◌∙◌, append-nil}
 use Rattle.ew_model.specs.declared.event.Event.{Event}
 use Rattle.replica.specs.Fronts.{IsFront}
 
@@ -8,6 +8,3 @@ same_front first second h = ([], h ∙ sym (append-nil first))
 
 pub next_front : (first second : List Event) (e : Event) → second ≡ first ++ e ∷ [] → IsFront first second
 next_front first second e h = (e ∷ [], h)
-
-pub longer_front : (first second third : List Event) → IsFront first second → IsFront second third → IsFront first third
-longer_front first second third h k = (h.0 ++ k.0, k.1 ∙ ap (λ (l : List Event). l ++ k.0) h.1 ∙ append_assoc first h.0 k.0)

@@ -89,7 +89,7 @@ fn come(graph: &mut Graph, e: &Event) -> Result<Verdict, Fault>
 }
 
 /// The verdicts on the events that come.
-#[tactic(auto, using(crate::proofs::Fronts::same_front, crate::proofs::Fronts::longer_front))]
+#[tactic(auto, using(crate::proofs::Fronts::same_front, replica::proofs::Ways::front_on))]
 fn come_all(alloc: Global, graph: &mut Graph, rest: &str) -> Result<String, Fault>
     ensures { IsFront graph.old graph.new }
 {
@@ -103,12 +103,12 @@ fn come_all(alloc: Global, graph: &mut Graph, rest: &str) -> Result<String, Faul
 }
 
 /// Events come, and are taken out again. Answers the verdicts on them, and how many events there were.
-#[tactic(auto, using(replica::proofs::Fronts::tail_marks))]
+#[tactic(auto, using(replica::proofs::Fronts::hold_stands))]
 fn come_and_go(alloc: Global, graph: &mut Graph, rest: &str) -> Result<String, Fault> {
-    let tail = graph.mark()?;
+    let hold = graph.hold()?;
     let verdicts = come_all(alloc, graph, rest)?;
     let count = graph.count();
-    graph.drop_tail(tail);
+    graph.drop_tail(hold);
     Ok(format!(in alloc; "{verdicts}, {count} events")?)
 }
 

@@ -23,7 +23,7 @@ fn limits(words: &str) -> Result<Limits, Fault> {
         return Ok(Limits::program());
     }
     let (events, waiting) = two_numbers(words)?;
-    Limits::new(events, waiting, 64, 643).ok_or(Fault::Unreadable)
+    Limits::new(events, waiting, 64, 668).ok_or(Fault::Unreadable)
 }
 
 /// A replica within limits, from an empty one on.

@@ -33,7 +33,7 @@ enum End {
     Fault(FrameFault),
 }
 
-/// `643:0300`: what a reader answers to these bytes, where a body has at most so many. They are given in pieces of several lengths,
+/// `668:0300`: what a reader answers to these bytes, where a body has at most so many. They are given in pieces of several lengths,
 /// and the answer has the frames, written again, and how many bytes were given when each came.
 pub fn answer(alloc: Global, asked: &str) -> Result<String, Fault> {
     let (body, digits) = asked.split_once(':').ok_or(Fault::Unreadable)?;

@@ -72,6 +72,7 @@ fn push_edit(out: &mut String, line: u32, edit: &Edit) -> Result<(), NoMem> {
     match edit {
         Edit::Ins { at, text } => write!(out, "{line} ins {at} {:?}", text.as_str()),
         Edit::Del { at, n } => write!(out, "{line} del {at} {n}"),
+        Edit::Mark { label } => write!(out, "{line} mark {label}"),
     }
 }
 

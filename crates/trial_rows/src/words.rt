@@ -1,7 +1,7 @@
 //! The words of a row: ids, operations, events, histories.
 //!
 //! An event is written `b:1 X@3 <a:0,b:0`: its id, the character that it inserts and the index, and its parents. `del@3`
-//! deletes. Events are parted by `;`.
+//! deletes, `mark@NAME` is a mark with the label. Events are parted by `;`.
 
 ghost use Rattle.std.specs.Prelude.{◌<◌, length, IfOk};
 
@@ -70,6 +70,11 @@ pub fn ids(alloc: Global, text: &str) -> Result<Vec<Id>, Fault> {
 
 fn op(text: &str) -> Result<Op, Fault> {
     let (what, at) = text.split_once('@').ok_or(Fault::Unreadable)?;
+    if what == "mark" {
+        return Ok(Op::Mark {
+            label: Name::read(at.as_bytes())?,
+        });
+    }
     let at = number(at)?;
     if what == "del" {
         return Ok(Op::Del { at });
