@@ -9,6 +9,8 @@ use Rattle.peer_definitions.specs.Batches.{IsBatch, journal_events}
 use Rattle.peer_frames.proofs.Journals.{one_journal}
 use Rattle.event_journal.specs.Disk.{written, LeavesJust, StaysWithin}
 use Rattle.event_journal.specs.Journal.{JournalSeen, IsKept, IsKeptOn, Holds, HoldsOneMoreAtMost}
+use Rattle.event_journal.specs.LastingLaw.{Leads}
+use Rattle.event_journal.specs.LastingLaw.Step.{Acknowledged, Unacknowledged}
 use Rattle.event_journal.specs.Writing.{staged, IsTornTwice}
 use Rattle.event_journal.proofs.Moments.{wider}
 use Rattle.event_journal.proofs.Torn.{rest_holds, torn_twice, rests_after, events_pushed}
@@ -24,18 +26,18 @@ module _ (journal : JournalSeen) (batch : List Event) (piece : List ℕ) (is_bat
 
   pub at_each_moment : {D : Type 0} (moment : D → ℕ) (left_since : D → ℕ → List ℕ → Type 0) (old new : D) (told : Option (List ℕ)) (may : List ℕ → Type 0) → IsKeptOn journal told may
       → IfSome told (λ bytes. LeavesJust bytes may → StaysWithin moment left_since old new (IsTornTwice journal.gate piece bytes))
-      → IfSome told (λ bytes. (batches : List (List Event)) → Holds journal.limits.body batches bytes → StaysWithin moment left_since old new (HoldsOneMoreAtMost journal.limits.body batches batch))
+      → IfSome told (λ bytes. StaysWithin moment left_since old new (Leads journal.limits.body (Unacknowledged batch) bytes))
   at_each_moment moment left_since old new None may kept within = tt
-  at_each_moment moment left_since old new (Some bytes) may (batches, kept) within = λ others holds.
-      subst (λ bs. StaysWithin moment left_since old new (HoldsOneMoreAtMost journal.limits.body bs batch)) (sym (known bytes may batches others kept holds))
-      (wider moment left_since old new (IsTornTwice journal.gate piece bytes) (HoldsOneMoreAtMost journal.limits.body batches batch) (within kept.durable) (torn_twice journal.limits.body bytes batches journal.gate kept.at_rest batch piece is_batch is_piece))
+  at_each_moment moment left_since old new (Some bytes) may (batches, kept) within =
+      wider moment left_since old new (IsTornTwice journal.gate piece bytes) (Leads journal.limits.body (Unacknowledged batch) bytes) (within kept.durable)
+      (λ c torn others holds. subst (λ bs. HoldsOneMoreAtMost journal.limits.body bs batch c) (sym (known bytes may batches others kept holds)) (torn_twice journal.limits.body bytes batches journal.gate kept.at_rest batch piece is_batch is_piece c torn))
 
   -- what a crash leaves after it
   pub acknowledged : (told then : Option (List ℕ)) (may now : List ℕ → Type 0) → IsKeptOn journal told may
       → IfSome told (λ bytes. then ≡ Some (written (staged bytes journal.gate piece) journal.gate (1 ∷ []))) → IfSome then (λ bytes. LeavesJust bytes now)
-      → IfSome told (λ bytes. (batches : List (List Event)) → Holds journal.limits.body batches bytes → (c : List ℕ) → now c → Holds journal.limits.body (batches ++ batch ∷ []) c)
+      → IfSome told (λ bytes. (c : List ℕ) → now c → Leads journal.limits.body (Acknowledged batch) bytes c)
   acknowledged None then may now kept is durable = tt
-  acknowledged (Some bytes) then may now (batches, kept) is durable = λ others holds c left.
+  acknowledged (Some bytes) then may now (batches, kept) is durable = λ c left others holds.
       let done = written (staged bytes journal.gate piece) journal.gate (1 ∷ []) in
       let just : LeavesJust done now = subst (λ o. IfSome o (λ b. LeavesJust b now)) is durable in
       let rests = rests_after journal.limits.body bytes batches journal.gate kept.at_rest batch piece is_batch is_piece in

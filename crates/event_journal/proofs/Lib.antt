@@ -7,3 +7,4 @@ pub mod ReadBatches
 pub mod Opening
 pub mod Replay
 pub mod Lasting
+mod Found

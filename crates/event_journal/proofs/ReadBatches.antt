@@ -47,7 +47,6 @@ module _ (limits : LimitNumbers) (bytes : List ℕ) (events : List Event) (place
     last = batch;
     rest = drop (place + len) bytes;
     begins = begins_both;
-    long = omega (arith, ap length first.begins.parts, length-append (journal_bytes (batch ∷ [])) (drop len (drop place bytes)), length-append (batch_bytes batch) [], batch_long batch, length-drop place bytes);
     within = omega (arith, read.within, ap length read.events_are);
     above = above;
     counted = omega (arith, is, size_both);

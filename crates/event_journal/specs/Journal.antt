@@ -68,7 +68,6 @@ pub record HoldsTooMany (limits : LimitNumbers) (count : ℕ) (bytes : List ℕ)
   pub last : List Event
   pub rest : List ℕ
   pub begins : BeginWith limits.body bytes (batches ++ last ∷ []) rest
-  pub long : 2 ≤ length bytes
   pub within : length (journal_events batches) ≤ limits.events
   pub above : limits.events < count
   pub counted : count ≡ length (journal_events (batches ++ last ∷ []))

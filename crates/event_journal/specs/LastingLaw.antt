@@ -13,8 +13,9 @@ pub data Step : Type 0 where
   Unacknowledged : (batch : List Event) → Step
   Crash : Step
 
--- What a step does to the bytes that a crash leaves: those before the step, and those that a crash leaves at a moment of the step. These are
--- the clauses of `Journal::open` and `Journal::append`; an append is acknowledged from its answer on.
+-- What a step does to the bytes that a crash leaves: those before the step, and those that a crash leaves at a moment of the step. The
+-- clauses `any_moment` of `Journal::open` and `Journal::append` and the clause `acknowledged` say it in these words; an append is
+-- acknowledged from its answer on.
 abbrev pub Leads : ℕ → Step → List ℕ → List ℕ → Type 0
 Leads most Opening old new = HoldSame most old new
 Leads most (Acknowledged batch) old new = (batches : List (List Event)) → Holds most batches old → Holds most (batches ++ batch ∷ []) new

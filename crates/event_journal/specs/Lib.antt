@@ -5,3 +5,4 @@ pub mod Writing
 pub mod MemDisk
 pub mod Replay
 pub mod LastingLaw
+pub mod FoundLaw

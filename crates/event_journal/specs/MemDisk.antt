@@ -1,29 +1,49 @@
 -- What a disk in memory holds after its calls, and what a crash may leave of it.
-use Rattle.std.specs.Prelude.{◌≡◌, ◌≤◌, ◌⊎◌, ℕ, List, [], ◌∷◌, length, take}
+use Rattle.std.specs.Prelude.{◌≡◌, ◌≤◌, ◌⊎◌, ℕ, true, false, List, [], ◌∷◌, length, take}
 use Rattle.ew_outside.specs.Memory.{Schedule}
 use Rattle.event_journal.specs.Disk.{written, IsTorn}
 use Rattle.event_journal.specs.declared.mem_disk.DiskCall.{DiskCall}
-use Rattle.event_journal.specs.declared.mem_disk.DiskCall.TheVariants.{Write, Sync}
+use Rattle.event_journal.specs.declared.mem_disk.DiskCall.TheVariants.{Len, Read, Write, FailedWrite, Sync}
+use Rattle.event_journal.specs.declared.mem_disk.Tear.{Tear}
 
--- a disk in memory: its first bytes, the writes and syncs that were answered Ok, in order, and which calls are to fail
+-- a disk in memory: its first bytes, its calls in order, which calls are to fail, and what stands of a write that is to fail
 pub record MemDiskSeen : Type 0 where
   pub first : List ℕ
   pub made : List DiskCall
   pub calls : Schedule
+  pub tear : Tear
+
+-- the bytes after a call
+abbrev pub after : List ℕ → DiskCall → List ℕ
+after bytes (Len failed) = bytes
+after bytes (Read at room failed) = bytes
+after bytes (Write at piece) = written bytes at piece.items
+after bytes (FailedWrite at piece left) = written bytes at left.items
+after bytes (Sync failed) = bytes
 
 -- the bytes after these calls
 abbrev pub content : List ℕ → List DiskCall → List ℕ
 content bytes [] = bytes
-content bytes (Write at piece ∷ made) = content (written bytes at piece.items) made
-content bytes (Sync ∷ made) = content bytes made
+content bytes (call ∷ made) = content (after bytes call) made
 
--- What a crash may leave after these calls, where before them it might have left these: a write is whole, or torn from what a crash might
--- have left before it, and after a sync the bytes stay.
+-- the bytes are torn, by a write of so many bytes, from what a crash might have left before it
+abbrev pub IsTornFrom : (List ℕ → Type 0) → ℕ → ℕ → List ℕ → Type 0
+IsTornFrom before at count c = (d : List ℕ) × before d × IsTorn at count d c
+
+-- What a crash may leave after a call, where before it it might have left these: what stands there after a write, or what is torn by it; and
+-- after a sync that was answered Ok the bytes, which stay.
+abbrev pub leaves : List ℕ → (List ℕ → Type 0) → DiskCall → List ℕ → Type 0
+leaves bytes before (Len failed) c = before c
+leaves bytes before (Read at room failed) c = before c
+leaves bytes before (Write at piece) c = (c ≡ written bytes at piece.items) ⊎ IsTornFrom before at (length piece.items) c
+leaves bytes before (FailedWrite at piece left) c = (c ≡ written bytes at left.items) ⊎ IsTornFrom before at (length piece.items) c
+leaves bytes before (Sync true) c = before c
+leaves bytes before (Sync false) c = c ≡ bytes
+
+-- what a crash may leave after these calls
 abbrev pub MayLeave : List ℕ → (List ℕ → Type 0) → List DiskCall → List ℕ → Type 0
 MayLeave bytes before [] c = before c
-MayLeave bytes before (Write at piece ∷ made) c =
-    MayLeave (written bytes at piece.items) (λ b. (b ≡ written bytes at piece.items) ⊎ ((d : List ℕ) × before d × IsTorn at (length piece.items) d b)) made c
-MayLeave bytes before (Sync ∷ made) c = MayLeave bytes (λ b. b ≡ bytes) made c
+MayLeave bytes before (call ∷ made) c = MayLeave (after bytes call) (leaves bytes before call) made c
 
 -- what a crash may have left after so many of these calls, or more
 abbrev pub LeftSince : List ℕ → List DiskCall → ℕ → List ℕ → Type 0

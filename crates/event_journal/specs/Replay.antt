@@ -1,14 +1,21 @@
 -- That what a disk in memory says of moments is as every disk's: proofs that the code cites.
-use Rattle.std.proofs.Common.{◌≡◌, ◌≤◌, ◌⊎◌, inl, ℕ, List, [], ◌∷◌, length, take, refl, sym, ap, subst, ◌∙◌, arith}
-use Rattle.event_journal.specs.Disk.{written, IsTorn}
-use Rattle.event_journal.specs.MemDisk.{content, MayLeave, LeftSince}
+use Rattle.std.proofs.Common.{◌≡◌, ◌≤◌, inl, ℕ, true, false, List, [], ◌∷◌, length, take, refl, sym, ap, subst, ◌∙◌, arith}
+use Rattle.event_journal.specs.MemDisk.{after, content, leaves, MayLeave, LeftSince}
 use Rattle.event_journal.specs.declared.mem_disk.DiskCall.{DiskCall}
-use Rattle.event_journal.specs.declared.mem_disk.DiskCall.TheVariants.{Write, Sync}
+use Rattle.event_journal.specs.declared.mem_disk.DiskCall.TheVariants.{Len, Read, Write, FailedWrite, Sync}
+
+-- the bytes after a call are among those that a crash may leave then
+pub reads_after : (bytes : List ℕ) (before : List ℕ → Type 0) (call : DiskCall) → before bytes → leaves bytes before call (after bytes call)
+reads_after bytes before (Len failed) now = now
+reads_after bytes before (Read at room failed) now = now
+reads_after bytes before (Write at piece) now = inl refl
+reads_after bytes before (FailedWrite at piece left) now = inl refl
+reads_after bytes before (Sync true) now = now
+reads_after bytes before (Sync false) now = refl
 
 pub reads_one : (bytes : List ℕ) (before : List ℕ → Type 0) (made : List DiskCall) → before bytes → MayLeave bytes before made (content bytes made)
 reads_one bytes before [] now = now
-reads_one bytes before (Write at piece ∷ made) now = reads_one (written bytes at piece.items) (λ b. (b ≡ written bytes at piece.items) ⊎ ((d : List ℕ) × before d × IsTorn at (length piece.items) d b)) made (inl refl)
-reads_one bytes before (Sync ∷ made) now = reads_one bytes (λ b. b ≡ bytes) made refl
+reads_one bytes before (call ∷ made) now = reads_one (after bytes call) (leaves bytes before call) made (reads_after bytes before call now)
 
 take_whole : (made : List DiskCall) → take (length made) made ≡ made
 take_whole [] = refl

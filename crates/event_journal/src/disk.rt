@@ -11,7 +11,8 @@ pub trait Disk {
     /// The bytes that a read gives, where the disk tells them, and the count of faults.
     ghost seen: { Self → DiskSeen };
 
-    /// What a crash at this moment may leave.
+    /// What a crash at this moment may leave. The calls' clauses bound it from above alone: a disk of which a crash leaves less meets them
+    /// too. `reads_one` says that what is read is among it.
     ghost may_leave: { Self → List ℕ → Type 0 };
 
     /// The moment, as a number that never falls.

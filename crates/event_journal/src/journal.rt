@@ -9,7 +9,9 @@ ghost use Rattle.peer_definitions.specs.Spelling.{events_body};
 ghost use Rattle.peer_definitions.specs.Batches.{IsBatch};
 ghost use Rattle.event_journal.specs.Disk.{TellsAlike, StaysWithin};
 ghost use Rattle.event_journal.specs.Writing.{with_batch};
-ghost use Rattle.event_journal.specs.Journal.{CountsOpening, IsKept, IsKeptOn, Holds, HoldsOneMoreAtMost, HoldSame, HoldsEvents, IsBadAt, HoldsTooMany};
+ghost use Rattle.event_journal.specs.Journal.{CountsOpening, IsKeptOn, HoldsEvents, IsBadAt, HoldsTooMany};
+ghost use Rattle.event_journal.specs.LastingLaw.{Leads};
+ghost use Rattle.event_journal.specs.LastingLaw.Step.{Opening, Acknowledged, Unacknowledged};
 
 use crate::disk::Disk;
 use crate::fault::{AppendFault, OpenFault};
@@ -65,8 +67,8 @@ impl Journal {
         ensures begun { OnOk result (IfSome (D.seen disk.old).bytes (λ bytes. length bytes < 2 → (D.seen disk.new).bytes ≡ Some (0 ∷ []))) }
         // The disk tells its bytes exactly where it did before.
         ensures tells { TellsAlike (D.seen disk.old).bytes (D.seen disk.new).bytes }
-        // A crash at any moment of the call leaves batches that a crash just before it could have left.
-        ensures any_moment { IfSome (D.seen disk.old).bytes (λ _. StaysWithin D.moment D.left_since disk.old disk.new (λ c. (d : List ℕ) × D.may_leave disk.old d × HoldSame limits.now.body d c)) }
+        // A crash at any moment of the call leaves batches that a crash just before it could have left: this is the law's step.
+        ensures any_moment { IfSome (D.seen disk.old).bytes (λ _. StaysWithin D.moment D.left_since disk.old disk.new (λ c. (d : List ℕ) × D.may_leave disk.old d × Leads limits.now.body Opening d c)) }
         // The count of faults rises where the disk failed, and only there.
         ensures faults { CountsOpening (D.seen disk.old).faults (D.seen disk.new).faults result }
         // Why it isn't opened.
@@ -121,15 +123,15 @@ impl Journal {
         requires few { length events.now ≤ (self.old.limits.body - COUNT_BYTES) / MOST_EVENT_BYTES }
         requires parents { AllByRecursion (λ e. length e.parents ≤ MOST_PARENTS) events.now }
         requires room { self.old.count + length events.now ≤ self.old.limits.events }
-        // At Ok the batch stands behind the others, and every crash leaves it.
+        // At Ok the batch stands behind the others, and every crash leaves it: this is the law's step of an append that is acknowledged.
         ensures kept { OnOk result (IsKeptOn self.new (D.seen disk.new).bytes (D.may_leave disk.new)) }
-        ensures acknowledged { OnOk result (IfSome (D.seen disk.old).bytes (λ bytes. (batches : List (List Event)) → Holds self.old.limits.body batches bytes → (c : List ℕ) → D.may_leave disk.new c → Holds self.old.limits.body (batches ++ events.now ∷ []) c)) }
+        ensures acknowledged { OnOk result (IfSome (D.seen disk.old).bytes (λ bytes. (c : List ℕ) → D.may_leave disk.new c → Leads self.old.limits.body (Acknowledged events.now) bytes c)) }
         ensures bytes { OnOk result (IfSome (D.seen disk.old).bytes (λ bytes. (D.seen disk.new).bytes ≡ Some (with_batch bytes self.old.gate events.now))) }
         ensures counted { OnOk result (self.new ≡ record self.old { gate = self.new.gate; count = self.old.count + length events.now }) }
         // The disk tells its bytes exactly where it did before.
         ensures tells { TellsAlike (D.seen disk.old).bytes (D.seen disk.new).bytes }
-        // A crash at any moment of the call leaves the batches from before, or these and the new one.
-        ensures any_moment { self.old.failed ≡ false → IfSome (D.seen disk.old).bytes (λ bytes. (batches : List (List Event)) → Holds self.old.limits.body batches bytes → StaysWithin D.moment D.left_since disk.old disk.new (HoldsOneMoreAtMost self.old.limits.body batches events.now)) }
+        // A crash at any moment of the call leaves the batches from before, or these and the new one: the law's step of an append that isn't.
+        ensures any_moment { self.old.failed ≡ false → IfSome (D.seen disk.old).bytes (λ bytes. StaysWithin D.moment D.left_since disk.old disk.new (Leads self.old.limits.body (Unacknowledged events.now) bytes)) }
         // At Ok the count of faults is as before.
         ensures quiet { OnOk result ((D.seen disk.new).faults ≡ (D.seen disk.old).faults) }
         // Why it isn't added.

@@ -17,5 +17,5 @@ pub use disk::Disk;
 pub use fault::{AppendFault, OpenFault};
 pub use file_disk::FileDisk;
 pub use journal::Journal;
-pub use laws::law_lasting;
+pub use laws::{law_found, law_lasting};
 pub use mem_disk::{DiskCall, MemDisk, Tear};

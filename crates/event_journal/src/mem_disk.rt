@@ -1,8 +1,9 @@
-//! A disk in memory, which keeps all calls that changed it, and fails where a test asks for it.
+//! A disk in memory, which keeps all its calls, and fails where a test asks for it.
 
-ghost use Rattle.std.specs.Prelude.{◌≡◌, ◌≤◌, ◌↔◌, List, [], ◌∷◌, ◌++◌, refl, length, take, Option, Some, Result, Ok, Err, OnOk, OnErr, IsErr, IfOk};
-ghost use Rattle.event_journal.specs.Disk.{written, IsTorn};
-ghost use Rattle.event_journal.specs.MemDisk.{content, MayLeave, LeftSince};
+ghost use Rattle.std.specs.Prelude.{◌≡◌, ◌≤◌, ◌⊎◌, false, List, [], ◌∷◌, ◌++◌, refl, length, take, Option, Some, Result, Ok, Err, OnOk, OnErr, IfOk};
+ghost use Rattle.ew_outside.specs.Counts.{Counts};
+ghost use Rattle.event_journal.specs.Disk.{written, IsTorn, ReadGives};
+ghost use Rattle.event_journal.specs.MemDisk.{after, content, leaves, MayLeave, LeftSince};
 ghost use Rattle.event_journal.specs.Replay.{reads_one, counts_now, only_now};
 
 use crate::disk::Disk;
@@ -11,22 +12,41 @@ use ew_outside::{Calls, Failed};
 use std::alloc::Global;
 use std::marker::Model;
 
-/// A call that changed a disk, or what a crash may leave of it.
+/// A call of a disk.
 #[derive(Drop)]
 pub enum DiskCall {
-    Write { at: u64, bytes: Vec<u8> },
-    Sync,
+    Len {
+        failed: bool,
+    },
+    Read {
+        at: u64,
+        room: usize,
+        failed: bool,
+    },
+    Write {
+        at: u64,
+        bytes: Vec<u8>,
+    },
+    /// A write that failed, and what stands there in place of its bytes.
+    FailedWrite {
+        at: u64,
+        bytes: Vec<u8>,
+        left: Vec<u8>,
+    },
+    Sync {
+        failed: bool,
+    },
 }
 
-/// What stands in place of a write that isn't synced: so many of its first bytes, or one byte all over.
+/// What stands in place of a write that isn't synced, or that failed: so many of its first bytes, or one byte all over.
 #[derive(Clone, Copy, Debug)]
 pub enum Tear {
     Front { count: usize },
     Noise { byte: u8 },
 }
 
-/// Bytes in memory. Exactly the listed calls fail, and those that memory ran out for; a call that failed changed nothing. Each write
-/// copies the bytes, so this disk is for trials.
+/// Bytes in memory. Exactly the listed calls fail, and those that memory ran out for. Of a write that is listed there stands what the
+/// tear says; any other call that failed changed nothing. Each call is kept, and a write with its bytes, so this disk is for trials.
 #[derive(Drop)]
 pub struct MemDisk {
     alloc: Global,
@@ -34,6 +54,7 @@ pub struct MemDisk {
     bytes: Vec<u8>,
     made: Vec<DiskCall>,
     calls: Calls,
+    tear: Tear,
 }
 
 impl Model for MemDisk {
@@ -42,15 +63,20 @@ impl Model for MemDisk {
 
     ghost Value = { MemDiskSeen };
 
-    ghost view = { λ d. record { first = d.first.items; made = d.made.items; calls = d.calls } };
+    ghost view = { λ d. record { first = d.first.items; made = d.made.items; calls = d.calls; tear = d.tear } };
 
     ghost invariant = { λ d. d.bytes.items ≡ content d.first.items d.made.items };
 }
 
 impl MemDisk {
     /// A disk with these bytes, all of them synced. The first call has the number 0 in the list.
-    pub fn new(alloc: Global, bytes: Vec<u8>, failing: Vec<u64>) -> Result<MemDisk, NoMem>
-        ensures { IfOk result (λ disk. disk ≡ record { first = bytes.items; made = []; calls = record { failing = failing.items; made = 0; faults = 0 } }) }
+    pub fn new(
+        alloc: Global,
+        bytes: Vec<u8>,
+        failing: Vec<u64>,
+        tear: Tear,
+    ) -> Result<MemDisk, NoMem>
+        ensures { IfOk result (λ disk. disk ≡ record { first = bytes.items; made = []; calls = record { failing = failing.items; made = 0; faults = 0 }; tear = tear }) }
     {
         let first = bytes.to_vec(alloc)?;
         Ok(MemDisk {
@@ -59,6 +85,7 @@ impl MemDisk {
             bytes,
             made: Vec::new(alloc),
             calls: Calls::new(failing),
+            tear,
         })
     }
 
@@ -69,7 +96,7 @@ impl MemDisk {
         &self.bytes
     }
 
-    /// The writes and the syncs that were answered Ok, in order.
+    /// All calls that memory didn't run out for, in order.
     pub fn made(&self) -> &[DiskCall]
         ensures { result.now ≡ self.now.made }
     {
@@ -83,7 +110,8 @@ impl MemDisk {
         let mut bytes = self.first.to_vec(self.alloc)?;
         let mut image = self.first.to_vec(self.alloc)?;
         for call in &self.made[..count.min(self.made.len())] {
-            replay(self.alloc, call, tear, &mut bytes, &mut image)?;
+            replay_torn(self.alloc, call, tear, &bytes, &mut image)?;
+            replay(self.alloc, call, &mut bytes)?;
         }
         Ok(image)
     }
@@ -123,26 +151,62 @@ fn torn_piece(alloc: Global, piece: &[u8], tear: Tear) -> Result<Vec<u8>, NoMem>
     }
 }
 
-/// Makes a call again: on the bytes as it was made, and on the image torn, until a sync.
-fn replay(
-    alloc: Global,
-    call: &DiskCall,
-    tear: Tear,
-    bytes: &mut Vec<u8>,
-    image: &mut Vec<u8>,
-) -> Result<(), NoMem>
-    ensures bytes { OnOk result (bytes.new.items ≡ content bytes.old.items (call.now ∷ [])) }
-    ensures image { OnOk result (MayLeave bytes.old.items (λ b. b ≡ image.old.items) (call.now ∷ []) image.new.items) }
+/// Makes a call again.
+fn replay(alloc: Global, call: &DiskCall, bytes: &mut Vec<u8>) -> Result<(), NoMem>
+    ensures { OnOk result (bytes.new.items ≡ after bytes.old.items call.now) }
 {
     match call {
         DiskCall::Write { at, bytes: piece } => {
-            let at = *at as usize;
-            *bytes = write_over(alloc, bytes, at, piece)?;
-            if at <= image.len() {
-                *image = write_over(alloc, image, at, &torn_piece(alloc, piece, tear)?)?;
-            }
+            *bytes = write_over(alloc, bytes, *at as usize, piece)?;
+            Ok(())
         }
-        DiskCall::Sync => *image = bytes.to_vec(alloc)?,
+        DiskCall::FailedWrite { at, left, .. } => {
+            *bytes = write_over(alloc, bytes, *at as usize, left)?;
+            Ok(())
+        }
+        DiskCall::Len { .. } | DiskCall::Read { .. } | DiskCall::Sync { .. } => Ok(()),
+    }
+}
+
+/// Makes a call again on an image, where before it a read gave these bytes: a write is torn, until a sync.
+fn replay_torn(
+    alloc: Global,
+    call: &DiskCall,
+    tear: Tear,
+    bytes: &[u8],
+    image: &mut Vec<u8>,
+) -> Result<(), NoMem>
+    ensures { OnOk result (leaves bytes.now (λ b. b ≡ image.old.items) call.now image.new.items) }
+{
+    match call {
+        DiskCall::Write { at, bytes: piece } => tear_image(alloc, image, *at as usize, piece, tear),
+        DiskCall::FailedWrite {
+            at,
+            bytes: piece,
+            ..
+        } => tear_image(alloc, image, *at as usize, piece, tear),
+        DiskCall::Sync { failed } => {
+            if !*failed {
+                *image = bytes.to_vec(alloc)?;
+            }
+            Ok(())
+        }
+        DiskCall::Len { .. } | DiskCall::Read { .. } => Ok(()),
+    }
+}
+
+/// Writes what is left of a torn piece over an image, where it reaches so far.
+fn tear_image(
+    alloc: Global,
+    image: &mut Vec<u8>,
+    at: usize,
+    piece: &[u8],
+    tear: Tear,
+) -> Result<(), NoMem>
+    ensures { OnOk result (IsTorn at (length piece.now) image.old.items image.new.items) }
+{
+    if at <= image.len() {
+        *image = write_over(alloc, image, at, &torn_piece(alloc, piece, tear)?)?;
     }
     Ok(())
 }
@@ -163,33 +227,43 @@ impl Disk for MemDisk {
     ghost only_now = { λ d c left. only_now d.first d.made c left };
 
     fn len(&mut self) -> Result<u64, Failed> {
-        if self.calls.fails_next() {
-            self.calls.count(true);
-            return Err(Failed);
-        }
-        self.calls.count(false);
+        let failed = self.calls.fails_next();
+        note(
+            &mut self.made,
+            &mut self.calls,
+            DiskCall::Len { failed },
+            failed,
+        )?;
         Ok(self.bytes.len() as u64)
     }
 
     fn read(&mut self, at: u64, buf: &mut [u8]) -> Result<usize, Failed> {
-        if self.calls.fails_next() {
-            self.calls.count(true);
-            return Err(Failed);
-        }
-        self.calls.count(false);
-        let at = at as usize;
-        if at >= self.bytes.len() {
-            return Ok(0);
-        }
-        let count = (self.bytes.len() - at).min(buf.len());
-        buf[..count].copy_from_slice(&self.bytes[at..at + count]);
-        Ok(count)
+        let failed = self.calls.fails_next();
+        let room = buf.len();
+        note(
+            &mut self.made,
+            &mut self.calls,
+            DiskCall::Read { at, room, failed },
+            failed,
+        )?;
+        Ok(read_from(&self.bytes, at, buf))
     }
 
     fn write_at(&mut self, at: u64, bytes: &[u8]) -> Result<(), Failed> {
         if self.calls.fails_next() {
             self.calls.count(true);
-            return Err(Failed);
+            return match fail_to_write(
+                self.alloc,
+                &mut self.bytes,
+                &mut self.made,
+                at,
+                bytes,
+                self.tear,
+            ) {
+                Ok(()) => Err(Failed),
+                // Nothing stands of it.
+                Err(NoMem) => Err(Failed),
+            };
         }
         match record_write(self.alloc, &mut self.bytes, &mut self.made, at, bytes) {
             Ok(()) => {
@@ -204,33 +278,55 @@ impl Disk for MemDisk {
     }
 
     fn sync(&mut self) -> Result<(), Failed> {
-        if self.calls.fails_next() {
-            self.calls.count(true);
-            return Err(Failed);
+        let failed = self.calls.fails_next();
+        note(
+            &mut self.made,
+            &mut self.calls,
+            DiskCall::Sync { failed },
+            failed,
+        )?;
+        Ok(())
+    }
+}
+
+/// Moves bytes from a place on into the buffer, and says how many.
+fn read_from(bytes: &[u8], at: u64, buf: &mut [u8]) -> usize
+    ensures { ReadGives (Some bytes.now) at (Ok result) buf.new }
+{
+    let at = at as usize;
+    if at >= bytes.len() {
+        return 0;
+    }
+    let count = (bytes.len() - at).min(buf.len());
+    buf[..count].copy_from_slice(&bytes[at..at + count]);
+    count
+}
+
+/// Keeps a call and counts it. It fails where it is to fail, and where memory runs out for keeping it.
+fn note(
+    made: &mut Vec<DiskCall>,
+    calls: &mut Calls,
+    call: DiskCall,
+    fails: bool,
+) -> Result<(), Failed>
+    ensures kept { OnOk result (made.new.items ≡ made.old.items ++ call ∷ []) }
+    ensures kept_or_same { OnErr result ((made.new.items ≡ made.old.items) ⊎ (made.new.items ≡ made.old.items ++ call ∷ [])) }
+    ensures succeeds { OnOk result (fails ≡ false) }
+    ensures cause { Counts calls.old.faults calls.new.faults result }
+{
+    match made.push(call) {
+        Ok(()) => {
+            calls.count(fails);
+            if fails { Err(Failed) } else { Ok(()) }
         }
-        match record_sync(&mut self.made) {
-            Ok(()) => {
-                self.calls.count(false);
-                Ok(())
-            }
-            Err(NoMem) => {
-                self.calls.count(true);
-                Err(Failed)
-            }
+        Err(_) => {
+            calls.count(true);
+            Err(Failed)
         }
     }
 }
 
-/// Adds a sync to the calls that were made.
-fn record_sync(made: &mut Vec<DiskCall>) -> Result<(), NoMem>
-    ensures made { OnOk result (made.new.items ≡ made.old.items ++ DiskCall.Sync ∷ []) }
-    ensures same { OnErr result (made.new.items ≡ made.old.items) }
-{
-    made.push(DiskCall::Sync)?;
-    Ok(())
-}
-
-/// Writes a piece over the bytes, and adds the write to the calls that were made.
+/// Writes a piece over the bytes, and keeps the write.
 fn record_write(
     alloc: Global,
     bytes: &mut Vec<u8>,
@@ -246,6 +342,31 @@ fn record_write(
     let next = write_over(alloc, bytes, at as usize, piece)?;
     let kept = piece.to_vec(alloc)?;
     made.push(DiskCall::Write { at, bytes: kept })?;
+    *bytes = next;
+    Ok(())
+}
+
+/// Writes what is left of a write that fails over the bytes, and keeps both. Nothing is written where memory runs out.
+fn fail_to_write(
+    alloc: Global,
+    bytes: &mut Vec<u8>,
+    made: &mut Vec<DiskCall>,
+    at: u64,
+    piece: &[u8],
+    tear: Tear,
+) -> Result<(), NoMem>
+    requires { at ≤ length bytes.old.items }
+    ensures torn { OnOk result ((v : _) × (left : _) × (v.items ≡ piece.now) × (length left.items ≤ length piece.now) × (bytes.new.items ≡ written bytes.old.items at left.items) × (made.new.items ≡ made.old.items ++ DiskCall.FailedWrite at v left ∷ [])) }
+    ensures same { OnErr result ((bytes.new.items ≡ bytes.old.items) × (made.new.items ≡ made.old.items)) }
+{
+    let left = torn_piece(alloc, piece, tear)?;
+    let next = write_over(alloc, bytes, at as usize, &left)?;
+    let kept = piece.to_vec(alloc)?;
+    made.push(DiskCall::FailedWrite {
+        at,
+        bytes: kept,
+        left,
+    })?;
     *bytes = next;
     Ok(())
 }

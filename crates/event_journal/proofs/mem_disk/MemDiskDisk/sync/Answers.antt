@@ -1,23 +1,32 @@
-use Rattle.std.proofs.Common.{◌∙◌, Some, sym, ap}
-use Rattle.event_journal.specs.MemDisk.{content}
+use Rattle.std.proofs.Common.{inr, Some, refl, sym, ap, ◌∙◌}
 use Rattle.event_journal.specs.declared.mem_disk.DiskCall.TheVariants.{Sync}
-use Rattle.event_journal.proofs.Replay.{time_after, time_pushed, content_then, content_pushed, synced_just, synced_no_more}
+use Rattle.event_journal.proofs.Replay.{noted_same, time_noted, content_noted, less_noted, synced_less, synced_false, synced_just}
 use Rattle.event_journal.proofs.mem_disk.MemDiskDisk.sync.Goals as goal
 
-pub invariant_of-self-in-Ok : goal.invariant_of-self-in-Ok
-invariant_of-self-in-Ok c = c.self.invariant ∙ sym (content_pushed c.self.inside.first.items c.self.inside.made.items Sync) ∙ sym (ap (λ l. content c.self.inside.first.items l) c.in-Ok.ensures.made)
+pub invariant_of-self : goal.invariant_of-self
+invariant_of-self c = c.self.invariant ∙ sym (noted_same c.self.inside.first.items c.self.inside.made.items c.note.new.made.items (Sync c.fails_next-failed.result) (λ b. refl) c.in_err-note.ensures.kept_or_same)
 
-pub returns-in-Ok-clause-durable : goal.returns-in-Ok-clause-durable
-returns-in-Ok-clause-durable c = synced_just c.args.self.now (record { first = c.self.inside.first.items; made = c.self.inside.made.items; calls = c.self.inside.calls }) c.self.view_is c.record_sync.new.made.items c.in-Ok.ensures.made
+pub returns-in_err-note-clause-bytes : goal.returns-in_err-note-clause-bytes
+returns-in_err-note-clause-bytes c = ap Some (content_noted c.args.self.now (record { first = c.self.inside.first.items; made = c.self.inside.made.items; calls = c.self.inside.calls; tear = c.self.inside.tear }) c.self.view_is c.note.new.made.items (Sync c.fails_next-failed.result) (λ b. refl) c.in_err-note.ensures.kept_or_same)
 
-pub returns-in-Ok-clause-bytes : goal.returns-in-Ok-clause-bytes
-returns-in-Ok-clause-bytes c = ap Some (content_then c.args.self.now (record { first = c.self.inside.first.items; made = c.self.inside.made.items; calls = c.self.inside.calls }) c.self.view_is c.record_sync.new.made.items Sync c.in-Ok.ensures.made)
+pub returns-in_err-note-clause-crash : goal.returns-in_err-note-clause-crash
+returns-in_err-note-clause-crash c = less_noted c.args.self.now (record { first = c.self.inside.first.items; made = c.self.inside.made.items; calls = c.self.inside.calls; tear = c.self.inside.tear }) c.self.view_is c.note.new.made.items (Sync c.fails_next-failed.result) (synced_less c.args.self.now (record { first = c.self.inside.first.items; made = c.self.inside.made.items; calls = c.self.inside.calls; tear = c.self.inside.tear }) c.self.view_is c.fails_next-failed.result) c.in_err-note.ensures.kept_or_same
 
-pub returns-in-Ok-clause-crash : goal.returns-in-Ok-clause-crash
-returns-in-Ok-clause-crash c = synced_no_more c.args.self.now (record { first = c.self.inside.first.items; made = c.self.inside.made.items; calls = c.self.inside.calls }) c.self.view_is c.record_sync.new.made.items c.in-Ok.ensures.made
+pub returns-in_err-note-clause-time : goal.returns-in_err-note-clause-time
+returns-in_err-note-clause-time c = time_noted c.args.self.now (record { first = c.self.inside.first.items; made = c.self.inside.made.items; calls = c.self.inside.calls; tear = c.self.inside.tear }) c.self.view_is c.note.new.made.items (Sync c.fails_next-failed.result) c.in_err-note.ensures.kept_or_same
 
-pub returns-in-Ok-clause-time : goal.returns-in-Ok-clause-time
-returns-in-Ok-clause-time c = time_pushed c.args.self.now (record { first = c.self.inside.first.items; made = c.self.inside.made.items; calls = c.self.inside.calls }) c.self.view_is c.record_sync.new.made.items Sync c.in-Ok.ensures.made
+pub invariant_of-self-2 : goal.invariant_of-self-2
+invariant_of-self-2 c = c.self.invariant ∙ sym (noted_same c.self.inside.first.items c.self.inside.made.items c.note.new.made.items (Sync c.fails_next-failed.result) (λ b. refl) (inr c.in_ok-note.ensures.kept))
 
-pub returns-in-Err-clause-time : goal.returns-in-Err-clause-time
-returns-in-Err-clause-time c = time_after c.args.self.now (record { first = c.self.inside.first.items; made = c.self.inside.made.items; calls = c.self.inside.calls }) c.self.view_is c.record_sync.new.made.items c.in-Err.ensures.same
+pub returns-clause-bytes : goal.returns-clause-bytes
+returns-clause-bytes c = ap Some (content_noted c.args.self.now (record { first = c.self.inside.first.items; made = c.self.inside.made.items; calls = c.self.inside.calls; tear = c.self.inside.tear }) c.self.view_is c.note.new.made.items (Sync c.fails_next-failed.result) (λ b. refl) (inr c.in_ok-note.ensures.kept))
+
+pub returns-clause-crash : goal.returns-clause-crash
+returns-clause-crash c = less_noted c.args.self.now (record { first = c.self.inside.first.items; made = c.self.inside.made.items; calls = c.self.inside.calls; tear = c.self.inside.tear }) c.self.view_is c.note.new.made.items (Sync c.fails_next-failed.result) (synced_less c.args.self.now (record { first = c.self.inside.first.items; made = c.self.inside.made.items; calls = c.self.inside.calls; tear = c.self.inside.tear }) c.self.view_is c.fails_next-failed.result) (inr c.in_ok-note.ensures.kept)
+
+pub returns-clause-time : goal.returns-clause-time
+returns-clause-time c = time_noted c.args.self.now (record { first = c.self.inside.first.items; made = c.self.inside.made.items; calls = c.self.inside.calls; tear = c.self.inside.tear }) c.self.view_is c.note.new.made.items (Sync c.fails_next-failed.result) (inr c.in_ok-note.ensures.kept)
+
+pub returns-clause-durable : goal.returns-clause-durable
+returns-clause-durable c =
+    synced_just c.args.self.now (record { first = c.self.inside.first.items; made = c.self.inside.made.items; calls = c.self.inside.calls; tear = c.self.inside.tear }) c.self.view_is c.note.new.made.items (synced_false c.args.self.now (record { first = c.self.inside.first.items; made = c.self.inside.made.items; calls = c.self.inside.calls; tear = c.self.inside.tear }) c.self.view_is c.note.new.made.items c.fails_next-failed.result c.in_ok-note.ensures.succeeds c.in_ok-note.ensures.kept)
