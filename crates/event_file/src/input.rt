@@ -1,6 +1,6 @@
 //! The content of a file as it is read, and the fields that stand in it.
 
-ghost use Rattle.std.specs.Prelude.{◌≡◌, true, Ok};
+ghost use Rattle.std.specs.Prelude.{◌≡◌, true, Ok, IfSome};
 ghost use Rattle.file_words.specs.FileFaults.{byte, number, field, only, is_scalar, read_name, read_mark, read_op};
 ghost use Rattle.file_words.specs.FileFaults.RecordFault.{Scalar};
 ghost use Rattle.event_file.specs.Progress.{BeginsBy};
@@ -114,6 +114,26 @@ impl<'a> Input<'a> {
         }
         let ch = self.character()?;
         Ok(Op::Ins { at, ch })
+    }
+
+    /// The operation of an insertion or a deletion. None where the record says something else or can't be read: then some bytes may
+    /// be taken off. It reads what `operation` reads, and is short enough to be compiled into its caller.
+    #[tactic(auto, unfolding(file_words::specs::FileFaults::read_op))]
+    pub(crate) fn insertion_or_deletion(&mut self) -> Option<Op>
+        ensures { IfSome result (λ op. read_op self.old.left.now ≡ Ok (op, self.new.left.now)) }
+    {
+        match self.byte() {
+            Ok(INSERTION) => {
+                let at = self.number().ok()?;
+                let ch = self.character().ok()?;
+                Some(Op::Ins { at, ch })
+            }
+            Ok(DELETION) => {
+                let at = self.number().ok()?;
+                Some(Op::Del { at })
+            }
+            _ => None,
+        }
     }
 
     fn mark(&mut self) -> Result<Op, Stop>

@@ -18,13 +18,11 @@ use crate::short_id::ShortId;
 use ew_model::NoMem;
 use ew_model::event::{Event, Op};
 use ew_model::id::Id;
+use ew_model::limits::MOST_PARENTS;
 use ew_model::name::Name;
 use ew_model::parents::Parents;
 use std::alloc::Global;
 use std::marker::Model;
-
-/// The most parents of an event.
-const MOST_PARENTS: u8 = 16;
 
 /// The agents of a file and the ids of its events so far, in their order. Contracts see the agents, and events of which the ids
 /// are known.
@@ -107,9 +105,7 @@ impl Progress {
         if !ahead.begins(next, position) {
             return None;
         }
-        let Ok(op) = ahead.operation() else {
-            return None;
-        };
+        let op = ahead.insertion_or_deletion()?;
         if !self.keep_next(next) {
             return None;
         }
@@ -278,7 +274,7 @@ fn parent_count(input: &mut Input) -> Result<u8, Stop>
 {
     let field = input.left;
     let count = input.byte()?;
-    if count > MOST_PARENTS {
+    if count as u32 > MOST_PARENTS {
         return Err(bad_field(field, RecordFault::ParentCount));
     }
     Ok(count)

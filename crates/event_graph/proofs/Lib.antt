@@ -6,6 +6,7 @@ pub mod Found
 pub mod GoingOn
 pub mod Rebuilt
 pub mod Grown
+mod HeadsReduced
 pub mod Numbers
 pub mod OneHead
 pub mod Appended

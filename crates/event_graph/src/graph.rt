@@ -1,6 +1,6 @@
 //! The graph.
 
-ghost use Rattle.std.specs.Prelude.{◌≡◌, ◌+◌, ◌-◌, ◌<◌, ◌≤◌, ◌^◌, List, [], ◌∷◌, ◌++◌, map, length, true, Some, slice_get, position, find, not, option_map, IfOk, IfSome, IsOkAnd, OnOk, OnErr};
+ghost use Rattle.std.specs.Prelude.{◌≡◌, ℕ, ◌+◌, ◌-◌, ◌<◌, ◌≤◌, ◌^◌, List, [], ◌∷◌, ◌++◌, map, length, true, Some, slice_get, position, find, not, option_map, IfOk, IfSome, IsOkAnd, IsTrue, OnOk, OnErr};
 ghost use Rattle.std.specs.List.{All};
 ghost use Rattle.std.specs.Option.{option_copied};
 ghost use Rattle.ew_model.specs.declared.id.Id.{Id};
@@ -11,7 +11,9 @@ ghost use Rattle.ew_model.specs.Cuts.{is_critical, latest_cut};
 ghost use Rattle.ew_model.specs.Edits.{count_of};
 ghost use Rattle.ew_model.specs.Ids.{id_eq, is_among, ids_ascend};
 ghost use Rattle.ew_model.specs.Positions.{parents_at, known_alone, positions_in, parent_positions};
+ghost use Rattle.ew_model.specs.Sets.{Among};
 ghost use Rattle.ew_model.specs.Sound.{AreSound};
+ghost use Rattle.ew_model.specs.TextLaws.{own_change};
 ghost use Rattle.ew_model.specs.Verdicts.{id_rows, parent_rows, first_unknown, has_number_below, follows_its_agent, graph_verdict};
 ghost use Rattle.ew_model.specs.Verdicts.Ruling.{Good};
 ghost use Rattle.frontier.specs.Chains.{IsChain};
@@ -37,16 +39,15 @@ use event_runs::EventRuns;
 use ew_model::NoMem;
 use ew_model::event::{Event, Op};
 use ew_model::id::Id;
+use ew_model::limits::MOST_PARENTS;
 use ew_model::name::Name;
 use ew_model::parents::Parents;
+use ew_model::text_op::TextOp;
 use ew_model::verdict::Verdict;
 use frontier::{Frontier, Parentage};
 use smallvec::SmallVec;
 use std::alloc::Global;
 use std::marker::Model;
-
-/// The most parents of an event.
-pub const MOST_PARENTS: usize = 16;
 
 /// A history of events, each of which was judged good when it came. Contracts see the list of its events, the oldest
 /// first. A position is a place in that list, from 0; a parameter that is called `lv`, for local version, is one too.
@@ -187,6 +188,15 @@ impl Graph {
         ensures { slice_get (map (λ (e : Event). e.op) self.now) position ≡ Some result }
     {
         self.events.op_near(position, &mut near.event)
+    }
+
+    /// What the event at a position does to the text at its parents: a mark nothing. It is sought first where the last event was
+    /// found.
+    pub fn change_near(&self, position: u32, near: &mut Near) -> TextOp
+        requires { position < length self.now }
+        ensures { slice_get (map (λ (e : Event). own_change e.op) self.now) position ≡ Some result }
+    {
+        self.events.change_near(position, &mut near.event)
     }
 
     /// Where the run of the event at a position begins: each event of it but the first has the one before it as its only parent. It
@@ -332,7 +342,7 @@ impl Graph {
         if is_among(parents, &e.id) {
             return Ok(Some(Verdict::SelfParent));
         }
-        if parents.len() > MOST_PARENTS {
+        if parents.len() > MOST_PARENTS as usize {
             return Ok(Some(Verdict::TooManyParents));
         }
         if !ascend(parents) {
@@ -351,13 +361,29 @@ impl Graph {
         Ok(None)
     }
 
-    /// Whether no parent is an ancestor of another.
+    /// Whether no parent is an ancestor of another. Of heads none is.
     fn are_reduced(&self, parents: &[Id], positions: &[u32]) -> Result<bool, NoMem>
         requires { positions.now ≡ positions_in self.now parents.now }
         ensures { IfOk result (λ b. b ≡ model.is_reduced self.now parents.now) }
     {
         let _count = self.count();
+        if self.are_heads(positions) {
+            return Ok(true);
+        }
         is_reduced(self.alloc, self, positions)
+    }
+
+    /// True only where all of the positions are those of heads. It answers nothing of the others: they are looked at more closely.
+    fn are_heads(&self, positions: &[u32]) -> bool
+        ensures { IsTrue result → (p : ℕ) → Among p positions.now → Among p (positions_in self.now (model.heads self.now)) }
+    {
+        let heads = self.heads.as_slice();
+        for position in positions {
+            if !stands_in(heads, *position) {
+                return false;
+            }
+        }
+        true
     }
 
     /// Whether the agent's event before this one is among its ancestors.
@@ -483,6 +509,16 @@ impl Graph {
         let mut names = agents(self.alloc, &self.ids)?;
         names.sort_unstable();
         counts(self.alloc, &self.ids, &names)
+    }
+}
+
+/// True only where the position is one of these. It is sought as in a rising list.
+fn stands_in(rising: &[u32], position: u32) -> bool
+    ensures { IsTrue result → Among position rising.now }
+{
+    match rising.binary_search(&position) {
+        Ok(_) => true,
+        Err(_) => false,
     }
 }
 

@@ -11,6 +11,6 @@ mod parts;
 mod subgraph;
 
 pub use facts::Facts;
-pub use graph::{Graph, Hold, MOST_PARENTS};
+pub use graph::{Graph, Hold};
 pub use last::is_next;
 pub use near::Near;

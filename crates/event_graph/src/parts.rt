@@ -106,7 +106,7 @@ fn append_bare(
     ensures same_cuts { OnErr result (cuts.new ≡ cuts.old) }
 {
     let count = runs.count();
-    runs.append(*op, parents)?;
+    runs.append_ref(op, parents)?;
     if let Err(fault) = move_heads(alloc, heads, cuts, after, count, parents) {
         runs.truncate(count);
         return Err(fault);

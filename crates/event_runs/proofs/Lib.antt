@@ -3,5 +3,6 @@ pub mod Found
 pub mod Kept
 pub mod Maximal
 pub mod OneCut
+mod OwnChanges
 pub mod RunEvents
 pub mod RunLines

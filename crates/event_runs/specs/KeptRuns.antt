@@ -1,6 +1,7 @@
 -- What is kept of the runs of a history: words of the view, of what always holds of it, and of private contracts. (No public
 -- contract cites this.)
-use Rattle.std.specs.Prelude.{◌≡◌, ◌⊎◌, ℕ, zero, suc, ◌+◌, ◌-◌, ◌<◌, ◌≤◌, ◌^◌, Bool, true, false, List, [], ◌∷◌, ◌++◌, Some, map, get_or, length, slice_get, take}
+use Rattle.std.specs.Prelude.{◌≡◌, ◌⊎◌, ℕ, zero, suc, ◌+◌, ◌-◌, ◌<◌, ◌≤◌, ◌^◌, Bool, true, false, List, [], ◌∷◌, ◌++◌, Some, map, get_or, length, slice_get, take, vec_len, vec_capacity, Vec}
+use Rattle.std.specs.Global.{Global}
 use Rattle.std.specs.List.{range_with_len, find}
 use Rattle.std.specs.Option.{option_map_or}
 use Rattle.ew_model.specs.declared.event.Op.{Op}
@@ -70,6 +71,12 @@ abbrev pub op_labels : Op → List (List ℕ)
 op_labels (Ins at ch) = []
 op_labels (Del at) = []
 op_labels (Mark label) = label ∷ []
+
+-- the lists have room for the operation's character or label, if it has one
+abbrev pub HasRoom : Op → Vec ℕ Global → Vec (List ℕ) Global → Type 0
+HasRoom (Ins at ch) chars labels = vec_len chars < vec_capacity chars
+HasRoom (Del at) chars labels = Unit {0}
+HasRoom (Mark label) chars labels = vec_len labels < vec_capacity labels
 
 -- the run of one event, so many characters being inserted before it, and so many marks standing there
 abbrev pub run_of_one : ℕ → Op → ℕ → ℕ → Run

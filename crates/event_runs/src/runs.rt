@@ -3,6 +3,7 @@
 ghost use Rattle.std.specs.Prelude.{◌≡◌, ◌↔◌, ℕ, suc, ◌+◌, ◌<◌, ◌≤◌, ◌^◌, List, [], ◌∷◌, ◌++◌, length, take, slice_set, slice_get, Some, IsTrue, IfSome, IfNone, OnOk, OnErr};
 ghost use Rattle.std.specs.List.{AllWithin, find};
 ghost use Rattle.std.specs.Option.{option_copied};
+ghost use Rattle.ew_model.specs.TextLaws.{own_change};
 ghost use Rattle.event_runs.specs.declared.runs.Run.{Run};
 ghost use Rattle.event_runs.specs.declared.runs.RunKind.{RunKind};
 ghost use Rattle.event_runs.specs.KeptRuns.{op_in, run_of_one, sort_of, is_mark, other_kind, longer, shorter, chars_to_end, IsNext, JoinsAs, LastJoinsAs, Fits, HasLabel, AreRuns, AreLabelled, first_label, IsHeldAt, GrowBy, AreCutAt};
@@ -11,6 +12,7 @@ use crate::lists::NumberLists;
 use ew_model::NoMem;
 use ew_model::event::Op;
 use ew_model::name::Name;
+use ew_model::text_op::TextOp;
 
 /// How the operations of a run go on from one another.
 #[derive(Clone, Copy)]
@@ -123,6 +125,26 @@ impl Run {
         }
     }
 
+    /// What the event so many places behind the first one does to the text at its parents.
+    pub fn change_behind(&self, offset: u32, chars: &[char]) -> TextOp
+        requires within { offset ≤ self.now.more }
+        requires fits { Fits self.now.kind self.now.at self.now.more }
+        requires chars { chars_to_end self.now ≤ length chars.now }
+        ensures { (labels : List (List ℕ)) → result ≡ own_change (op_in self.now.kind self.now.at self.now.chars_before (record { chars = chars.now; labels = labels }) offset) }
+    {
+        match self.kind {
+            RunKind::Insertions => TextOp::Ins {
+                at: self.at + offset,
+                ch: chars[self.chars_before as usize + offset as usize],
+            },
+            RunKind::Deletions => TextOp::Del { at: self.at },
+            RunKind::BackDeletions => TextOp::Del {
+                at: self.at - offset,
+            },
+            RunKind::Marks => TextOp::Nothing,
+        }
+    }
+
     /// The operation so many places behind the first one.
     pub fn op_behind(&self, offset: u32, chars: &[char], labels: &[Name]) -> Op
         requires within { offset ≤ self.now.more }
@@ -131,16 +153,10 @@ impl Run {
         requires label { HasLabel self.now.kind self.now.at (length labels.now) }
         ensures { result ≡ op_in self.now.kind self.now.at self.now.chars_before (record { chars = chars.now; labels = labels.now }) offset }
     {
-        match self.kind {
-            RunKind::Insertions => Op::Ins {
-                at: self.at + offset,
-                ch: chars[self.chars_before as usize + offset as usize],
-            },
-            RunKind::Deletions => Op::Del { at: self.at },
-            RunKind::BackDeletions => Op::Del {
-                at: self.at - offset,
-            },
-            RunKind::Marks => Op::Mark {
+        match self.change_behind(offset, chars) {
+            TextOp::Ins { at, ch } => Op::Ins { at, ch },
+            TextOp::Del { at } => Op::Del { at },
+            TextOp::Nothing => Op::Mark {
                 label: labels[self.at as usize],
             },
         }

@@ -1,9 +1,10 @@
 //! The events' operations and parents.
 
-ghost use Rattle.std.specs.Prelude.{◌≡◌, ℕ, ◌+◌, ◌<◌, ◌≤◌, ◌^◌, List, [], ◌∷◌, ◌++◌, length, take, Some, slice_get, vec_len, vec_capacity, OnOk, OnErr, IsOkAnd};
+ghost use Rattle.std.specs.Prelude.{◌≡◌, ℕ, ◌+◌, ◌<◌, ◌≤◌, ◌^◌, List, [], ◌∷◌, ◌++◌, map, length, take, Some, slice_get, OnOk, OnErr, IsOkAnd};
 ghost use Rattle.ew_model.specs.Positions.{AreParents, IsHistoryOfParents, parents_at};
+ghost use Rattle.ew_model.specs.TextLaws.{own_change};
 ghost use Rattle.event_runs.specs.BareEvents.{BareEvent, bare, ops_in, parents_in};
-ghost use Rattle.event_runs.specs.KeptRuns.{op_chars, op_labels};
+ghost use Rattle.event_runs.specs.KeptRuns.{op_chars, op_labels, HasRoom};
 ghost use Rattle.event_runs.specs.Runs.{AreRunsOf, IsRunCount, IsRunStart};
 ghost use Rattle.frontier.specs.Chains.{IsChain};
 
@@ -12,6 +13,7 @@ use crate::runs::{Run, find_run, find_run_near, keep_below, put};
 use ew_model::NoMem;
 use ew_model::event::Op;
 use ew_model::name::Name;
+use ew_model::text_op::TextOp;
 use frontier::Parentage;
 use smallvec::SmallVec;
 use std::alloc::Global;
@@ -80,18 +82,26 @@ impl EventRuns {
         ensures ok { OnOk result (self.new ≡ self.old ++ bare op parents.now ∷ []) }
         ensures err { OnErr result (self.new ≡ self.old) }
     {
-        // Room for a character and a label, used or not: behind `put` nothing fails.
-        self.chars.reserve(1)?;
-        self.labels.reserve(1)?;
+        self.append_ref(&op, parents)
+    }
+
+    /// Puts one more event behind the others. Of its operation only what it holds is copied: a label is long.
+    pub fn append_ref(&mut self, op: &Op, parents: &[u32]) -> Result<(), NoMem>
+        requires parents { AreParents (length self.old) parents.now }
+        requires room { length self.old + 1 < 2 ^ 32 }
+        ensures ok { OnOk result (self.new ≡ self.old ++ bare op.now parents.now ∷ []) }
+        ensures err { OnErr result (self.new ≡ self.old) }
+    {
+        // Behind `put` nothing fails.
+        reserve_for(&mut self.chars, &mut self.labels, op)?;
         let one = Run::of_one(
             self.count,
-            &op,
+            op,
             self.chars.len() as u32,
             self.labels.len() as u32,
         );
         put(&mut self.runs, &mut self.parents, one, parents)?;
-        put_char(&mut self.chars, &op);
-        put_label(&mut self.labels, &op);
+        put_reserved(&mut self.chars, &mut self.labels, op);
         self.count += 1;
         Ok(())
     }
@@ -116,6 +126,19 @@ impl EventRuns {
         *near = place;
         let run = self.runs[place];
         run.op_behind(lv - run.start, &self.chars, &self.labels)
+    }
+
+    /// What the event at a position does to the text at its parents. The run at the place `near`, which is that of the run found
+    /// last, and the next one are tried first.
+    pub fn change_near(&self, lv: u32, near: &mut usize) -> TextOp
+        requires { lv < length self.now }
+        ensures { slice_get (map own_change (ops_in self.now)) lv ≡ Some result }
+    {
+        let _count = self.count;
+        let place = find_run_near(&self.runs, lv, *near);
+        *near = place;
+        let run = self.runs[place];
+        run.change_behind(lv - run.start, &self.chars)
     }
 
     /// The position of the first event in the run of an event. The run at the place `near`, which is that of the run found last,
@@ -210,23 +233,30 @@ impl Parentage for EventRuns {
     }
 }
 
-/// Puts the operation's character, if it inserts one, behind the others, where there is room for it.
-fn put_char(chars: &mut Vec<char>, op: &Op)
-    requires { vec_len chars.old < vec_capacity chars.old }
-    ensures { chars.new.items ≡ chars.old.items ++ op_chars op.now }
+/// Makes room for the operation's character or label, if it has one.
+fn reserve_for(chars: &mut Vec<char>, labels: &mut Vec<Name>, op: &Op) -> Result<(), NoMem>
+    ensures chars { chars.new.items ≡ chars.old.items }
+    ensures labels { labels.new.items ≡ labels.old.items }
+    ensures room { OnOk result (HasRoom op.now chars.new labels.new) }
 {
-    if let Op::Ins { ch, .. } = op {
-        chars.push_reserved(*ch);
+    match op {
+        Op::Ins { .. } => chars.reserve(1)?,
+        Op::Del { .. } => (),
+        Op::Mark { .. } => labels.reserve(1)?,
     }
+    Ok(())
 }
 
-/// Puts the operation's label, if it is a mark, behind the others, where there is room for it.
-fn put_label(labels: &mut Vec<Name>, op: &Op)
-    requires { vec_len labels.old < vec_capacity labels.old }
-    ensures { labels.new.items ≡ labels.old.items ++ op_labels op.now }
+/// Puts the operation's character or label, if it has one, behind the others, where there is room for it.
+fn put_reserved(chars: &mut Vec<char>, labels: &mut Vec<Name>, op: &Op)
+    requires { HasRoom op.now chars.old labels.old }
+    ensures chars { chars.new.items ≡ chars.old.items ++ op_chars op.now }
+    ensures labels { labels.new.items ≡ labels.old.items ++ op_labels op.now }
 {
-    if let Op::Mark { label } = op {
-        labels.push_reserved(*label);
+    match op {
+        Op::Ins { ch, .. } => chars.push_reserved(*ch),
+        Op::Del { .. } => (),
+        Op::Mark { label } => labels.push_reserved(*label),
     }
 }
 

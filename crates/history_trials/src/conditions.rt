@@ -5,13 +5,13 @@ ghost use Rattle.std.specs.List.{All};
 ghost use Rattle.std.specs.List.Sorted.{IsStrictlyIncreasing};
 ghost use Rattle.ew_model.specs.Positions.{AreParents};
 
-const MOST_PARENTS: usize = 16;
+use ew_model::limits::MOST_PARENTS;
 
 /// Whether an event behind so many may have its parents at these positions.
 pub fn are_parents(positions: &[u32], count: u32) -> bool
     ensures { result ≡ true → AreParents count positions.now }
 {
-    positions.len() <= MOST_PARENTS && are_rising(positions) && are_below(positions, count)
+    positions.len() <= MOST_PARENTS as usize && are_rising(positions) && are_below(positions, count)
 }
 
 fn are_rising(positions: &[u32]) -> bool

@@ -49,11 +49,11 @@ use crate::past::text_at;
 use crate::rounds::{Intake, round};
 use crate::took::{Stopped, Took};
 use agreement::agrees;
-use event_graph::{Graph, MOST_PARENTS};
+use event_graph::Graph;
 use ew_model::NoMem;
 use ew_model::event::Event;
 use ew_model::id::Id;
-use ew_model::limits::Limits;
+use ew_model::limits::{Limits, MOST_PARENTS};
 use ew_model::name::Name;
 use ew_model::steps::Steps;
 use ew_model::text_op::TextOp;
@@ -474,7 +474,7 @@ impl Replica {
             return None;
         }
         let heads = self.head_count();
-        if heads > MOST_PARENTS as u32 {
+        if heads > MOST_PARENTS {
             return Some(EditFault::TooManyHeads { heads });
         }
         if u64::from(self.room()) < edit.size() {

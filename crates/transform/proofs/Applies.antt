@@ -16,6 +16,7 @@ use Rattle.ew_model.specs.Cuts.{is_critical}
 use Rattle.ew_model.specs.Entries.{visible}
 use Rattle.ew_model.specs.Operations.{next_operation, operations}
 use Rattle.ew_model.specs.Texts.{text_at}
+use Rattle.ew_model.specs.TextLaws.{own_change}
 use Rattle.ew_model.specs.Records.{next_of, prepared_entries}
 use Rattle.ew_model.specs.Places.Act.{InsertAs, DeleteAt, MarkAs}
 use Rattle.ew_model.specs.Sound.{IsSound, AreSound}
@@ -99,9 +100,9 @@ pub id_is : (history : List Event) (n : ℕ) (e : Event) (x : Id) → slice_get 
 id_is history n e x at id =
     let same : Some e.id ≡ Some x = sym (ap (option_map (λ (f : Event). f.id)) at) ∙ sym (slice_get-map (λ (f : Event). f.id) history n) ∙ id in cc
 
-pub op_is : (history : List Event) (n : ℕ) (e : Event) (op : Op) → slice_get history n ≡ Some e → slice_get (map (λ (f : Event). f.op) history) n ≡ Some op → e.op ≡ op
-op_is history n e op at is =
-    let same : Some e.op ≡ Some op = sym (ap (option_map (λ (f : Event). f.op)) at) ∙ sym (slice_get-map (λ (f : Event). f.op) history n) ∙ is in cc
+pub change_is : (history : List Event) (n : ℕ) (e : Event) (change : TextOp) → slice_get history n ≡ Some e → slice_get (map (λ (f : Event). own_change f.op) history) n ≡ Some change → own_change e.op ≡ change
+change_is history n e change at is =
+    let same : Some (own_change e.op) ≡ Some change = sym (ap (option_map (λ (f : Event). own_change f.op)) at) ∙ sym (slice_get-map (λ (f : Event). own_change f.op) history n) ∙ is in cc
 
 -- what the calls of a state answer of the event
 pub insertion_answers : (front : List Event) (cut : ℕ) (e : Event) (old new : Kept) (answer : Result TextOp ApplyFault) (lv : ℕ) (x : Id) (at ch : ℕ) → length front ≡ lv → e.id ≡ x → e.op ≡ Ins at ch

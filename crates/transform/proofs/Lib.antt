@@ -7,6 +7,7 @@ pub mod Fronts
 pub mod Judging
 pub mod Lines
 pub mod Loops
+mod OwnChanges
 pub mod Replays
 pub mod Sides
 pub mod Sinces

@@ -8,7 +8,6 @@ ghost use Rattle.transform.specs.Answering.{turn_by};
 use advance_retreat::{ApplyFault, State};
 use event_graph::{Graph, Near};
 use ew_model::NoMem;
-use ew_model::event::Op;
 use ew_model::steps::Steps;
 use ew_model::text_op::TextOp;
 use std::alloc::AllocError;
@@ -37,13 +36,14 @@ pub fn apply<L: Ledger>(
     ensures steps { steps.new ≡ steps.old + 1 }
 {
     let _count = graph.count();
-    match graph.op_near(lv, near) {
-        Op::Ins { at, ch } => {
+    match graph.change_near(lv, near) {
+        TextOp::Ins { at, ch } => {
             let id = graph.id_near(lv, near);
             turn_of(state.apply_ins(lv, id, at, ch, steps))
         }
-        Op::Del { at } => turn_of(state.apply_del(lv, at, steps)),
-        Op::Mark { label: _ } => Ok(Turn::Applied(state.apply_mark(lv, steps)?)),
+        TextOp::Del { at } => turn_of(state.apply_del(lv, at, steps)),
+        // A mark.
+        TextOp::Nothing => Ok(Turn::Applied(state.apply_mark(lv, steps)?)),
     }
 }
 

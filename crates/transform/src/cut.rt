@@ -13,7 +13,6 @@ use crate::apply::{Turn, apply};
 use advance_retreat::State;
 use event_graph::{Graph, Near};
 use ew_model::NoMem;
-use ew_model::event::Op;
 use ew_model::steps::Steps;
 use ew_model::text_op::TextOp;
 use std::alloc::Global;
@@ -41,10 +40,11 @@ pub fn pass_cut<L: Ledger>(
 {
     let _count = graph.count();
     if stands_alone(graph, lv, near) {
-        if let Some((op, len)) = change_by(&graph.op_near(lv, near), len) {
+        let change = graph.change_near(lv, near);
+        if let Some(len) = changed_length(change, len) {
             steps.tick();
             *line = Some(len);
-            return Ok(Turn::Applied(op));
+            return Ok(Turn::Applied(change));
         }
     }
     *state = State::base(alloc, len)?;
@@ -61,16 +61,17 @@ fn stands_alone(graph: &Graph, lv: u32, near: &mut Near) -> bool
     lv + 1 < count && graph.is_cut_near(lv + 1, near)
 }
 
-/// What an operation in range does to a text of so many characters, and the length after it.
-fn change_by(op: &Op, len: u32) -> Option<(TextOp, u32)>
+/// The length of a text of so many characters after a change, where its index is in range. The change is what some operation does to
+/// the text at its parents.
+fn changed_length(change: TextOp, len: u32) -> Option<u32>
     requires { len + 1 < 2 ^ 32 }
-    ensures none { IfNone result (is_outside len op.now ≡ true) }
-    ensures some { IfSome result (λ c. (is_outside len op.now ≡ false) × (c.0 ≡ own_change op.now) × (c.1 ≡ length_by op.now len)) }
+    ensures none { IfNone result ((op : Op) → own_change op ≡ change → is_outside len op ≡ true) }
+    ensures some { IfSome result (λ n. (op : Op) → own_change op ≡ change → (is_outside len op ≡ false) × (n ≡ length_by op len)) }
 {
-    match *op {
-        Op::Ins { at, ch } if at <= len => Some((TextOp::Ins { at, ch }, len + 1)),
-        Op::Del { at } if at < len => Some((TextOp::Del { at }, len - 1)),
-        Op::Mark { label: _ } => Some((TextOp::Nothing, len)),
-        Op::Ins { at: _, ch: _ } | Op::Del { at: _ } => None,
+    match change {
+        TextOp::Ins { at, ch: _ } if at <= len => Some(len + 1),
+        TextOp::Del { at } if at < len => Some(len - 1),
+        TextOp::Nothing => Some(len),
+        TextOp::Ins { at: _, ch: _ } | TextOp::Del { at: _ } => None,
     }
 }

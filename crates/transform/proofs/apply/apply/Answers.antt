@@ -2,7 +2,8 @@ use Rattle.std.proofs.Common.{IfOk, sym, subst, take, ◌∙◌}
 use Rattle.ew_model.specs.Walks.{base_at, walked_from}
 use Rattle.ew_model.proofs.ListParts.{element_there}
 use Rattle.transform.specs.Reaching.{Turned, over_since}
-use Rattle.transform.proofs.Applies.{deletion_answers, id_is, insertion_answers, mark_turned, may_delete, may_insert, may_mark, op_is, ready, turned}
+use Rattle.transform.proofs.Applies.{deletion_answers, id_is, insertion_answers, mark_turned, may_delete, may_insert, may_mark, change_is, ready, turned}
+use Rattle.transform.proofs.OwnChanges.{asks_insertion, asks_deletion, asks_nothing}
 use Rattle.transform.proofs.Sides.{length_front}
 use Rattle.transform.proofs.apply.apply.Goals as goal
 
@@ -41,7 +42,7 @@ returns-in-Ins-clause-turned g c = λ cut e is_ready at.
     let r = ready now cut lv e c.args.state.now c.count-count.ensures.admitted c.count-count.ensures.sound at is_ready in
     let may = may_insert front cut e lv c.id_near-id.result r.low r.admitted id long in
     let answers =
-    insertion_answers front cut e c.args.state.now c.apply_ins.new.self c.apply_ins.result lv c.id_near-id.result c.in-Ins.at c.in-Ins.ch long id (op_is now lv e _ at c.op_near.ensures ∙ c.in-Ins.is)
+    insertion_answers front cut e c.args.state.now c.apply_ins.new.self c.apply_ins.result lv c.id_near-id.result c.in-Ins.at c.in-Ins.ch long id (asks_insertion e.op c.in-Ins.at c.in-Ins.ch (change_is now lv e _ at c.change_near.ensures ∙ c.in-Ins.is))
     (c.apply_ins.ensures.op b events over r.stands may) (c.apply_ins.ensures.ok b events over r.stands may) (c.apply_ins.ensures.out_of_range b events over r.stands) c.apply_ins.ensures.err in
     subst (λ a. IfOk a (Turned front cut e c.apply_ins.new.self)) (sym c.turn_of.ensures) (turned front cut e c.args.state.now c.apply_ins.new.self c.apply_ins.result r answers)
 
@@ -57,7 +58,7 @@ returns-in-Del-clause-turned g c = λ cut e is_ready at.
     let r = ready now cut lv e c.args.state.now c.count-count.ensures.admitted c.count-count.ensures.sound at is_ready in
     let may = may_delete front cut lv r.low long in
     let answers =
-    deletion_answers front cut e c.args.state.now c.apply_del.new.self c.apply_del.result lv c.in-Del.at long (op_is now lv e _ at c.op_near.ensures ∙ c.in-Del.is)
+    deletion_answers front cut e c.args.state.now c.apply_del.new.self c.apply_del.result lv c.in-Del.at long (asks_deletion e.op c.in-Del.at (change_is now lv e _ at c.change_near.ensures ∙ c.in-Del.is))
     (c.apply_del.ensures.op b events over r.stands may) (c.apply_del.ensures.ok b events over r.stands may) (c.apply_del.ensures.out_of_range b events over r.stands) c.apply_del.ensures.err in
     subst (λ a. IfOk a (Turned front cut e c.apply_del.new.self)) (sym c.turn_of-in-Del.ensures) (turned front cut e c.args.state.now c.apply_del.new.self c.apply_del.result r answers)
 
@@ -72,8 +73,8 @@ apply_mark-requires g c =
     let r = ready now cut lv e c.args.state.now c.count-count.ensures.admitted c.count-count.ensures.sound found.1 c.requires.ready.1 in
     (base_at front cut, walked_from front cut, over_since front cut e, r.stands, may_mark front cut lv r.low (length_front now lv e found.1))
 
-pub returns-in_ok-apply_mark-in-Mark-clause-turned : goal.returns-in_ok-apply_mark-in-Mark-clause-turned
-returns-in_ok-apply_mark-in-Mark-clause-turned g c = λ cut e is_ready at.
+pub returns-in_ok-apply_mark-in-Nothing-clause-turned : goal.returns-in_ok-apply_mark-in-Nothing-clause-turned
+returns-in_ok-apply_mark-in-Nothing-clause-turned g c = λ cut e is_ready at.
     let now = c.args.graph.now in
     let lv = c.args.lv in
     let front = take lv now in
@@ -83,5 +84,6 @@ returns-in_ok-apply_mark-in-Mark-clause-turned g c = λ cut e is_ready at.
     let long = length_front now lv e at in
     let r = ready now cut lv e c.args.state.now c.count-count.ensures.admitted c.count-count.ensures.sound at is_ready in
     let may = may_mark front cut lv r.low long in
-    mark_turned front cut e c.args.state.now c.apply_mark.new.self c.in_ok-apply_mark-in-Mark.field-0 lv c.in-Mark.label long (op_is now lv e _ at c.op_near.ensures ∙ c.in-Mark.is) r
-    (c.in_ok-apply_mark-in-Mark.ensures.op b events over r.stands may) (c.in_ok-apply_mark-in-Mark.ensures.ok b events over r.stands may)
+    let label = asks_nothing e.op (change_is now lv e _ at c.change_near.ensures ∙ c.in-Nothing.is) in
+    mark_turned front cut e c.args.state.now c.apply_mark.new.self c.in_ok-apply_mark-in-Nothing.field-0 lv label.0 long label.1 r
+    (c.in_ok-apply_mark-in-Nothing.ensures.op b events over r.stands may) (c.in_ok-apply_mark-in-Nothing.ensures.ok b events over r.stands may)

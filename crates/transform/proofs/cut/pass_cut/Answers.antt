@@ -5,13 +5,13 @@ use Rattle.ew_model.specs.Verdicts.{is_outside}
 use Rattle.ew_model.specs.Walks.{base_at}
 use Rattle.ew_model.proofs.ListParts.{element_there}
 use Rattle.transform.specs.Changing.{length_by}
-use Rattle.transform.proofs.Applies.{op_is}
+use Rattle.transform.proofs.Applies.{change_is}
 use Rattle.transform.proofs.Lines.{base_low, fresh, goes_in_line}
 use Rattle.transform.proofs.Loops.{turned_at_cut}
 use Rattle.transform.proofs.cut.pass_cut.Goals as goal
 
-pub change_by-requires : goal.change_by-requires
-change_by-requires g c =
+pub changed_length-requires : goal.changed_length-requires
+changed_length-requires g c =
     let alone = c.stands_alone.ensures.0 c.if-stands_alone.true in
     let low : base_at c.args.graph.now c.args.lv ≤ c.args.lv = base_low c.args.graph.now c.args.lv c.requires.behind.good in
     omega (arith, alone.0, low, c.requires.long, c.count-count.ensures.count)
@@ -26,13 +26,11 @@ returns-in-Some-clause-turned g c = λ from low.
     let lv = c.args.lv in
     let found = element_there now lv c.requires.within in
     let e = found.0 in
-    let op : e.op ≡ c.op_near.result = op_is now lv e c.op_near.result found.1 c.op_near.ensures in
+    let own : own_change e.op ≡ c.change_near-change.result = change_is now lv e c.change_near-change.result found.1 c.change_near-change.ensures in
     let alone = c.stands_alone.ensures.0 c.if-stands_alone.true in
-    let change = c.in-Some.ensures.some in
-    let done =
-    goes_in_line now lv e c.count-count.ensures.admitted found.1 c.requires.behind.critical from c.args.len c.in-Some.len c.args.state.now low c.requires.behind.good c.requires.long (ap (is_outside c.args.len) op ∙ change.0)
-    (change.2 ∙ ap (λ o. length_by o c.args.len) (sym op)) alone.0 alone.1 in
-    (done.0, done.1 ∙ ap (λ o. operations (take lv now) ++ o ∷ []) (ap own_change op ∙ sym change.1))
+    let length = c.in-Some.ensures.some e.op own in
+    let done = goes_in_line now lv e c.count-count.ensures.admitted found.1 c.requires.behind.critical from c.args.len c.in-Some.len c.args.state.now low c.requires.behind.good c.requires.long length.0 length.1 alone.0 alone.1 in
+    (done.0, done.1 ∙ ap (λ o. operations (take lv now) ++ o ∷ []) own)
 
 pub returns-clause-turned : goal.returns-clause-turned
 returns-clause-turned g c = λ from low.

@@ -20,9 +20,9 @@ returns-clause-some c =
     record {
       last = x;
       is_last = ap (slice_get (ids_of k.events)) (sym is.position_is) ∙ is.at;
-      read = record_behind k.agents k.events x c.in-Ok.op last.agent c.in_ok-position.position c.args.input.now.left.now begins.behind_place begins.behind_seq begins.behind_count c.begins.new.self.left.now c.operation.new.self.left.now
+      read = record_behind k.agents k.events x c.in_ok-op.op last.agent c.in_ok-position.position c.args.input.now.left.now begins.behind_place begins.behind_seq begins.behind_count c.begins.new.self.left.now c.insertion_or_deletion.new.self.left.now
           begins.place_read is.is_open
           (begins.seq_read ∙ ap (λ n. Ok (n, begins.behind_seq)) seq) (ap (λ n. is_held k.events (with_seq n)) (sym seq) ∙ kept.new refl)
-          begins.count_read begins.position_read is.at c.in-Ok.ensures;
+          begins.count_read begins.position_read is.at c.in_ok-op.ensures;
       kept = kept.yes refl ∙ ap (λ n. record { agents = k.agents; events = k.events ++ known_by (with_seq n) ∷ [] }) seq;
     }

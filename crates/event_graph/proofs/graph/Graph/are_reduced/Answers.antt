@@ -1,8 +1,13 @@
-use Rattle.std.proofs.Common.{◌≡◌, ◌∙◌, Bool, IfOk, sym, ap, subst}
+use Rattle.std.proofs.Common.{◌≡◌, ◌∙◌, Bool, ℕ, List, IfOk, refl, sym, ap, subst}
+use Rattle.ew_model.specs.declared.id.Id.{Id}
+use Rattle.ew_model.specs.declared.event.Event.{Event}
+use Rattle.ew_model.specs.Sets.{Among}
 use Rattle.std.specs.List.Sorted.{IsStrictlyIncreasing}
 use Rattle.ew_model.specs.Ancestors.{is_reduced}
-use Rattle.ew_model.specs.Positions.{is_reduced_at, parent_positions}
+use Rattle.ew_model.specs.Positions.{is_reduced_at, positions_in, parent_positions}
 use Rattle.event_graph.proofs.Admitted.{agrees}
+use Rattle.event_graph.specs.Keeping.{IsAdmitted}
+use Rattle.event_graph.proofs.HeadsReduced.{all_heads_reduced}
 use Rattle.event_graph.proofs.Kept.{positions_there}
 use Rattle.event_graph.proofs.Places.{positions_increase}
 use Rattle.event_graph.proofs.graph.Graph.are_reduced.Goals as goal
@@ -13,9 +18,14 @@ is_reduced-requires-clause-rising c = subst IsStrictlyIncreasing (sym c.requires
 pub is_reduced-requires-clause-parents : goal.is_reduced-requires-clause-parents
 is_reduced-requires-clause-parents c = positions_there c.args.self.now c.args.parents.now c.args.positions.now c.requires
 
-pub returns : goal.returns
-returns c =
+same : (now : List Event) (ids : List Id) (positions : List ℕ) → IsAdmitted now → positions ≡ positions_in now ids → is_reduced_at (parent_positions now) positions ≡ is_reduced now ids
+same now ids positions admitted is = ap (is_reduced_at (parent_positions now)) is ∙ (agrees now admitted).reduced ids
+
+pub returns-then-are_heads : goal.returns-then-are_heads
+returns-then-are_heads c =
     let now = c.args.self.now in
-    let same : is_reduced_at (parent_positions now) c.args.positions.now ≡ is_reduced now c.args.parents.now =
-    ap (is_reduced_at (parent_positions now)) c.requires ∙ (agrees now c.count-count.ensures.admitted).reduced c.args.parents.now in
-    subst (λ (x : Bool). IfOk c.is_reduced.result (λ b. b ≡ x)) same c.is_reduced.ensures
+    let ids = c.args.parents.now in
+    sym (all_heads_reduced now ids (λ p m. c.are_heads.ensures c.if-are_heads.true p (subst (Among p) (sym c.requires) m)) c.count-count.ensures.admitted)
+
+pub returns : goal.returns
+returns c = subst (λ (x : Bool). IfOk c.is_reduced.result (λ b. b ≡ x)) (same c.args.self.now c.args.parents.now c.args.positions.now c.count-count.ensures.admitted c.requires) c.is_reduced.ensures
