@@ -45,7 +45,7 @@ GiftsArePushes = (limits : LimitNumbers) (peers : List ReplicaState) (packets : 
     → AreLimits (peer_at peers giver).limits
     → (more : List Packet) × (length more ≤ 2) × (after_steps (net_of limits peers packets) (step.Push (agent_of giver) (agent_of taker) ∷ step.Deliver (length packets) ∷ []) ≡ Some (net_of limits (gives giver taker peers) (packets ++ more)))
 
--- the step is a local edit, or a push, or a delivery
+-- the step is an insertion, a deletion, a push or a delivery
 abbrev pub is_edit_or_gift : NetStep → Bool
 is_edit_or_gift (step.Ins who at text) = true
 is_edit_or_gift (step.Del who at n) = true

@@ -12,7 +12,7 @@ use Rattle.ew_model.proofs.LineLaws.{Lacks}
 use Rattle.ew_model.proofs.ScriptReading.{decimal_lacks_space}
 use Rattle.history_definitions.proofs.IdTexts.{name_lacks}
 use Rattle.peer_definitions.specs.declared.net_step.NetStep.{NetStep}
-use Rattle.peer_definitions.specs.declared.net_step.NetStep.TheVariants.{Peer, Ins, Del, Push, Send, Ask, Deliver, Restart, Show, Agree}
+use Rattle.peer_definitions.specs.declared.net_step.NetStep.TheVariants.{Peer, Ins, Del, Mark, Push, Send, Ask, Deliver, Restart, Show, Agree}
 use Rattle.peer_definitions.specs.NetScripts.{IsSoundStep, MeansStep, net_line}
 
 -- what stands before the first space, and what behind it
@@ -46,7 +46,8 @@ step_in line text =
     else (if letter == 105 then Ins (first three) (number (first (others three))) text
     else (if letter == 100 then (if get_or line 3 0 == 32 then Del (first three) (number (first (others three))) (number (others (others three))) else Deliver (number (drop 8 line)))
     else (if letter == 115 then (if next == 101 then Send (first four) (first (others four)) (number (first (others (others four)))) (number (others (others (others four)))) else Show four)
-    else (if letter == 97 then (if next == 115 then Ask (first three) (others three) else Agree) else Restart (drop 8 line)))))
+    else (if letter == 97 then (if next == 115 then Ask (first three) (others three) else Agree)
+    else (if letter == 109 then Mark (first four) (others four) else Restart (drop 8 line))))))
 
 -- the text of a step, and how it stands in the step's line
 abbrev text_of : NetStep → List ℕ
@@ -84,6 +85,10 @@ step_again (Del who at n) h =
     let at_is = ap (λ x. number (first x)) behind ∙ digits_first at (decimal n ++ []) h.1 in
     let n_is = ap (λ x. number (others x)) behind ∙ ap number (other_words (decimal at) (decimal n ++ []) (decimal_lacks_space at h.1) ∙ append-nil (decimal n)) ∙ digits_value_is n h.2 in
     λ i. Del (who_is i) (at_is i) (n_is i)
+step_again (Mark who label) h =
+    let who_is = first_name who (label ++ []) h.0 in
+    let label_is = second_name who (label ++ []) h.0 ∙ append-nil label in
+    λ i. Mark (who_is i) (label_is i)
 step_again (Push a b) h =
     let a_is = first_name a (b ++ []) h.0 in
     let b_is = second_name a (b ++ []) h.0 ∙ append-nil b in
@@ -113,6 +118,7 @@ escaped_again (Ins who at text) h =
     let words = decimal at ++ 32 ∷ (escaped_text text ++ []) in
     ap others (second_name who words h.0) ∙ other_words (decimal at) (escaped_text text ++ []) (decimal_lacks_space at h.1) ∙ append-nil (escaped_text text)
 escaped_again (Del who at n) h = refl
+escaped_again (Mark who label) h = refl
 escaped_again (Push a b) h = refl
 escaped_again (Send a b skip count) h = refl
 escaped_again (Ask a b) h = refl

@@ -187,6 +187,10 @@ module _ (network new : Network) (s : NetStep) (p q : Peer) (h : IsHomely networ
       let did = peer_did network who (λ x. edit_outcome network x (edits.Edit.Delete at n)
       (edit_refusal x.replica.limits x.replica.held x.name (edits.Edit.Delete at n))) new left in
       edit_adds who (edits.Edit.Delete at n) did.0 (λ own. ap (is_edit_of p.name) is ∙ own) did.1 _ refl did.2
+  step_adds (step.Mark who label) is left =
+      let did = peer_did network who (λ x. edit_outcome network x (edits.Edit.Mark label)
+      (edit_refusal x.replica.limits x.replica.held x.name (edits.Edit.Mark label))) new left in
+      edit_adds who (edits.Edit.Mark label) did.0 (λ own. ap (is_edit_of p.name) is ∙ own) did.1 _ refl did.2
   step_adds (step.Push sender receiver) is left = sent_adds sender receiver (λ r. event_frames r.limits r.held) left
   step_adds (step.Send sender receiver skip count) is left = sent_adds sender receiver (λ r. event_frames r.limits (piece_of skip count r.held)) left
   step_adds (step.Ask sender receiver) is left = sent_adds sender receiver (λ r. question r ∷ []) left

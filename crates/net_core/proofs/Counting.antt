@@ -74,6 +74,10 @@ adds_one network new (step.Del who at n) left =
     let did = peer_did network who (λ p. edit_outcome network p (edits.Edit.Delete at n)
     (edit_refusal p.replica.limits p.replica.held p.name (edits.Edit.Delete at n))) new left in
     edit_one network new (edits.Edit.Delete at n) did.0 _ did.2
+adds_one network new (step.Mark who label) left =
+    let did = peer_did network who (λ p. edit_outcome network p (edits.Edit.Mark label)
+    (edit_refusal p.replica.limits p.replica.held p.name (edits.Edit.Mark label))) new left in
+    edit_one network new (edits.Edit.Mark label) did.0 _ did.2
 adds_one network new (step.Push sender receiver) left = sent_one network new sender receiver (λ r. event_frames r.limits r.held) left
 adds_one network new (step.Send sender receiver skip count) left = sent_one network new sender receiver (λ r. event_frames r.limits (piece_of skip count r.held)) left
 adds_one network new (step.Ask sender receiver) left = sent_one network new sender receiver (λ r. question r ∷ []) left

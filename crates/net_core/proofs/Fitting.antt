@@ -224,6 +224,10 @@ module _ (network new : Network) (are : AreLimits network.limits) (h : IsHomely 
       let did = peer_did network who (λ p. edit_outcome network p (edits.Edit.Delete at n)
       (edit_refusal p.replica.limits p.replica.held p.name (edits.Edit.Delete at n))) new left in
       edit_sound who (edits.Edit.Delete at n) did.0 tt did.1 _ refl did.2
+  step_sound (step.Mark who label) can left =
+      let did = peer_did network who (λ p. edit_outcome network p (edits.Edit.Mark label)
+      (edit_refusal p.replica.limits p.replica.held p.name (edits.Edit.Mark label))) new left in
+      edit_sound who (edits.Edit.Mark label) did.0 can.1 did.1 _ refl did.2
   step_sound (step.Push sender receiver) can left =
       packet_sound sender receiver (λ r. event_frames r.limits r.held)
       (λ p own held limits. sent p.replica.limits p.replica.held limits held (few_parents p.replica.held own.kept.orderly.good)) left

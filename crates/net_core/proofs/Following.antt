@@ -176,6 +176,10 @@ step_follows network new (step.Del who at n) h left =
     let did = peer_did network who (λ p. edit_outcome network p (edits.Edit.Delete at n)
     (edit_refusal p.replica.limits p.replica.held p.name (edits.Edit.Delete at n))) new left in
     edit_follows network new h who (edits.Edit.Delete at n) did.0 did.1 _ refl did.2
+step_follows network new (step.Mark who label) h left =
+    let did = peer_did network who (λ p. edit_outcome network p (edits.Edit.Mark label)
+    (edit_refusal p.replica.limits p.replica.held p.name (edits.Edit.Mark label))) new left in
+    edit_follows network new h who (edits.Edit.Mark label) did.0 did.1 _ refl did.2
 step_follows network new (step.Push sender receiver) h left =
     packet_follows network new h sender receiver (λ r. event_frames r.limits r.held) (λ p r. homes_in_frames network.peers p.replica.limits p.replica.held r.held) left
 step_follows network new (step.Send sender receiver skip count) h left =

@@ -70,6 +70,10 @@ pub del_is : (network : Network) (who : List ℕ) (at n : ℕ) → net_step netw
 unfolding net_step
 del_is network who at n = refl
 
+pub mark_is : (network : Network) (who label : List ℕ) → net_step network (step.Mark who label) ≡ edit_step network who (edits.Edit.Mark label)
+unfolding net_step
+mark_is network who label = refl
+
 -- a name that is there, and one that isn't
 pub twice : (network : Network) (name : List ℕ) (p : Peer) → peer_of network name ≡ Some p → net_step network (step.Peer name) ≡ Refused (PeerTwice name)
 twice network name p found = peer_is network name ∙ ap (peer_step network name) found

@@ -36,6 +36,7 @@ made_by agent history = filter (λ (e : Event). name_eq e.id.agent agent) histor
 abbrev pub is_edit_of : List ℕ → NetStep → Bool
 is_edit_of name (step.Ins who at text) = name_eq who name
 is_edit_of name (step.Del who at n) = name_eq who name
+is_edit_of name (step.Mark who label) = name_eq who name
 is_edit_of name s = false
 
 -- Only a peer's local edits add events of its agent.

@@ -89,6 +89,7 @@ impl Net {
             NetStep::Peer(name) => self.add(name),
             NetStep::Ins { who, at, text } => self.insert(who, *at, text, steps),
             NetStep::Del { who, at, n } => self.delete(who, *at, *n, steps),
+            NetStep::Mark { who, label } => self.mark(who, label, steps),
             NetStep::Push { from, to } => self.push(from, to),
             NetStep::Send {
                 from,
@@ -162,6 +163,21 @@ impl Net {
         let place = self.find(who)?;
         let line = MadeLine::new(self.alloc)?;
         let made = self.peers[place].delete(at, n, steps)?;
+        Ok(line.of(who, made))
+    }
+
+    /// A peer makes a mark.
+    fn mark<L: Ledger>(
+        &mut self,
+        who: &Name,
+        label: &Name,
+        steps: &mut Steps<L>,
+    ) -> Result<Vec<u8>, NetFault>
+        ensures { StepsTo self.old (net_step.Mark who.now label.now) self.new (told_bytes result) }
+    {
+        let place = self.find(who)?;
+        let line = MadeLine::new(self.alloc)?;
+        let made = self.peers[place].mark(*label, steps)?;
         Ok(line.of(who, made))
     }
 

@@ -97,6 +97,15 @@ impl Peer {
         self.replica.delete(self.name, at, n, steps)
     }
 
+    /// Makes a mark with the label. Answers how many events were made.
+    pub fn mark<L: Ledger>(&mut self, label: Name, steps: &mut Steps<L>) -> Result<u32, EditFault>
+        requires { is_awaited self.old.replica.held self.old.replica.waiting self.old.name ≡ false }
+        ensures edits { EditsBy self.old.name (model.Edit.Mark label) self.old.replica self.new.replica result }
+        ensures name { self.new.name ≡ self.old.name }
+    {
+        self.replica.mark(self.name, label, steps)
+    }
+
     /// Builds the replica again from the events that it holds. What waited is lost. For want of memory all is as before.
     pub fn restart<L: Ledger>(&mut self, alloc: Global, steps: &mut Steps<L>) -> Result<(), NoMem>
         ensures ok { OnOk result (self.new ≡ record { name = self.old.name; replica = built_again self.old.replica }) }

@@ -190,6 +190,7 @@ unfoldable pub net_step : Network → NetStep → StepOutcome
 net_step network (step.Peer name) = peer_step network name (peer_of network name)
 net_step network (step.Ins who at text) = edit_step network who (edits.Edit.Insert at text)
 net_step network (step.Del who at n) = edit_step network who (edits.Edit.Delete at n)
+net_step network (step.Mark who label) = edit_step network who (edits.Edit.Mark label)
 net_step network (step.Push sender receiver) = packet_step network sender receiver (λ r. event_frames r.limits r.held)
 net_step network (step.Send sender receiver skip count) = packet_step network sender receiver (λ r. event_frames r.limits (piece_of skip count r.held))
 net_step network (step.Ask sender receiver) = packet_step network sender receiver (λ r. question r ∷ [])

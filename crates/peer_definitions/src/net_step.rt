@@ -21,6 +21,11 @@ pub enum NetStep {
         at: u32,
         n: u32,
     },
+    /// The peer makes a mark with the label.
+    Mark {
+        who: Name,
+        label: Name,
+    },
     /// Makes a packet of all events of a peer for another.
     Push {
         from: Name,

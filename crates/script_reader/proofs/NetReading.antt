@@ -34,6 +34,7 @@ words_are_spelled verb.Ins =
 words_are_spelled verb.Del =
     regrouped _ _ _ _ (λ c. (c.0, (c.1, c.2))) (λ c. (c.0, c.1.0, c.1.1)) (λ c s. (s.0, (s.1, s.2))) (λ c s. (s.0, s.1.0, s.1.1)) (λ c. refl) (λ c. refl) (λ c. refl)
     (pairs IsNamed as_it_is (Both IsSmall IsSmall) (spaced_pair decimal decimal) named_lacks_space names two_numbers)
+words_are_spelled verb.Mark = two_names
 words_are_spelled verb.Push = two_names
 words_are_spelled verb.Send =
     regrouped _ _ _ _ (λ c. (c.0, (c.1, (c.2, c.3)))) (λ c. (c.0, c.1.0, c.1.1.0, c.1.1.1)) (λ c s. (s.0, (s.1, (s.2, s.3)))) (λ c s. (s.0, s.1.0, s.1.1.0, s.1.1.1))

@@ -8,6 +8,7 @@ abbrev pub verb_word : Verb → List ℕ
 verb_word verb.Peer = codes "peer"
 verb_word verb.Ins = codes "ins"
 verb_word verb.Del = codes "del"
+verb_word verb.Mark = codes "mark"
 verb_word verb.Push = codes "push"
 verb_word verb.Send = codes "send"
 verb_word verb.Ask = codes "ask"

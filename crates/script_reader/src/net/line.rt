@@ -42,8 +42,9 @@ fn read_words(alloc: Global, verb: Verb, words: &[u8]) -> Result<Option<NetStep>
         Verb::Ins => read_insertion(alloc, words)?,
         Verb::Del => read_deletion(words),
         Verb::Send => read_sending(words),
-        Verb::Push => read_names(words).map(|(from, to)| NetStep::Push { from, to }),
-        Verb::Ask => read_names(words).map(|(from, to)| NetStep::Ask { from, to }),
+        Verb::Mark => read_mark(words),
+        Verb::Push => read_push(words),
+        Verb::Ask => read_question(words),
         Verb::Deliver => read_number(words).map(NetStep::Deliver),
         Verb::Peer => read_name(words).map(NetStep::Peer),
         Verb::Restart => read_name(words).map(NetStep::Restart),
@@ -81,6 +82,27 @@ fn read_deletion(words: &[u8]) -> Option<NetStep>
     let who = read_name(word)?;
     let (at, n) = read_numbers(numbers)?;
     Some(NetStep::Del { who, at, n })
+}
+
+/// Name and label of a mark.
+fn read_mark(words: &[u8]) -> Option<NetStep>
+    ensures { IsStepReading (codes "mark " ++ words.now) result }
+{
+    read_names(words).map(|(who, label)| NetStep::Mark { who, label })
+}
+
+/// Names of a packet with all of the events.
+fn read_push(words: &[u8]) -> Option<NetStep>
+    ensures { IsStepReading (codes "push " ++ words.now) result }
+{
+    read_names(words).map(|(from, to)| NetStep::Push { from, to })
+}
+
+/// Names of a packet with a question.
+fn read_question(words: &[u8]) -> Option<NetStep>
+    ensures { IsStepReading (codes "ask " ++ words.now) result }
+{
+    read_names(words).map(|(from, to)| NetStep::Ask { from, to })
 }
 
 /// Names and numbers of a packet with some of the events.

@@ -10,6 +10,7 @@ pub(crate) enum Verb {
     Peer,
     Ins,
     Del,
+    Mark,
     Push,
     Send,
     Ask,
@@ -29,6 +30,8 @@ pub(crate) fn strip_verb(line: &[u8]) -> Option<(Verb, &[u8])>
         Some((Verb::Ins, words))
     } else if let Some(words) = line.strip_prefix(b"del ") {
         Some((Verb::Del, words))
+    } else if let Some(words) = line.strip_prefix(b"mark ") {
+        Some((Verb::Mark, words))
     } else if let Some(words) = line.strip_prefix(b"push ") {
         Some((Verb::Push, words))
     } else if let Some(words) = line.strip_prefix(b"send ") {
