@@ -1,3 +1,4 @@
 pub mod Numbers
 pub mod FileCommands
 pub mod TakenWords
+pub mod Entered

@@ -5,7 +5,7 @@ use Rattle.clap.specs.Words.{Row, Kinds, IsAmong, fault_of, subcommand_of, is_si
 use Rattle.clap.specs.declared.error.kind.ErrorKind.{ErrorKind}
 use Rattle.clap.specs.declared.error.kind.ErrorKind.TheVariants.{OutOfMemory}
 use Rattle.clap.proofs.OnLiterals.{clap_on_literals}
-use Rattle.command_table.specs.Table.{Text, content, past, log, replay, numbers, question, Line, does, serves, edit, show, merge, make, net, line_in, where_none, line_of}
+use Rattle.command_table.specs.Table.{Text, content, past, log, replay, numbers, question, marks, Line, does, serves, edit, show, merge, make, net, line_in, where_none, line_of}
 use Rattle.command_table.specs.Cli.{cat_app, edit_app, egw_app, make_app, merge_app}
 use Rattle.command_table.specs.VersionWords.{version_in}
 
@@ -111,6 +111,10 @@ two_files = refl
 a_question : line_of (codes "ask" ∷ codes "F" ∷ []) ≡ Some (does (show question (codes "F")))
 unfolding line_of egw_app edit_app cat_app merge_app make_app clap_on_literals
 a_question = refl
+
+the_marks : line_of (codes "marks" ∷ codes "F" ∷ []) ≡ Some (does (show marks (codes "F")))
+unfolding line_of egw_app edit_app cat_app merge_app make_app clap_on_literals
+the_marks = refl
 
 a_session : line_of (codes "serve" ∷ codes "F" ∷ []) ≡ Some (serves (codes "F"))
 unfolding line_of egw_app edit_app cat_app merge_app make_app clap_on_literals

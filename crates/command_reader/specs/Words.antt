@@ -1,5 +1,5 @@
 -- What the words of a command line were read as.
-use Rattle.command_table.specs.Table.{Listing, content, past, head_ids, log, replay, numbers, question, Command, create, edit, show, merge, make, net, Line, does, serves}
+use Rattle.command_table.specs.Table.{Listing, content, past, head_ids, log, replay, numbers, question, marks, Command, create, edit, show, merge, make, net, Line, does, serves}
 use Rattle.command_reader.specs.declared.words as words
 use Rattle.command_reader.specs.declared.words.Listing.TheVariants as shown
 use Rattle.command_reader.specs.declared.words.Line.TheVariants as line
@@ -15,6 +15,7 @@ listing_view shown.Log = log
 listing_view shown.Replay = replay
 listing_view shown.Numbers = numbers
 listing_view shown.Question = question
+listing_view shown.Marks = marks
 
 -- the command that the words were read as
 abbrev pub command_view : Taken → Command

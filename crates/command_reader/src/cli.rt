@@ -103,7 +103,9 @@ fn with_file_command<'a>(
 }
 
 /// The commands of one file that have no options.
-const FILE_COMMANDS: [&str; 7] = ["new", "heads", "log", "replay", "check", "ask", "serve"];
+const FILE_COMMANDS: [&str; 8] = [
+    "new", "heads", "log", "replay", "check", "ask", "serve", "marks",
+];
 
 /// Adds the commands of one file that have no options.
 fn with_file_commands<'a>(alloc: Global, command: Command<'a>) -> Result<Command<'a>, AllocError>

@@ -31,6 +31,8 @@ pub enum Listing {
     Numbers,
     /// What a peer is asked for the events that the file lacks.
     Question,
+    /// The marks, with their labels.
+    Marks,
 }
 
 /// A command that is taken.
@@ -162,6 +164,7 @@ fn read_command<'a>(
         "ask" => Ok(read_show(Listing::Question, values)),
         "make" => Ok(read_make(values)),
         "net" => Ok(Some(Taken::Net)),
+        "marks" => Ok(read_show(Listing::Marks, values)),
         _ => Ok(None),
     }
 }

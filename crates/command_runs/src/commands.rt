@@ -22,7 +22,7 @@ use ew_model::id::Id;
 use ew_model::limits::Limits;
 use ew_model::steps::Steps;
 use ew_outside::{Fault, Shelf};
-use history_view::{check_text, heads_text, log_text, replay_text};
+use history_view::{check_text, heads_text, log_text, marks_text, replay_text};
 use opened_files::load::{Loaded, load_whole};
 use opened_files::open::{Found, open};
 use opened_files::reply::Reply;
@@ -70,6 +70,7 @@ fn list<L: Ledger>(
         Listing::Replay => Ok(replay_text(alloc, replica, steps)?),
         Listing::Numbers => Ok(check_text(alloc, replica)?),
         Listing::Question => Ok(question_bytes(alloc, replica)?),
+        Listing::Marks => Ok(marks_text(alloc, replica)?),
     }
 }
 
@@ -102,8 +103,8 @@ fn shown<L: Ledger>(
     reply_of(listed)
 }
 
-/// Shows a file: its text now or at a version, its heads, its events, its replay, its numbers, or what it asks a
-/// peer for.
+/// Shows a file: its text now or at a version, its heads, its events, its marks, its replay, its numbers, or what it
+/// asks a peer for.
 pub fn show<H: Shelf, L: Ledger>(
     alloc: Global,
     listing: Listing,

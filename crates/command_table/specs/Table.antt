@@ -27,7 +27,7 @@ use Rattle.history_definitions.specs.Summary.{summary_of}
 use Rattle.peer_definitions.specs.declared.frame.Frame.TheVariants.{Have}
 use Rattle.peer_definitions.specs.Spelling.{frame_bytes}
 use Rattle.peer_definitions.specs.Answering.{is_clash}
-use Rattle.history_definitions.specs.Listings.{check_text, heads_text, log_text}
+use Rattle.history_definitions.specs.Listings.{check_text, heads_text, log_text, marks_text}
 use Rattle.history_definitions.specs.Replays.{replay_text}
 use Rattle.history_definitions.specs.Tallies.{accepted_in, repeats_in, refused_in}
 use Rattle.peer_definitions.specs.Runs.{RunOutcome, net_run}
@@ -57,6 +57,7 @@ pub data Listing : Type 0 where
   replay : Listing
   numbers : Listing
   question : Listing
+  marks : Listing
 
 -- a command line that is taken
 pub data Command : Type 0 where
@@ -126,7 +127,8 @@ command_in name rows =
     else (if bytes_eq name (codes "merge") then merge_line rows
     else (if bytes_eq name (codes "ask") then file_line (show question) rows
     else (if bytes_eq name (codes "make") then make_line rows
-    else (if bytes_eq name (codes "net") then Some net else None))))))))))
+    else (if bytes_eq name (codes "net") then Some net
+    else (if bytes_eq name (codes "marks") then file_line (show marks) rows else None)))))))))))
 
 -- the line of what `clap` finds in the words
 abbrev pub line_in : Option (Text × List Row) → Option Line
@@ -193,6 +195,7 @@ listing_text log events = log_text events
 listing_text replay events = replay_text events
 listing_text numbers events = check_text events
 listing_text question events = frame_bytes (Have (summary_of events))
+listing_text marks events = marks_text events
 
 -- the first id of a version, in the order written, that isn't held
 abbrev pub unknown_in : Listing → List Event → Option Id

@@ -14,7 +14,7 @@ use std::alloc::{AllocError, Global};
 
 // A line for each command.
 const USAGE: &str =
-    "usage: egw new FILE\n       egw edit FILE --agent NAME\n       egw cat FILE [--at VERSION]\n       egw heads FILE\n       egw log FILE\n       egw replay FILE\n       egw check FILE\n       egw merge FILE OTHER\n       egw ask FILE\n       egw serve FILE\n       egw net\n       egw make --seed N --count N\n";
+    "usage: egw new FILE\n       egw edit FILE --agent NAME\n       egw cat FILE [--at VERSION]\n       egw heads FILE\n       egw log FILE\n       egw replay FILE\n       egw check FILE\n       egw merge FILE OTHER\n       egw ask FILE\n       egw serve FILE\n       egw net\n       egw make --seed N --count N\n       egw marks FILE\n";
 
 /// Why a line is refused. Lines and frames are counted from 1; a name is told as it was given.
 #[derive(Debug, Drop)]

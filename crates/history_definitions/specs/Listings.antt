@@ -26,6 +26,16 @@ event_line e = spaced (id_text e.id ∷ version_text e.parents ∷ op_words e.op
 abbrev pub log_text : List Event → List ℕ
 log_text history = flat_map event_line history
 
+-- the line of an event in the list of marks: the id and the label of a mark; any other event has none
+abbrev pub mark_line : Id → Op → List ℕ
+mark_line x (Ins at ch) = []
+mark_line x (Del at) = []
+mark_line x (Mark label) = spaced (id_text x ∷ label ∷ []) ++ codes "\n"
+
+-- the marks, in the history's order, each on a line
+abbrev pub marks_text : List Event → List ℕ
+marks_text history = flat_map (λ e. mark_line e.id e.op) history
+
 -- an id on a line
 abbrev pub id_line : Id → List ℕ
 id_line x = id_text x ++ codes "\n"

@@ -1,4 +1,4 @@
-//! The listings of a history: its log, its heads, its numbers, and its replay.
+//! The listings of a history: its log, its heads, its marks, its numbers, and its replay.
 #![tactic(auto)]
 
 pub mod laws;
@@ -7,5 +7,5 @@ pub mod listings;
 pub mod replays;
 
 pub use lines::push_number;
-pub use listings::{check_text, heads_text, log_text};
+pub use listings::{check_text, heads_text, log_text, marks_text};
 pub use replays::replay_text;

@@ -9,8 +9,10 @@ ghost use Rattle.history_definitions.specs.Listings as model;
 use crate::lines::{push_event, push_id, push_number};
 use event_graph::{Graph, Near};
 use ew_model::NoMem;
+use ew_model::event::Op;
 use ew_model::id::Id;
 use replica::Replica;
+use script_reader::print::print_id;
 use std::alloc::Global;
 
 /// The log: each event in the history's order on a line, as `ID PARENTS ins AT CH`, `ID PARENTS del AT` or
@@ -30,6 +32,41 @@ fn log_of(alloc: Global, graph: &Graph) -> Result<Vec<u8>, NoMem>
         push_event(&mut text, &graph.event_near(lv, &mut near)?)?;
     }
     Ok(text)
+}
+
+/// The marks, in the history's order: of each a line `ID LABEL`.
+pub fn marks_text(alloc: Global, replica: &Replica) -> Result<Vec<u8>, NoMem>
+    ensures { IfOk result (λ text. text.items ≡ model.marks_text replica.now.held) }
+{
+    marks_of(alloc, replica.graph())
+}
+
+fn marks_of(alloc: Global, graph: &Graph) -> Result<Vec<u8>, NoMem>
+    ensures { IfOk result (λ text. text.items ≡ model.marks_text graph.now) }
+{
+    let mut text = Vec::new(alloc);
+    let mut near = Near::start();
+    for position in 0..graph.count() {
+        let op = graph.op_near(position, &mut near);
+        let id = graph.id_near(position, &mut near);
+        push_mark_line(&mut text, &id, &op)?;
+    }
+    Ok(text)
+}
+
+/// Writes the id and the label of a mark, and a newline; of another event nothing.
+fn push_mark_line(out: &mut Vec<u8>, id: &Id, op: &Op) -> Result<(), NoMem>
+    ensures { OnOk result (out.new.items ≡ out.old.items ++ model.mark_line id.now op.now) }
+{
+    let Op::Mark { label } = op else {
+        return Ok(());
+    };
+    let text = print_id(*out.allocator(), id)?;
+    out.extend_from_slice(&text)?;
+    out.push(b' ')?;
+    out.extend_from_slice(label.as_slice())?;
+    out.push(b'\n')?;
+    Ok(())
 }
 
 /// The heads' ids, ascending, each on a line.
