@@ -183,15 +183,23 @@ def shape_of(text):
     return re.sub(rb"[0-9a-f]{64}|[0-9]+", b"N", text).decode(errors="replace").strip()
 
 
-LISTINGS = ("cat", "heads", "log", "check", "replay", "ask")
+LISTINGS = ("cat", "heads", "log", "check", "replay", "ask", "marks")
 
 
 def list_all(beside, name):
-    """All that tells of a file. Its changes, one after another, have to leave its text."""
+    """All that tells of a file. Its changes, one after another, have to leave its text, and its marks are those of its log."""
     answers = [beside.run(listing, name) for listing in LISTINGS]
     if answers[4][0] == 0 and text_after(answers[4][1].decode()) != answers[0][1].decode():
         beside.wrong(f"the changes of {name} don't leave its text")
+    if answers[2][0] == 0 and marks_in(answers[2][1].decode()) != answers[6][1].decode():
+        beside.wrong(f"the marks of {name} aren't those of its log")
     return answers
+
+
+def marks_in(log):
+    """The lines of the marks of a log, as `marks` prints them."""
+    lines = [line.split(" ", 3) for line in log.split("\n")[:-1]]
+    return "".join(f"{id} {what}\n" for id, _, kind, what in lines if kind == "mark")
 
 
 def text_after(changes):

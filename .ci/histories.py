@@ -21,6 +21,7 @@ USAGE = b"""usage: egw new FILE
        egw serve FILE
        egw net
        egw make --seed N --count N
+       egw marks FILE
 """
 
 Id = namedtuple("Id", "agent seq")  # a name's bytes and a number: compared in this order, as the page wants it

@@ -574,7 +574,7 @@ def scripts(beside, draws):
 # Lines of words
 
 
-WORDS = ["new", "edit", "cat", "heads", "log", "check", "merge", "replay", "ask", "serve", "make", "net", "F", "F", "F", "G", "--agent", "--agent", "--agent=a", "--agent=", "--agent==a", "a",
+WORDS = ["new", "edit", "cat", "heads", "log", "check", "merge", "replay", "ask", "serve", "make", "net", "marks", "F", "F", "F", "G", "--agent", "--agent", "--agent=a", "--agent=", "--agent==a", "a",
          "-", "--", "--", "", "-h", "--help", "help", "-V", "--version", "--at", "--at", "--at=", "--at=root", "--at=a:1", "root", "a:0", "a:2,a:0", "b:0", "--seed", "--seed=7", "--count", "--count=3", "7", "-F", "--agents", "--agen", "-agent", "---", "--=", "a" * 32, "a" * 33, "-1", "ä", "-ä", "=", "a b"]
 TAKEN = [["edit", "F", "--agent", "a"], ["edit", "--agent", "a", "F"], ["edit", "--agent=a", "--", "F"], ["edit", "F", "--agent=a"], ["edit", "--agent", "a", "--", "-F"],
          ["edit", "F", "--", "--agent", "a"], ["edit", "F", "--agent", "--", "a"], ["edit", "F", "--agent", "a", "--agent", "a"], ["edit", "F", "--agent", "a", "--agent=a"],
@@ -602,6 +602,8 @@ TAKEN = [["edit", "F", "--agent", "a"], ["edit", "--agent", "a", "F"], ["edit", 
          ["ask", "G"], ["ask", "nowhere"], ["ask", ""], ["ask", "-"], ["ask", "F", "--agent", "a"], ["ask", "--agent=a", "F"], ["ask", "F", "--at", "a:0"], ["ask", "F", "--at=a:0"],
          ["ask", "--at", "root", "F"], ["ask", "F", "--", "--at"], ["ask", "F", "--help"], ["ask", "F", "-h"], ["ask", "help"], ["help", "ask"], ["Ask", "F"], ["ASK", "F"], ["ask ", "F"], [" ask", "F"],
          ["ask\n", "F"], ["asks", "F"], ["as", "F"], ["--", "ask", "F"], [b"ask", b"\xff"],
+         ["marks", "F"], ["marks"], ["marks", "F", "G"], ["marks", "F", "F"], ["marks", "--", "F"], ["marks", "F", "--"], ["marks", "--", "-F"], ["marks", "-F"], ["marks", "G"], ["marks", "nowhere"], ["marks", ""],
+         ["marks", "F", "--agent", "a"], ["marks", "F", "--at", "a:0"], ["marks", "F", "--help"], ["help", "marks"], ["Marks", "F"], ["mark", "F"], ["marks ", "F"], [b"marks", b"\xff"],
          ["make", "--seed", "1", "--count", "1"], ["make", "--count", "1", "--seed", "1"], ["make", "--seed=1", "--count=1"], ["make", "--seed=1", "--count", "1"], ["make", "--count=1", "--seed", "1"],
          ["make", "--seed", "1"], ["make", "--count", "1"], ["make"], ["make", "--seed", "1", "--count"], ["make", "--seed", "--count", "1"], ["make", "--seed=", "--count=1"], ["make", "--seed=1", "--count="],
          ["make", "--seed=1", "--seed=1", "--count=1"], ["make", "--seed=1", "--count=1", "--count=1"], ["make", "--seed=1", "--count=1", "--"], ["make", "--", "--seed=1", "--count=1"],
@@ -694,9 +696,10 @@ def made(beside, draws):
 
 NAMES = ["a", "b", "c", "B", "_-", "9", "aa", "a" * 32]
 BAD_LINES = ["show", "show ", "show z ", "peer -a", "peer " + "a" * 33, "peer ä", "push a", "push a b ", "push  a b", "ask a", "send a b 1", "send a b 01 1", "send a b 1 4294967296", "deliver", "deliver +1",
-             "deliver 1 ", "restart", "agree ", " agree", "agree\r", "agree\0", "ins a 0", "ins a  x", "ins 0 x", "ins a 0 \\x", "ins a 0 \\", "del a 0", "del a 0 1 ", "del a 0 -1", "deliver 0x1", "Agree", "net", "\t"]
+             "deliver 1 ", "restart", "agree ", " agree", "agree\r", "agree\0", "ins a 0", "ins a  x", "ins 0 x", "ins a 0 \\x", "ins a 0 \\", "del a 0", "del a 0 1 ", "del a 0 -1", "deliver 0x1", "Agree", "net", "\t", "mark", "mark a", "mark a ",
+             "mark  m", "mark a m ", "mark a -m", "mark a  m", "mark a " + "m" * 33, "mark a ä", "mark a m n", "mark a \\n", "mark -a m", "MARK a m", "marks a m"]
 REFUSED_LINES = ["peer a", "show nobody", "push a nobody", "push nobody a", "push nobody none", "send nobody a 0 0", "ask a nobody", "restart nobody", "ins nobody 0 x", "del nobody 9 9", "deliver 4294967295",
-                 "deliver 9999", "ins a 4294967295 ", "ins a 999 x", "del a 0 4294967295", "del a 4294967295 4294967295"]
+                 "deliver 9999", "ins a 4294967295 ", "ins a 999 x", "del a 0 4294967295", "del a 4294967295 4294967295", "mark nobody m", "mark nobody a"]
 
 
 class NetScript:
@@ -716,13 +719,15 @@ class NetScript:
 
     def line(self):
         draws, name, other = self.draws, self.draws.one_of(self.names), self.draws.one_of(self.names)
-        length, kind, packets = len(self.net.desks[name].history.visible()), self.draws.below(16), len(self.net.packets)
+        length, kind, packets = len(self.net.desks[name].history.visible()), self.draws.below(17), len(self.net.packets)
         heads = len(self.net.desks[name].history.heads)
         if kind < 5 and heads <= 16:
             return f"ins {name} {draws.below(length + 1)} " + "".join(draws.one_of(["a", "b", " ", "\\n", "\\\\", "é", "🦀"]) for _ in range(draws.below(5)))
         if kind == 5 and heads <= 16:
             at = draws.below(length + 1)
             return f"del {name} {at} {draws.below(min(length - at, 3) + 1)}"
+        if kind == 16:
+            return f"mark {name} {draws.one_of(LABELS).decode()}"
         if kind < 12 and packets:
             return f"deliver {draws.below(packets)}"
         words = ["push", "push", "send", "ask", "restart", "show", "agree"]
@@ -778,14 +783,16 @@ def limits(beside):
             beside.run("edit", "heads", "--agent", agent.decode(), input=b"mark m\nins 0 x\nmark n")
             beside.run("log", "heads")
             beside.run("check", "heads")
+            beside.run("marks", "heads")
     for heads in (16, 17):
         script = [f"peer p{n}\nins p{n} 0 x\npush p{n} p0" for n in range(heads)] + [f"deliver {n}" for n in range(1, heads)]
-        for edit in ("ins p0 0 x", "ins p0 0 ", "del p0 0 1", "del p0 0 0", "ins p0 99 x"):
+        for edit in ("ins p0 0 x", "ins p0 0 ", "del p0 0 1", "del p0 0 0", "ins p0 99 x", "mark p0 m\nins p0 0 x", "mark p0 m\nmark p0 n\npush p0 p1"):
             beside.run("net", input="\n".join([*script, edit, "show p0"]).encode())
     for more in (0, 1):
         beside.run("net", input=b"\n" * (MOST_INPUT + more))
         beside.run("net", input=b"peer a\nins a 1 x\nins a 0 " + b"x" * (MOST_EVENTS + more))
         beside.run("net", input=b"peer a\nins a 0 " + b"x" * (MOST_EVENTS + 1) + b"\nshow " + b"a" * (31 + more))
+        beside.run("net", input=b"peer a\nins a 0 " + b"x" * (MOST_EVENTS - 1 + more) + b"\nmark a m")
     beside.run("edit", "F", "--agent", "a", input=b"\n" * MOST_INPUT)
     beside.run("edit", "F", "--agent", "a", input=b"\n" * (MOST_INPUT + 1))
     beside.run("edit", "F", "--agent", "a", input=b"ins 0 " + b"x" * (MOST_EVENTS + 1))
@@ -819,6 +826,7 @@ def refusals(beside):
         beside.run("cat", name, "--at", "a:0")
         beside.run("cat", name, "--at", "b:0")
         beside.run("replay", name)
+        beside.run("marks", name)
         beside.run("ask", name)
         beside.run("serve", name, input=frame(6))
         beside.run("edit", name, "--agent", "a", input=b"ins 0 x")
@@ -827,11 +835,13 @@ def refusals(beside):
         beside.run("new", name)
     beside.file("F.0.new", b"another file")
     beside.run("edit", "F", "--agent", "a", input=b"ins 0 y")
+    beside.run("edit", "F", "--agent", "a", input=b"mark m")
     with open("/dev/full", "wb") as full:
         beside.run("cat", "F", out=full)
         for version in ("a:2", "root", "b:0", "b"):
             beside.run("cat", "F", "--at", version, out=full)
         beside.run("replay", "F", out=full)
+        beside.run("marks", "F", out=full)
         beside.run("ask", "F", out=full)
         beside.run("serve", "F", input=frame(1, bytes(4)), out=full)
         beside.run("serve", "F", input=frame(3), out=full)
@@ -875,7 +885,7 @@ WANTED += [(5, f"egw: frame N: {fault}") for fault in ("cut", "bad kind N", "too
 WANTED += [(6, f"egw: {what} failed") for what in ("shelf", "source", "sink")]
 WANTED += [(7, "egw: F: more than N bytes"), (7, "egw: F: more than N events"), (7, "egw: input: more than N bytes"), (7, "egw: more than N events"), (7, "egw: N heads, more than N")]
 # And each status that a command may come to, but for memory.
-STATUSES = {"cat --at": (0, 2, 3, 4, 5, 6, 7), "replay": (0, 2, 3, 4, 6, 7), "ask": (0, 2, 3, 4, 6, 7), "serve": (0, 2, 3, 4, 5, 6, 7), "make": (0, 2, 6), "net": (0, 2, 5, 6, 7)}
+STATUSES = {"cat --at": (0, 2, 3, 4, 5, 6, 7), "replay": (0, 2, 3, 4, 6, 7), "ask": (0, 2, 3, 4, 6, 7), "serve": (0, 2, 3, 4, 5, 6, 7), "make": (0, 2, 6), "net": (0, 2, 5, 6, 7), "marks": (0, 2, 3, 4, 6, 7)}
 
 
 def main():

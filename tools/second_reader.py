@@ -1,8 +1,8 @@
 #!/usr/bin/env python3
 """A second implementation of `egw`, written from docs/FORMATS.md alone.
 
-It has new, edit, cat, heads, log, replay, check, merge, ask, serve, net and make. Its authors
-had never seen the program, but for those of `serve`, `net` and `make`.
+It has new, edit, cat, heads, log, replay, check, merge, ask, serve, net, make and marks. Its authors
+had never seen the program, but for those of `serve`, `net`, `make` and `marks`.
 The sections follow those of the page. Python 3, nothing else.
 """
 
@@ -34,7 +34,7 @@ LINE = re.compile('ins %s (.*)|del %s %s|mark (%s)' % (NUMBER, NUMBER, NUMBER, N
 USAGE = 'usage: egw ' + '\n       egw '.join((
     'new FILE', 'edit FILE --agent NAME', 'cat FILE [--at VERSION]', 'heads FILE', 'log FILE',
     'replay FILE', 'check FILE', 'merge FILE OTHER', 'ask FILE', 'serve FILE', 'net',
-    'make --seed N --count N'))
+    'make --seed N --count N', 'marks FILE'))
 
 
 # An id is a pair (name, number), so ids compare as the page orders them.
@@ -648,14 +648,14 @@ def talk(desk):
 
 # Nets
 
-# What stands behind the first word of a line: names, numbers, a text.
-STEPS = {'peer': 'N', 'ins': 'N#T', 'del': 'N##', 'push': 'NN', 'send': 'NN##', 'ask': 'NN',
+# What stands behind the first word of a line: names, numbers, a text, a label.
+STEPS = {'peer': 'N', 'ins': 'N#T', 'del': 'N##', 'mark': 'NL', 'push': 'NN', 'send': 'NN##', 'ask': 'NN',
          'deliver': '#', 'restart': 'N', 'show': 'N', 'agree': ''}
 
 
 def parse_part(kind, part):
-    """A name, a number or a text; None where it is none."""
-    if kind == 'N':
+    """A name, a number, a text or a label; None where it is none."""
+    if kind in 'NL':
         return parse_name(part)
     if kind == '#':
         return int(part) if re.fullmatch(NUMBER, part) and int(part) <= MAX_NUMBER else None
@@ -695,7 +695,7 @@ class Net:
             raise Refusal(5, 'line %d: peer %s is there' % (number, names[0]))
         if word == 'deliver' and values[0] >= len(self.packets):
             raise Refusal(5, 'line %d: no packet %d' % (number, values[0]))
-        if word in ('ins', 'del'):
+        if word in ('ins', 'del', 'mark'):
             return self.edit(number, word, *values)
         return getattr(self, word)(*values)
 
@@ -704,11 +704,16 @@ class Net:
         self.desks[name] = Desk(History(''))
         return 'peer %s\n' % name
 
-    def edit(self, number, word, name, index, what):
+    def edit(self, number, word, name, *values):
         """An edit of a peer's history."""
         history = self.desks[name].history
         before = len(history.events)
-        edit = (INSERT, index, len(what), what) if word == 'ins' else (DELETE, index, what, '')
+        if word == 'ins':
+            edit = INSERT, values[0], len(values[1]), values[1]
+        elif word == 'del':
+            edit = DELETE, *values, ''
+        else:
+            edit = MARK, 0, 0, *values
         do_edit(history, name, number, edit)
         return '%s made %d\n' % (name, len(history.events) - before)
 
@@ -921,6 +926,11 @@ def run_log(files, _values):
     return ''.join(lines)
 
 
+def run_marks(files, _values):
+    """Print the marks."""
+    return ''.join('%s %s\n' % (spell(event.id), event.what) for event in load(files[0]).events if event.kind == MARK)
+
+
 def run_replay(files, _values):
     """Print the changes."""
     return ''.join(spell_change(*change) + '\n' for change in load(files[0]).changes())
@@ -1053,7 +1063,7 @@ def parse_up_to(most, minus=''):
 # The command, the number of its files, and its options: how often each has to be there, and what reads its value.
 COMMANDS = {'new': (run_new, 1, {}), 'edit': (run_edit, 1, {'--agent': (1, parse_name)}),
             'cat': (run_cat, 1, {'--at': (0, parse_version)}), 'heads': (run_heads, 1, {}),
-            'log': (run_log, 1, {}), 'replay': (run_replay, 1, {}),
+            'log': (run_log, 1, {}), 'marks': (run_marks, 1, {}), 'replay': (run_replay, 1, {}),
             'check': (run_check, 1, {}), 'ask': (run_ask, 1, {}), 'serve': (run_serve, 1, {}),
             'merge': (run_merge, 2, {}), 'net': (run_net, 0, {}),
             'make': (run_make, 0, {'--seed': (1, parse_up_to(2 ** 64 - 1)), '--count': (1, parse_up_to(MAX_EVENTS, '-'))})}

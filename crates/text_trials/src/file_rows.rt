@@ -5,9 +5,9 @@ ghost use Rattle.std.specs.Prelude.{◌<◌};
 use event_file::{EventReader, FileFault, decode, encode};
 use ew_model::NoMem;
 use ew_model::event::Event;
-use hex::FromHexError;
 use sha2::{Digest, Sha256};
 use std::alloc::Global;
+use trial_rows::bytes::{bytes_of, changed};
 use trial_rows::fault::Fault;
 use trial_rows::show;
 use trial_rows::words::{first_word, history, number};
@@ -24,39 +24,6 @@ pub fn answer(alloc: Global, digits: &str, asked: &str) -> Result<String, Fault>
         "digest" => Ok(hex::encode(alloc, &Sha256::digest(&content)[..])?),
         _ => Err(Fault::Unreadable),
     }
-}
-
-/// The bytes that the hexadecimal digits mean.
-pub fn bytes_of(alloc: Global, digits: &str) -> Result<Vec<u8>, Fault> {
-    match hex::decode(alloc, digits) {
-        Ok(bytes) => Ok(bytes),
-        Err(FromHexError::OutOfMemory) => Err(Fault::OutOfMemory),
-        Err(_) => Err(Fault::Unreadable),
-    }
-}
-
-/// The content with changed bytes, each a place and two digits, as `8=02`. `<18` cuts it there.
-fn changed(alloc: Global, content: &[u8], words: &str) -> Result<Vec<u8>, Fault> {
-    let mut bytes = Vec::from_slice(alloc, content)?;
-    for word in words.split_whitespace() {
-        change(&mut bytes, word)?;
-    }
-    Ok(bytes)
-}
-
-fn change(bytes: &mut Vec<u8>, word: &str) -> Result<(), Fault> {
-    if let Some(len) = word.strip_prefix('<') {
-        bytes.truncate(number(len)? as usize);
-        return Ok(());
-    }
-    let (place, digits) = word.split_once('=').ok_or(Fault::Unreadable)?;
-    let place = number(place)? as usize;
-    let byte = u8::from_str_radix(digits, 16)?;
-    if place >= bytes.len() {
-        return Err(Fault::Unreadable);
-    }
-    bytes[place] = byte;
-    Ok(())
 }
 
 /// The content, and then its digest.

@@ -1,11 +1,11 @@
 //! Rows of frames: bytes that a reader is given in pieces.
 
-use crate::file_rows::bytes_of;
 use ew_model::NoMem;
 use ew_model::limits::Limits;
 use peer_frames::{FrameFault, FrameReader, encode};
 use std::alloc::Global;
 use std::fmt::Write;
+use trial_rows::bytes::bytes_of;
 use trial_rows::fault::Fault;
 use trial_rows::words::number;
 
