@@ -31,10 +31,10 @@ abbrev pub records_at : List (List ℕ) → List Event → List Event → List �
 records_at agents before [] = []
 records_at agents before (e ∷ later) = record_at agents before e ++ records_at agents (before ++ e ∷ []) later
 
-ids_push : (before : List Event) (e : Event) → ids_of (before ++ e ∷ []) ≡ ids_of before ++ e.id ∷ []
+pub ids_push : (before : List Event) (e : Event) → ids_of (before ++ e ∷ []) ≡ ids_of before ++ e.id ∷ []
 ids_push before e = map-append (λ (f : Event). f.id) before (e ∷ [])
 
-setting_after : (agents : List (List ℕ)) (before : List Event) (e : Event) → IsSetting agents before → IsSound e → MayFollow before e → IsSetting agents (before ++ e ∷ [])
+pub setting_after : (agents : List (List ℕ)) (before : List Event) (e : Event) → IsSetting agents before → IsSound e → MayFollow before e → IsSetting agents (before ++ e ∷ [])
 setting_after agents before e s sound follows = record {
   names = s.names;
   good = s.good;
@@ -42,7 +42,7 @@ setting_after agents before e s sound follows = record {
   sound = subst (AllByRecursion IsSoundId) (sym (ids_push before e)) (all_joined IsSoundId (ids_of before) (e.id ∷ []) s.sound (sound.id, tt));
 }
 
-writable_first : (before : List Event) (e : Event) (later : List Event) → MayFollow before e → are_writable_after (before ++ e ∷ []) later ≡ true → are_writable_after before (e ∷ later) ≡ true
+pub writable_first : (before : List Event) (e : Event) (later : List Event) → MayFollow before e → are_writable_after (before ++ e ∷ []) later ≡ true → are_writable_after before (e ∷ later) ≡ true
 writable_first before e later f rest =
     and_from _ _ (and_from _ _ (and_from _ _ (and_from _ _ (not_from_false _ f.new) f.held) f.ascend) f.few) rest
 
@@ -68,11 +68,11 @@ pub record AreRecordsRead (agents : List (List ℕ)) (before : List Event) (n : 
   pub unused : List (List ℕ)
   pub agents_are : agents ≡ agents_of read ++ unused
 
-abbrev BeginsWithAgents : List (List ℕ) → List Event → Type 0
+abbrev pub BeginsWithAgents : List (List ℕ) → List Event → Type 0
 BeginsWithAgents agents events = (rest : List (List ℕ)) × (agents ≡ agents_of events ++ rest)
 
 -- the agents stay in front when a record is read
-agents_step : (agents : List (List ℕ)) (before : List Event) (e : Event) (unused : List (List ℕ)) (i : ℕ) → agents ≡ agents_of before ++ unused → slice_get (open_agents agents before) i ≡ Some e.id.agent → BeginsWithAgents agents (before ++ e ∷ [])
+pub agents_step : (agents : List (List ℕ)) (before : List Event) (e : Event) (unused : List (List ℕ)) (i : ℕ) → agents ≡ agents_of before ++ unused → slice_get (open_agents agents before) i ≡ Some e.id.agent → BeginsWithAgents agents (before ++ e ∷ [])
 agents_step agents before e unused i are got =
     let used = agents_of before in
     let known : list_any (name_eq e.id.agent) used ≡ true → BeginsWithAgents agents (before ++ e ∷ []) =
@@ -134,7 +134,7 @@ records_again (e ∷ later) before agents left are sound writable small_agents s
     ∙ ap (λ xs. Ok (xs, left)) shifted
 
 -- parents that stand before have their places in the whole history
-parents_whole : (before later : List Event) (parents : List Id) → list_all (is_held before) parents ≡ true → flat_map (parent_bytes (ids_of (before ++ later))) parents ≡ flat_map (parent_bytes (ids_of before)) parents
+pub parents_whole : (before later : List Event) (parents : List Id) → list_all (is_held before) parents ≡ true → flat_map (parent_bytes (ids_of (before ++ later))) parents ≡ flat_map (parent_bytes (ids_of before)) parents
 parents_whole before later [] held = refl
 parents_whole before later (p ∷ parents) held =
     let h = and_parts (is_held before p) (list_all (is_held before) parents) held in
@@ -167,12 +167,12 @@ ended : (agents : List (List ℕ)) (events : List Event) (y : List Event × List
 ended agents events y true is h = let same : (events, []) ≡ y = cc in (eqb-true _ _ is, ap (λ (p : List Event × List ℕ). p.0) (sym same))
 ended agents events y false is h = absurd cc
 
-end_ok : (agents : List (List ℕ)) (events : List Event) (bytes : List ℕ) (y : List Event × List ℕ) → read_end agents events bytes ≡ Ok y → (bytes ≡ []) × (length (agents_of events) ≡ length agents) × (y.0 ≡ events)
+pub end_ok : (agents : List (List ℕ)) (events : List Event) (bytes : List ℕ) (y : List Event × List ℕ) → read_end agents events bytes ≡ Ok y → (bytes ≡ []) × (length (agents_of events) ≡ length agents) × (y.0 ≡ events)
 unfolding read_end
 end_ok agents events [] y e = let h = ended agents events y (eqb (length (agents_of events)) (length agents)) refl e in (refl, h.0, h.1)
 end_ok agents events (b ∷ bytes) y e = absurd cc
 
-limit_ok : (b : Bool) (why : Stop) (next : Reader (List Event)) (bytes : List ℕ) (y : List Event × List ℕ) → (cond b (stops why) next) bytes ≡ Ok y → (b ≡ false) × (next bytes ≡ Ok y)
+pub limit_ok : (b : Bool) (why : Stop) (next : Reader (List Event)) (bytes : List ℕ) (y : List Event × List ℕ) → (cond b (stops why) next) bytes ≡ Ok y → (b ≡ false) × (next bytes ≡ Ok y)
 limit_ok true why next bytes y e = absurd cc
 limit_ok false why next bytes y e = (refl, e)
 
@@ -230,7 +230,7 @@ events_take most bytes y fits e =
       few = omega (arith, events.count, ltb-false _ _ l.0);
     })
 
-end_again : (agents : List (List ℕ)) (events : List Event) → agents ≡ agents_of events → read_end agents events [] ≡ Ok (events, [])
+pub end_again : (agents : List (List ℕ)) (events : List Event) → agents ≡ agents_of events → read_end agents events [] ≡ Ok (events, [])
 unfolding read_end
 end_again agents events are = cond-true (eqb (length (agents_of events)) (length agents)) (Ok (events, [])) (Err (BadField 0 UnusedAgent)) (eq-eqb _ _ (ap (λ (xs : List (List ℕ)). length xs) (sym are)))
 

@@ -196,10 +196,10 @@ or_as_cond true b = refl
 or_as_cond false b = refl
 
 -- the test of a character is the fact
-scalar_is : (c : ℕ) → is_scalar c ≡ cond (ltb c 55296) true (leb 57344 c && ltb c 1114112)
+pub scalar_is : (c : ℕ) → is_scalar c ≡ cond (ltb c 55296) true (leb 57344 c && ltb c 1114112)
 scalar_is c = or_as_cond (ltb c 55296) (leb 57344 c && ltb c 1114112)
 
-scalar_small : (c : ℕ) → is_scalar c ≡ true → c < 2 ^ 32
+pub scalar_small : (c : ℕ) → is_scalar c ≡ true → c < 2 ^ 32
 scalar_small c h =
     elim (or_cases (ltb c 55296) (leb 57344 c && ltb c 1114112) h) [
       | inl t ↦ let small = ltb-true c 55296 t in omega arith

@@ -23,7 +23,7 @@ use Rattle.file_words.proofs.FileEvents.{events_text, AreEventsRead, events_take
 use Rattle.ew_model.proofs.RisingLists.{pointwise_same}
 
 -- the mark and the version
-abbrev mark : List ℕ
+abbrev pub mark : List ℕ
 mark = codes "EGWFILE"
 
 pub content_is : (events : List Event) → file_content events ≡ mark ++ (1 ∷ events_text events)
@@ -33,16 +33,16 @@ content_is events =
     ap (λ t. mark ++ (1 ∷ (start ++ t))) (append_assoc (flat_map name_bytes (agents_of events)) (four_bytes (length events)) (flat_map (record_bytes events) events))
 
 -- a test that let its second case through
-passed : {A : Type 0} (b : Bool) (x y z : A) → (x ≡ z → false ≡ true) → cond b x y ≡ z → (b ≡ false) × (y ≡ z)
+pub passed : {A : Type 0} (b : Bool) (x y z : A) → (x ≡ z → false ≡ true) → cond b x y ≡ z → (b ≡ false) × (y ≡ z)
 passed true x y z n e = absurd (let f : false ≡ true = n e in cc)
 passed false x y z n e = (refl, e)
 
-is_file_of : (len : ℕ) (r : Result (List Event × List ℕ) Stop) (events : List Event) → finding_of len r ≡ IsFile events → (left : List ℕ) × (r ≡ Ok (events, left))
+pub is_file_of : (len : ℕ) (r : Result (List Event × List ℕ) Stop) (events : List Event) → finding_of len r ≡ IsFile events → (left : List ℕ) × (r ≡ Ok (events, left))
 is_file_of len (Ok found) events e = let same : found.0 ≡ events = cc in (found.1, ap (λ xs. Ok (xs, found.1)) same)
 is_file_of len (Err (BadField left kind)) events e = absurd cc
 is_file_of len (Err (OverLimit count)) events e = absurd cc
 
-checked : (b : Bool) (x y z : FileFinding) → (y ≡ z → false ≡ true) → cond b x y ≡ z → (b ≡ true) × (x ≡ z)
+pub checked : (b : Bool) (x y z : FileFinding) → (y ≡ z → false ≡ true) → cond b x y ≡ z → (b ≡ true) × (x ≡ z)
 checked true x y z n e = (refl, e)
 checked false x y z n e = absurd (let f : false ≡ true = n e in cc)
 

@@ -50,7 +50,7 @@ pub record AreParentsBehind (ids parents : List Id) (n : ℕ) (bytes : List ℕ)
   pub ascend : ids_ascend read ≡ true
   pub sound : AllByRecursion IsSoundId more
 
-parents_take : (n : ℕ) (ids parents : List Id) (bytes : List ℕ) (y : List Id × List ℕ) → AreBytes bytes → AllNew id_eq [] ids → AllByRecursion IsSoundId ids → ids_ascend parents ≡ true → read_parents ids parents n bytes ≡ Ok y → AreParentsBehind ids parents n bytes y.0 y.1
+pub parents_take : (n : ℕ) (ids parents : List Id) (bytes : List ℕ) (y : List Id × List ℕ) → AreBytes bytes → AllNew id_eq [] ids → AllByRecursion IsSoundId ids → ids_ascend parents ≡ true → read_parents ids parents n bytes ≡ Ok y → AreParentsBehind ids parents n bytes y.0 y.1
 unfolding read_parents
 parents_take zero ids parents bytes y fits apart sound up e =
     let same : (parents, bytes) ≡ y = cc in
@@ -81,7 +81,7 @@ ascend_front (x ∷ y ∷ xs) ys h =
     let p = and_parts (id_lt x y) (ids_ascend (y ∷ xs ++ ys)) h in
     and_from (id_lt x y) (ids_ascend (y ∷ xs)) p.0 (ascend_front (y ∷ xs) ys p.1)
 
-parents_again : (more ids parents : List Id) (left : List ℕ) → list_all (is_among ids) more ≡ true → ids_ascend (parents ++ more) ≡ true → length ids < 2 ^ 32 → read_parents ids parents (length more) (flat_map (parent_bytes ids) more ++ left) ≡ Ok (parents ++ more, left)
+pub parents_again : (more ids parents : List Id) (left : List ℕ) → list_all (is_among ids) more ≡ true → ids_ascend (parents ++ more) ≡ true → length ids < 2 ^ 32 → read_parents ids parents (length more) (flat_map (parent_bytes ids) more ++ left) ≡ Ok (parents ++ more, left)
 unfolding read_parents
 parents_again [] ids parents left held up small = ap (λ x. Ok (x, left)) (sym (append-nil parents))
 parents_again (x ∷ more) ids parents left held up small =
@@ -132,13 +132,13 @@ pub record IsRecordRead (agents : List (List ℕ)) (before : List Event) (bytes 
   pub place : ℕ
   pub agent : slice_get (open_agents agents before) place ≡ Some e.id.agent
 
-abbrev new_id : List Event → Id → Bool
+abbrev pub new_id : List Event → Id → Bool
 new_id before x = not (is_held before x)
 
-abbrev id_from : List Event → List ℕ → ℕ → Option Id
+abbrev pub id_from : List Event → List ℕ → ℕ → Option Id
 id_from before agent seq = only (new_id before) (record { agent = agent; seq = seq })
 
-abbrev few_parents : ℕ → Bool
+abbrev pub few_parents : ℕ → Bool
 few_parents n = leb n 16
 
 abbrev with_parents : Id → List Id → Reader Event

@@ -2,4 +2,12 @@ pub mod FileEvents
 pub mod FileFields
 pub mod FileReading
 pub mod FileRecords
+pub mod FileRuns
+pub mod LongestRuns
 pub mod Rows
+pub mod RunEvents
+pub mod RunFields
+pub mod RunReading
+pub mod RunRecords
+pub mod RunSizes
+pub mod VersionReading

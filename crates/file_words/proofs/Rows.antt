@@ -1,3 +1,4 @@
 -- Worked rows: what the definitions compute to.
 mod File
 mod FileFaults
+mod FileRuns

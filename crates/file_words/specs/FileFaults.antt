@@ -24,6 +24,8 @@ pub data RecordFault : Type 0 where
   ParentPosition : RecordFault
   ParentOrder : RecordFault
   KindBad : RecordFault
+  RunJoin : RecordFault
+  RunLength : RecordFault
   Scalar : RecordFault
   Trailing : RecordFault
   UnusedAgent : RecordFault
