@@ -3,7 +3,7 @@
 ghost use Rattle.std.specs.Prelude.{◌≡◌};
 ghost use Rattle.advance_retreat.specs.declared.fault.ApplyFault.TheVariants as apply;
 
-use std::alloc::AllocError;
+use ew_model::NoMem;
 use thiserror::Error;
 
 /// Why an event isn't applied. The state is as it was before.
@@ -17,10 +17,10 @@ pub enum ApplyFault {
     OutOfMemory,
 }
 
-impl From<AllocError> for ApplyFault {
+impl From<NoMem> for ApplyFault {
     ghost from_gives = { λ _ e. e ≡ apply.OutOfMemory };
 
-    fn from(_e: AllocError) -> ApplyFault {
+    fn from(_e: NoMem) -> ApplyFault {
         ApplyFault::OutOfMemory
     }
 }

@@ -28,7 +28,7 @@ use ew_model::id::Id;
 use ew_model::node::Node;
 use ew_model::steps::Steps;
 use ew_model::text_op::TextOp;
-use std::alloc::{AllocError, Global};
+use std::alloc::Global;
 use std::marker::Model;
 use std::sync::ledger::Ledger;
 
@@ -74,7 +74,7 @@ impl State {
         ensures lost { IfOk result (λ s. s.lost ≡ 0) }
     {
         if len > MOST {
-            return Err(AllocError);
+            return Err(NoMem);
         }
         Ok(State {
             base: len,

@@ -9,6 +9,7 @@ use Rattle.std.proofs.lemmas.Option.{same_Some, slice_get_within, slice_get-get_
 use Rattle.ew_model.specs.declared.id.Id.{Id}
 use Rattle.ew_model.specs.Ids.{name_eq}
 use Rattle.ew_model.proofs.ListParts.{is_some-position}
+use Rattle.ew_model.proofs.PositionCuts.{last_at}
 use Rattle.history_definitions.specs.Agents.{agents_of, count_of, AreNumbered}
 use Rattle.agent_ids.specs.declared.runs.IdRun.{IdRun}
 use Rattle.agent_ids.specs.IdRuns.{id_with, last_in, ids_in, AreRuns, with_more}
@@ -43,15 +44,11 @@ last_split (y ∷ z ∷ ids) x h =
     let rest = last_split (z ∷ ids) x (sym (ap (slice_get (y ∷ z ∷ ids)) place) ∙ h) in
     (y ∷ rest.0, ap (λ xs. y ∷ xs) rest.1)
 
-pub pushed : {X : Type 0} (xs : List X) (x : X) → slice_get (xs ++ x ∷ []) (length xs) ≡ Some x
-pushed [] x = refl
-pushed (y ∷ xs) x = pushed xs x
-
 pub last_pushed : (ids : List Id) (x : Id) → last_in (ids ++ x ∷ []) ≡ Some x
 last_pushed ids x =
     let long = length-append ids (x ∷ []) in
     let place : length (ids ++ x ∷ []) - 1 ≡ length ids = omega (arith, long) in
-    ap (slice_get (ids ++ x ∷ [])) place ∙ pushed ids x
+    ap (slice_get (ids ++ x ∷ [])) place ∙ last_at ids x
 
 -- so its agent's number is that of the id that came behind the others
 pub last_behind : (ids : List Id) (x : Id) (names : List (List ℕ)) (number : ℕ) → slice_get names number ≡ Some x.agent → IsNumberOfLast (ids ++ x ∷ []) names number

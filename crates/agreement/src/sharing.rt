@@ -45,8 +45,8 @@ fn holds_all(b: &Graph, a: &Graph) -> bool
     ensures { IsTrue result ↔ ((e : Event) → Among e a.now → Among e b.now) }
 {
     let mut nears = Nears::start();
-    for lv in 0..a.count() {
-        if !is_shared(a, lv, b, &mut nears) {
+    for position in 0..a.count() {
+        if !is_shared(a, position, b, &mut nears) {
             return false;
         }
     }
@@ -68,43 +68,43 @@ pub fn are_consistent(a: &Graph, b: &Graph) -> bool
 }
 
 /// Whether the event of `a` at a position is among those of `b`.
-fn is_shared(a: &Graph, lv: u32, b: &Graph, nears: &mut Nears) -> bool
-    requires within { lv < length a.now }
+fn is_shared(a: &Graph, position: u32, b: &Graph, nears: &mut Nears) -> bool
+    requires within { position < length a.now }
     requires admitted_a { IsAdmitted a.now }
     requires admitted_b { IsAdmitted b.now }
-    ensures { IsTrue result ↔ IsShared a.now lv b.now }
+    ensures { IsTrue result ↔ IsShared a.now position b.now }
 {
-    let Some(other) = b.find(&a.id_near(lv, &mut nears.ours)) else {
+    let Some(other) = b.find(&a.id_near(position, &mut nears.ours)) else {
         return false;
     };
-    is_same(a, lv, b, other, nears)
+    is_same(a, position, b, other, nears)
 }
 
 /// Whether the event of `a` at a position is among those of `b`, where `b` holds its id.
-fn fits(a: &Graph, lv: u32, b: &Graph, nears: &mut Nears) -> bool
-    requires within { lv < length a.now }
+fn fits(a: &Graph, position: u32, b: &Graph, nears: &mut Nears) -> bool
+    requires within { position < length a.now }
     requires admitted_a { IsAdmitted a.now }
     requires admitted_b { IsAdmitted b.now }
-    ensures { IsTrue result ↔ Fits a.now lv b.now }
+    ensures { IsTrue result ↔ Fits a.now position b.now }
 {
-    match b.find(&a.id_near(lv, &mut nears.ours)) {
-        Some(other) => is_same(a, lv, b, other, nears),
+    match b.find(&a.id_near(position, &mut nears.ours)) {
+        Some(other) => is_same(a, position, b, other, nears),
         None => true,
     }
 }
 
 /// Whether the event of `a` at the one position is that of `b` with its id, which stands at the other.
-fn is_same(a: &Graph, lv: u32, b: &Graph, other: u32, nears: &mut Nears) -> bool
-    requires within_a { lv < length a.now }
+fn is_same(a: &Graph, one: u32, b: &Graph, other: u32, nears: &mut Nears) -> bool
+    requires within_a { one < length a.now }
     requires within_b { other < length b.now }
     requires admitted_a { IsAdmitted a.now }
     requires admitted_b { IsAdmitted b.now }
-    requires found { (x : Id) → slice_get (ids_of a.now) lv ≡ Some x → position (id_eq x) (ids_of b.now) ≡ Some other }
-    ensures { IsTrue result ↔ IsShared a.now lv b.now }
+    requires found { (x : Id) → slice_get (ids_of a.now) one ≡ Some x → position (id_eq x) (ids_of b.now) ≡ Some other }
+    ensures { IsTrue result ↔ IsShared a.now one b.now }
 {
-    let ours = a.op_near(lv, &mut nears.ours);
+    let ours = a.op_near(one, &mut nears.ours);
     let theirs = b.op_near(other, &mut nears.theirs);
-    ours.same(&theirs) && have_same_parents(a, lv, b, other, nears)
+    ours.same(&theirs) && have_same_parents(a, one, b, other, nears)
 }
 
 /// Whether the event of `a` at the one position has the parents of the event of `b` at the other. Where both have the event before

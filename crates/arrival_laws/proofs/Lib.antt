@@ -1,9 +1,10 @@
-mod Turns
 mod Accounts
-pub mod LastAnswers
-pub mod Thinning
 mod Pairs
+mod Turns
+pub mod Answered
+pub mod FirstRows
+pub mod LastAnswers
 pub mod Parts
 pub mod Repeats
-pub mod Answered
 pub mod Settling
+pub mod Thinning

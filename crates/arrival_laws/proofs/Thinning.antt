@@ -17,6 +17,7 @@ use Rattle.ew_model.specs.Verdicts.Ruling.{Repeat, Clash, Unknown, Good}
 use Rattle.ew_model.proofs.KeptLaws.{held_joined}
 use Rattle.ew_model.proofs.MergeSteps.{repeat_row}
 use Rattle.ew_model.proofs.RoundSteps.{grown_next}
+use Rattle.ew_model.proofs.StopLaws.{coming_stays}
 use Rattle.arrival_laws.specs.Repeats.{without_held}
 
 -- the desk to which the events with ids of the old history don't come, and where waiting events that are ready come first
@@ -71,11 +72,6 @@ settles Good e d = refl
 settles (Unknown p) e d = refl
 settles r e d = refl
 
-leaves : (r : Ruling) (e : Event) (d : Desk) → (desk_after r e d).coming ≡ d.coming
-leaves Good e d = refl
-leaves (Unknown p) e d = refl
-leaves r e d = refl
-
 -- what is calm stays so
 calm_next : (limits : LimitNumbers) (b : Bool) (old : List Event) (d : Desk) (j : Judgement) → IsCalm old d → next_judgement limits b d ≡ Some j
     → j.desk.is_settling ≡ true → IsCalm old j.desk
@@ -97,7 +93,7 @@ goes_on limits b old d rest e r calm here there took =
       here = here;
       there = there ∙ ap (λ (desk : Desk). Some (record { desk = desk; answer = j.answer })) (same_after old final e rest);
       calm = calm_next limits b old d j calm here (settles final e rest);
-      took = subst (TakesNew old d.coming) (sym (leaves final e rest)) took;
+      took = subst (TakesNew old d.coming) (sym (coming_stays final e rest)) took;
     }
 
 -- an event whose id is held is a repeat or a clash

@@ -44,21 +44,21 @@ module _ (ps : List (ℕ × Stretch)) (t : Labels) (visible shown : ℕ) (so : A
     }
 
   -- with one more, which is both
-  pub counted_more : (qs : List (ℕ × Stretch)) (u : Labels) (place : Place) (lv n : ℕ) → AreLabelled qs u → Comes (chars_in ps) (chars_in qs) place lv n → length (chars_in ps) < 2 ^ 25 → AreCounted qs u (visible + 1) (shown + 1)
-  counted_more qs u place lv n laid e room = record {
+  pub counted_more : (qs : List (ℕ × Stretch)) (u : Labels) (place : Place) (position n : ℕ) → AreLabelled qs u → Comes (chars_in ps) (chars_in qs) place position n → length (chars_in ps) < 2 ^ 25 → AreCounted qs u (visible + 1) (shown + 1)
+  counted_more qs u place position n laid e room = record {
     labelled = laid;
     visible_is =
         let is = so.visible_is in
         let more = ap (λ (xs : List Stretch). visible_in xs) e.after in
-        let one = count_inserted is_visible (chars_in ps) e.index (single (Event lv) 1 true) refl in
+        let one = count_inserted is_visible (chars_in ps) e.index (single (Event position) 1 true) refl in
         omega (arith, is, more, one);
     shown_is =
         let is = so.shown_is in
         let more = ap (λ (xs : List Stretch). shown_in xs) e.after in
-        let one = count_inserted (λ (r : Stretch). r.effect) (chars_in ps) e.index (single (Event lv) 1 true) refl in
+        let one = count_inserted (λ (r : Stretch). r.effect) (chars_in ps) e.index (single (Event position) 1 true) refl in
         omega (arith, is, more, one);
     few =
         let more = ap length e.after in
-        let one = length_inserted (chars_in ps) e.index (single (Event lv) 1 true) in
+        let one = length_inserted (chars_in ps) e.index (single (Event position) 1 true) in
         omega (arith, more, one, room);
   }

@@ -130,7 +130,7 @@ module _ (ps : List (ℕ × Stretch)) (rising : IsRising ps) (label : ℕ) (run 
       let long = long_front in
       omega (arith, old, few, long)
 
-  pub joined_labelled : (t : Labels) → AreLabelled ps t → 0 < run.len → list_any (is_of (Event child.lv)) (chars_in ps) ≡ false → AreLabelled (changed ps label joined) t
+  pub joined_labelled : (t : Labels) → AreLabelled ps t → 0 < run.len → list_any (is_of (Event child.position)) (chars_in ps) ≡ false → AreLabelled (changed ps label joined) t
   joined_labelled t laid some none =
       joined_laid ps (changed ps label joined) t label run joined laid held (moves_changed label joined ps run rising held) refl some refl
       (stands_not ps (node_on run.from run.len) (ap (λ (v : Node). list_any (is_of v) (chars_in ps)) (sym on.from) ∙ none))
@@ -140,8 +140,8 @@ pub still_ends : (ps qs : List (ℕ × Stretch)) → runs qs ≡ runs ps → (v 
 still_ends ps qs same v ends l n s = let h = run_held qs ps same l s.run s.held in ends h.0 n (record { run = s.run; held = h.1; inside = s.inside; node = s.node })
 
 module _ (qs : List (ℕ × Stretch)) (rising : IsRising qs) (old new : List Stretch) (same : chars_in qs ≡ old) (child : Child) (v : Node) (m : ℕ) where
-  pub comes_behind : (label n : ℕ) (s : Stands qs label n v) → EndsRun qs v → EntersAt (chars_in qs) new child (length (chars_in (up_to qs label))) m → Comes old new (After v) child.lv m
-  comes_behind label n s ends e = subst (λ (rs : List Stretch). Comes rs new (After v) child.lv m) same (record {
+  pub comes_behind : (label n : ℕ) (s : Stands qs label n v) → EndsRun qs v → EntersAt (chars_in qs) new child (length (chars_in (up_to qs label))) m → Comes old new (After v) child.position m
+  comes_behind label n s ends e = subst (λ (rs : List Stretch). Comes rs new (After v) child.position m) same (record {
     index = length (chars_in (up_to qs label));
     here = index_behind qs rising label s.run s.held v n s.inside s.node (ends label n s);
     within = e.within;
@@ -149,8 +149,8 @@ module _ (qs : List (ℕ × Stretch)) (rising : IsRising qs) (old new : List Str
     after = e.after;
   })
 
-  pub comes_ahead : (label n : ℕ) (s : Stands qs label n v) → BeginsRun qs v → EntersAt (chars_in qs) new child (length (chars_in (lower qs label))) m → Comes old new (Before v) child.lv m
-  comes_ahead label n s begins e = subst (λ (rs : List Stretch). Comes rs new (Before v) child.lv m) same (record {
+  pub comes_ahead : (label n : ℕ) (s : Stands qs label n v) → BeginsRun qs v → EntersAt (chars_in qs) new child (length (chars_in (lower qs label))) m → Comes old new (Before v) child.position m
+  comes_ahead label n s begins e = subst (λ (rs : List Stretch). Comes rs new (Before v) child.position m) same (record {
     index = length (chars_in (lower qs label));
     here = index_ahead qs rising label s.run s.held v n s.inside s.node (begins label n s);
     within = e.within;
@@ -162,8 +162,8 @@ module _ (qs : List (ℕ × Stretch)) (rising : IsRising qs) (old new : List Str
     first : length (chars_in (up_to qs 0)) ≡ 0
     first = ap (λ (xs : List (ℕ × Stretch)). length (chars_in xs)) (up_to_none 0 qs (rises_above 0 qs rising))
 
-    pub comes_first_behind : Comes old new (After v) child.lv m
-    comes_first_behind = subst (λ (rs : List Stretch). Comes rs new (After v) child.lv m) same (record {
+    pub comes_first_behind : Comes old new (After v) child.position m
+    comes_first_behind = subst (λ (rs : List Stretch). Comes rs new (After v) child.position m) same (record {
       index = length (chars_in (up_to qs 0));
       here = inr (none_of qs v none, first);
       within = e.within;
@@ -171,8 +171,8 @@ module _ (qs : List (ℕ × Stretch)) (rising : IsRising qs) (old new : List Str
       after = e.after;
     })
 
-    pub comes_first_ahead : Comes old new (Before v) child.lv m
-    comes_first_ahead = subst (λ (rs : List Stretch). Comes rs new (Before v) child.lv m) same (record {
+    pub comes_first_ahead : Comes old new (Before v) child.position m
+    comes_first_ahead = subst (λ (rs : List Stretch). Comes rs new (Before v) child.position m) same (record {
       index = length (chars_in (up_to qs 0));
       here = inr (none_of qs v none, first);
       within = e.within;

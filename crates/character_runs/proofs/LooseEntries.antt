@@ -75,7 +75,7 @@ module _ (among : Node → Bool) where
         omega (arith, now, was)
 
     -- or in the run before
-    pub joined_told : (run : Stretch) → Contains ps (label, run) → (child : Child) → is_continued run (run_of child 1) ≡ true → 0 < run.len → among (Event child.lv) ≡ true
+    pub joined_told : (run : Stretch) → Contains ps (label, run) → (child : Child) → is_continued run (run_of child 1) ≡ true → 0 < run.len → among (Event child.position) ≡ true
         → loose_in among (runs (changed ps label (joined_of run (run_of child 1)))) ≤ loose_parted among (runs ps) (length (up_to ps label))
     joined_told run held child goes some e =
         let joined : Stretch = joined_of run (run_of child 1) in

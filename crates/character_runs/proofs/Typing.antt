@@ -93,28 +93,28 @@ module _ (ps : List (ℕ × Stretch)) (t : Labels) (visible shown : ℕ) (at : O
     new_is : changed old c.label joined ≡ new
     new_is = ap (λ (xs : List (ℕ × Stretch)). changed xs c.label joined) (ap (settled ps) is ∙ sym end) ∙ changed_twice c.label joined qs c.run
 
-    pub comes : Comes (chars_in old) (chars_in new) (After (last_of c.run)) child.lv (c.before + c.run.len)
+    pub comes : Comes (chars_in old) (chars_in new) (After (last_of c.run)) child.position (c.before + c.run.len)
     comes =
         let some = here.some in
         let before = here.before in
         let n = c.before + c.run.len in
         let ends = last_ends old t kept.counted.labelled rises (last_of c.run) c.label (c.run.len - 1) c.run stands here.held (omega (arith, some)) in
-        subst (λ (qs : List (ℕ × Stretch)). Comes (chars_in old) (chars_in qs) (After (last_of c.run)) child.lv n) new_is
+        subst (λ (qs : List (ℕ × Stretch)). Comes (chars_in old) (chars_in qs) (After (last_of c.run)) child.position n) new_is
         (comes_behind old rises (chars_in old) (chars_in (changed old c.label joined)) refl child (last_of c.run) n c.label (c.run.len - 1) stands ends
         (joined_enters old rises c.label c.run here.held child goes n (omega (arith, before))))
 
-    pub told : (among : Node → Bool) → among (Event child.lv) ≡ true → loose_in among (runs new) ≤ loose_in among (runs old)
+    pub told : (among : Node → Bool) → among (Event child.position) ≡ true → loose_in among (runs new) ≤ loose_in among (runs old)
     told among e =
         let le = joined_told among old c.label rises c.run here.held child goes here.some e in
         let less = behind_told among old t kept.counted.labelled rises (runs old) (last_of c.run) c.label (c.run.len - 1) stands (inl refl) in
         let same = ap (λ (qs : List (ℕ × Stretch)). loose_in among (runs qs)) new_is in
         omega (arith, le, less, same)
 
-    pub kept_more : list_any (is_of (Event child.lv)) (chars_in old) ≡ false → length (chars_in old) < 2 ^ 25 → AreKept qs u (visible + 1) (shown + 1) (Some (typed_at c child)) true
+    pub kept_more : list_any (is_of (Event child.position)) (chars_in old) ≡ false → length (chars_in old) < 2 ^ 25 → AreKept qs u (visible + 1) (shown + 1) (Some (typed_at c child)) true
     kept_more unrecorded room =
         let laid = joined_labelled old rises c.label c.run here.held child goes t kept.counted.labelled here.some unrecorded in
         record {
-          counted = counted_more old t visible shown kept.counted new u (After (last_of c.run)) child.lv (c.before + c.run.len) (subst (λ (x : Labels). AreLabelled new x) (sym table) (subst (λ (xs : List (ℕ × Stretch)). AreLabelled xs t) new_is laid)) comes room;
+          counted = counted_more old t visible shown kept.counted new u (After (last_of c.run)) child.position (c.before + c.run.len) (subst (λ (x : Labels). AreLabelled new x) (sym table) (subst (λ (xs : List (ℕ × Stretch)). AreLabelled xs t) new_is laid)) comes room;
           cursor = subst (λ (qs : List (ℕ × Stretch)). IsCursor qs (typed_at c child)) new_is (typed_on old rises c here child);
           told = λ e. absurd (false≢true (sym e));
           few = own;

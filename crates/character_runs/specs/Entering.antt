@@ -10,18 +10,18 @@ use Rattle.character_runs.specs.States.{is_of, shown_in}
 
 -- its run, of so many characters
 abbrev pub run_of : Child → ℕ → Stretch
-run_of child n = record { from = Event child.lv; len = n; prepared = 1; effect = true }
+run_of child n = record { from = Event child.position; len = n; prepared = 1; effect = true }
 
 -- the child, as it is attached
 abbrev pub attached_by : Child → Attached
-attached_by child = record { parent = child.slot.parent; side = child.slot.side; id = child.id; node = Event child.lv }
+attached_by child = record { parent = child.slot.parent; side = child.slot.side; id = child.id; node = Event child.position }
 
 -- It may be attached behind these children, and its character come in among these.
 pub record IsNewChild (rs : List Stretch) (attached : List Attached) (child : Child) : Type 0 where
   pub parent : is_there attached child.slot.parent ≡ true
   pub unused : has_id attached child.id ≡ false
-  pub unattached : is_attached attached (Event child.lv) ≡ false
-  pub unrecorded : list_any (is_of (Event child.lv)) rs ≡ false
+  pub unattached : is_attached attached (Event child.position) ≡ false
+  pub unrecorded : list_any (is_of (Event child.position)) rs ≡ false
   pub room : length rs < 2 ^ 25
 
 -- its character came to the place, behind so many characters of the text

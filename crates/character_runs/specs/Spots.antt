@@ -61,9 +61,9 @@ IsIndex rs (After v) i = IsPlaceOf rs v suc i
 IsIndex rs (Before v) i = IsPlaceOf rs v (λ k. k) i
 
 -- the record of an event's new character came to the place, and so many characters of the text stand before it
-pub record Comes (old new : List Stretch) (place : Place) (lv n : ℕ) : Type 0 where
+pub record Comes (old new : List Stretch) (place : Place) (position n : ℕ) : Type 0 where
   pub index : ℕ
   pub here : IsIndex old place index
   pub within : index ≤ length old
   pub before : n ≡ shown_in (take index old)
-  pub after : new ≡ insert old index (single (Event lv) 1 true)
+  pub after : new ≡ insert old index (single (Event position) 1 true)

@@ -140,12 +140,12 @@ impl Characters {
     /// these. Answers the positions of those events, and whether they are inserted before and after.
     pub fn change_run(
         &mut self,
-        lv: u32,
+        position: u32,
         within: Positions,
         change: Change,
     ) -> Option<(Positions, Known)>
         requires { AllByRecursion HasRoom self.old.records }
-        ensures part { IfSome result (λ r. ArePart lv r.0 within) }
+        ensures part { IfSome result (λ r. ArePart position r.0 within) }
         ensures told { IfSome result (λ r. (n : ℕ) → r.0.from ≤ n → n < r.0.to → list_any (is_of (nodes.Event n)) self.old.records ≡ true) }
         ensures records { IfSome result (λ r. self.new.records ≡ map (changed_in r.0 change) self.old.records) }
         ensures was { IfSome result (λ r. (n : ℕ) → r.0.from ≤ n → n < r.0.to → knows self.old.records (nodes.Event n) ≡ r.1.was) }
@@ -153,7 +153,7 @@ impl Characters {
         ensures none { IfNone result (self.new ≡ self.old) }
         ensures loose { (among : Nodes → Bool) → loose_in among self.new.runs ≡ loose_in among self.old.runs }
     {
-        self.change_run_by::<Brand>(lv, within, change, Blank::new(1))
+        self.change_run_by::<Brand>(position, within, change, Blank::new(1))
     }
 
     /// Puts the character of a new event at a place, and attaches its node. Answers its index in the text.
@@ -162,22 +162,22 @@ impl Characters {
         siblings: &mut Siblings,
         slot: Slot,
         id: Id,
-        lv: u32,
+        position: u32,
         place: Place,
     ) -> Result<u32, NoMem>
         requires parent { is_there siblings.old slot.parent ≡ true }
         requires unused { has_id siblings.old id ≡ false }
-        requires new { is_attached siblings.old (nodes.Event lv) ≡ false }
-        requires unrecorded { list_any (is_of (nodes.Event lv)) self.old.records ≡ false }
+        requires new { is_attached siblings.old (nodes.Event position) ≡ false }
+        requires unrecorded { list_any (is_of (nodes.Event position)) self.old.records ≡ false }
         requires room { length self.old.records < 2 ^ 25 }
-        ensures comes { IfOk result (Comes self.old.records self.new.records place lv) }
-        ensures attached { OnOk result (siblings.new ≡ siblings.old ++ record { parent = slot.parent; side = slot.side; id = id; node = nodes.Event lv } ∷ []) }
+        ensures comes { IfOk result (Comes self.old.records self.new.records place position) }
+        ensures attached { OnOk result (siblings.new ≡ siblings.old ++ record { parent = slot.parent; side = slot.side; id = id; node = nodes.Event position } ∷ []) }
         ensures err { OnErr result (self.new.records ≡ self.old.records) }
         ensures detached { OnErr result (siblings.new ≡ siblings.old) }
-        ensures told { OnOk result ((among : Nodes → Bool) → among (nodes.Event lv) ≡ true → loose_in among self.new.runs ≤ loose_in among self.old.runs) }
+        ensures told { OnOk result ((among : Nodes → Bool) → among (nodes.Event position) ≡ true → loose_in among self.new.runs ≤ loose_in among self.old.runs) }
         ensures loose { OnErr result ((among : Nodes → Bool) → loose_in among self.new.runs ≤ loose_in among self.old.runs + 2) }
     {
-        let child = Child { slot, id, lv };
+        let child = Child { slot, id, position };
         self.insert_by::<Brand>(siblings, &child, place, Blank::new(1))
     }
 
@@ -363,7 +363,7 @@ impl Characters {
 
     fn change_run_by<L: Ledger>(
         &mut self,
-        lv: u32,
+        position: u32,
         within: Positions,
         change: Change,
         blank: Blank,
@@ -372,7 +372,7 @@ impl Characters {
         requires parts { blank.parts ≡ L.parts }
         requires some { 0 < blank.parts }
         requires room { AllByRecursion HasRoom self.old.records }
-        ensures part { IfSome result (λ r. ArePart lv r.0 within) }
+        ensures part { IfSome result (λ r. ArePart position r.0 within) }
         ensures told { IfSome result (λ r. (n : ℕ) → r.0.from ≤ n → n < r.0.to → list_any (is_of (nodes.Event n)) self.old.records ≡ true) }
         ensures records { IfSome result (λ r. self.new.records ≡ map (changed_in r.0 change) self.old.records) }
         ensures was { IfSome result (λ r. (n : ℕ) → r.0.from ≤ n → n < r.0.to → knows self.old.records (nodes.Event n) ≡ r.1.was) }
@@ -383,7 +383,7 @@ impl Characters {
         let mut visits: Steps<L> = Steps::new(blank);
         settle(&mut self.runs, &self.cursor, &mut self.pending, &mut visits);
         self.cursor = None;
-        let recast = self.runs.change_run(lv, within, change, &mut visits)?;
+        let recast = self.runs.change_run(position, within, change, &mut visits)?;
         self.visible = recast.altered.visible(self.visible);
         self.shown = recast.altered.shown(self.shown);
         Some((recast.positions, recast.altered.known()))
@@ -400,11 +400,11 @@ impl Characters {
         requires parts { blank.parts ≡ L.parts }
         requires some { 0 < blank.parts }
         requires new { IsNewChild self.old.records siblings.old child.now }
-        ensures comes { IfOk result (Comes self.old.records self.new.records place child.now.lv) }
+        ensures comes { IfOk result (Comes self.old.records self.new.records place child.now.position) }
         ensures attached { OnOk result (siblings.new ≡ siblings.old ++ attached_by child.now ∷ []) }
         ensures err { OnErr result (self.new.records ≡ self.old.records) }
         ensures detached { OnErr result (siblings.new ≡ siblings.old) }
-        ensures told { OnOk result ((among : Nodes → Bool) → among (nodes.Event child.now.lv) ≡ true → loose_in among self.new.runs ≤ loose_in among self.old.runs) }
+        ensures told { OnOk result ((among : Nodes → Bool) → among (nodes.Event child.now.position) ≡ true → loose_in among self.new.runs ≤ loose_in among self.old.runs) }
         ensures loose { OnErr result ((among : Nodes → Bool) → loose_in among self.new.runs ≤ loose_in among self.old.runs + 2) }
     {
         let mut visits: Steps<L> = Steps::new(blank);
@@ -424,9 +424,9 @@ impl Characters {
         visits: &mut Steps<L>,
     ) -> Result<Option<u32>, NoMem>
         requires new { IsNewChild self.old.records siblings.old child.now }
-        ensures comes { IfOk result (λ o. IfSome o (Comes self.old.records self.new.records place child.now.lv)) }
+        ensures comes { IfOk result (λ o. IfSome o (Comes self.old.records self.new.records place child.now.position)) }
         ensures attached { IfOk result (λ o. IfSome o (λ _. siblings.new ≡ siblings.old ++ attached_by child.now ∷ [])) }
-        ensures told { IfOk result (λ o. IfSome o (λ _. (among : Nodes → Bool) → among (nodes.Event child.now.lv) ≡ true → loose_in among self.new.runs ≤ loose_in among self.old.runs)) }
+        ensures told { IfOk result (λ o. IfSome o (λ _. (among : Nodes → Bool) → among (nodes.Event child.now.position) ≡ true → loose_in among self.new.runs ≤ loose_in among self.old.runs)) }
         ensures none { IfOk result (λ o. IfNone o (self.new ≡ self.old)) }
         ensures unattached { IfOk result (λ o. IfNone o (siblings.new ≡ siblings.old)) }
         ensures err { OnErr result (self.new ≡ self.old) }
@@ -455,11 +455,11 @@ impl Characters {
         visits: &mut Steps<L>,
     ) -> Result<u32, NoMem>
         requires new { IsNewChild self.old.records siblings.old child.now }
-        ensures comes { IfOk result (Comes self.old.records self.new.records place child.now.lv) }
+        ensures comes { IfOk result (Comes self.old.records self.new.records place child.now.position) }
         ensures attached { OnOk result (siblings.new ≡ siblings.old ++ attached_by child.now ∷ []) }
         ensures err { OnErr result (self.new.records ≡ self.old.records) }
         ensures detached { OnErr result (siblings.new ≡ siblings.old) }
-        ensures told { OnOk result ((among : Nodes → Bool) → among (nodes.Event child.now.lv) ≡ true → loose_in among self.new.runs ≤ loose_in among self.old.runs) }
+        ensures told { OnOk result ((among : Nodes → Bool) → among (nodes.Event child.now.position) ≡ true → loose_in among self.new.runs ≤ loose_in among self.old.runs) }
         ensures loose { OnErr result ((among : Nodes → Bool) → loose_in among self.new.runs ≤ loose_in among self.old.runs + 2) }
     {
         settle(&mut self.runs, &self.cursor, &mut self.pending, visits);

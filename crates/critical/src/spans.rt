@@ -104,10 +104,10 @@ pub fn has_heads(spans: &[CutSpan], heads: &[SmallVec<u32, 4>], cut: u32, positi
 }
 
 /// Whether the position stands in the list alone.
-fn is_only(positions: &[u32], lv: u32) -> bool
-    ensures { result ≡ pointwise nat_eq positions.now (lv ∷ []) }
+fn is_only(positions: &[u32], position: u32) -> bool
+    ensures { result ≡ pointwise nat_eq positions.now (position ∷ []) }
 {
-    positions == [lv].as_slice()
+    positions == [position].as_slice()
 }
 
 /// Whether the last span ends right before the cut.

@@ -34,7 +34,7 @@ base_char n = record { id = base_id n; path = base_path n; ch = 0 }
 pub base_next : (n : ℕ) → insertions (based (suc n)) ≡ insertions (based n) ++ base_char n ∷ []
 base_next n = insertions-append (based n) (Insertion (base_char n) ∷ [])
 
-joined_all : {X : Type 0} (P : X → Type 0) (xs : List X) (y : X) → AllByRecursion P xs → P y → AllByRecursion P (xs ++ y ∷ [])
+pub joined_all : {X : Type 0} (P : X → Type 0) (xs : List X) (y : X) → AllByRecursion P xs → P y → AllByRecursion P (xs ++ y ∷ [])
 joined_all P [] y h k = (k, tt)
 joined_all P (x ∷ xs) y h k = (h.0, joined_all P xs y h.1 k)
 

@@ -1,5 +1,5 @@
 -- Lists cut at a place, searched and filtered.
-use Rattle.std.proofs.Common.{◌≡◌, ℕ, zero, suc, ◌+◌, ◌<◌, ◌≤◌, Bool, true, false, cond, ◌||◌, List, [], ◌∷◌, ◌++◌, filter, length, take, drop, get_or, Option, Some, None, option_map, slice_get, refl, sym, ap, ◌∙◌, arith, add-one}
+use Rattle.std.proofs.Common.{◌≡◌, ℕ, zero, suc, ◌+◌, ◌<◌, ◌≤◌, Bool, true, false, cond, ◌||◌, List, [], ◌∷◌, ◌++◌, filter, length, take, drop, get_or, Option, Some, None, option_map, slice_get, refl, sym, ap, ◌∙◌, append_assoc, arith, add-one}
 use Rattle.std.specs.Option.{is_some}
 use Rattle.std.specs.List.{list_any, position}
 use Rattle.std.proofs.Math.Seq.{drop-cons}
@@ -44,3 +44,12 @@ is_some_at false (Some i) = refl
 pub is_some-position : {X : Type 0} (p : X → Bool) (xs : List X) → is_some (position p xs) ≡ list_any p xs
 is_some-position p [] = refl
 is_some-position p (x ∷ xs) = ap is_some (position-cons p x xs) ∙ is_some_at (p x) (position p xs) ∙ ap (λ b. p x || b) (is_some-position p xs)
+
+-- no element is left
+pub none_left : {X : Type 0} (xs : List X) → length xs ≡ 0 → xs ≡ []
+none_left [] h = refl
+none_left (x ∷ xs) h = absurd (omega (arith, h))
+
+-- the next of what is left goes to what is there
+pub one_moved : {X : Type 0} (xs rest more all : List X) (x : X) → rest ≡ x ∷ more → xs ++ rest ≡ all → (xs ++ x ∷ []) ++ more ≡ all
+one_moved xs rest more all x is h = append_assoc xs (x ∷ []) more ∙ ap (λ ys. xs ++ ys) (sym is) ∙ h

@@ -26,7 +26,7 @@ last_cases (x ∷ xs) = at (last_cases xs)
     at (inl none) = inr ([], x, ap (λ ys. x ∷ ys) none)
     at (inr more) = inr (x ∷ more.0, more.1, ap (λ ys. x ∷ ys) more.2)
 
-last_at : {X : Type 0} (front : List X) (x : X) → slice_get (front ++ x ∷ []) (length front) ≡ Some x
+pub last_at : {X : Type 0} (front : List X) (x : X) → slice_get (front ++ x ∷ []) (length front) ≡ Some x
 last_at [] x = refl
 last_at (y ∷ front) x = last_at front x
 

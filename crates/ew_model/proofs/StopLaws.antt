@@ -18,7 +18,7 @@ settles_on : (xs ys zs : List Event) → Settles xs ys → Settles ys zs → Set
 settles_on xs ys zs s t = (s.0 ++ t.0, s.1 ∙ (ap (λ w. s.0 ++ w) t.1 ∙ sym (append_assoc s.0 t.0 zs)))
 
 -- no ruling changes what is to come
-coming_stays : (r : Ruling) (e : Event) (d : Desk) → (desk_after r e d).coming ≡ d.coming
+pub coming_stays : (r : Ruling) (e : Event) (d : Desk) → (desk_after r e d).coming ≡ d.coming
 coming_stays Good e d = refl
 coming_stays (Unknown p) e d = refl
 coming_stays Repeat e d = refl

@@ -9,6 +9,7 @@ use Rattle.ew_model.specs.Edits.Edit.{Insert, Delete, Mark}
 use Rattle.ew_model.specs.Kept.{ReplicaState}
 use Rattle.ew_model.specs.Limits.{AreLimits, LimitNumbers}
 use Rattle.ew_model.specs.Texts.{text_of}
+use Rattle.ew_model.proofs.PositionCuts.{last_at}
 use Rattle.arrival_laws.proofs.Parts.{nothing_arrives, parts_are_the_whole}
 use Rattle.peer_definitions.specs.declared.net_step.NetStep.{NetStep}
 use Rattle.peer_definitions.specs.declared.net_step.NetStep.TheVariants as step
@@ -54,10 +55,6 @@ all_delivered name r limits events are =
     pieces_delivered name r (pieces (frame_room limits) events) ∙ ap (received r) (frames_are_full limits events are).whole
 
 -- the last of a list
-last_there : {X : Type 0} (xs : List X) (x : X) → slice_get (xs ++ x ∷ []) (length xs) ≡ Some x
-last_there [] x = refl
-last_there (y ∷ xs) x = last_there xs x
-
 -- packets that replies make
 replies_left : (limits : LimitNumbers) (peers : List ReplicaState) (packets : List Packet) (k : Packet) (printed : List ℕ) (replies : List Frame)
     → (more : List Packet) × (length more ≤ 1) × (network_left (print_before printed (with_replies (net_of limits peers packets) k replies)) ≡ Some (net_of limits peers (packets ++ more)))
@@ -93,7 +90,7 @@ module _ (limits : LimitNumbers) (peers : List ReplicaState) (packets : List Pac
       let rest = replies_left limits (gives giver taker peers) (packets ++ packet ∷ []) packet d.printed d.replies in (
         rest.0,
         rest.1,
-        ap (λ (o : Option Packet). network_left (option_map_or (deliver_step net) o (Refused (NoPacket (length packets))))) (last_there packets packet)
+        ap (λ (o : Option Packet). network_left (option_map_or (deliver_step net) o (Refused (NoPacket (length packets))))) (last_at packets packet)
             ∙ ap network_left (with_named limits peers (packets ++ packet ∷ []) taker (λ p. let d = delivery_of p.name p.replica packet.frames in print_before d.printed (with_replies (put_replica net (agent_of taker) d.replica) packet d.replies)) three second)
             ∙ ap (λ (n : Network). network_left (print_before d.printed (with_replies n packet d.replies))) put_given
             ∙ rest.2,

@@ -22,16 +22,7 @@ use Rattle.ew_model.proofs.MergeSteps.{IsTakenIn, first_judged, none_judged, not
 use Rattle.ew_model.proofs.RoundLaws.{then}
 use Rattle.ew_model.proofs.RulingLaws.{IsRight, next_right, stays}
 use Rattle.ew_model.proofs.SetLaws.{among_joined, joined_left, joined_right}
-
--- a row that doesn't hold
-row_off : (rows : List (Option Ruling)) (b : Bool) (q : Ruling) (more : List (Option Ruling)) → b ≡ false → first_row (rows ++ then_some b q ∷ more) ≡ first_row (rows ++ more)
-row_off rows true q more h = absurd (false≢true (sym h))
-row_off [] false q more h = refl
-row_off (None ∷ rows) false q more h = row_off rows false q more h
-row_off (Some p ∷ rows) false q more h = refl
-
-not_full : (most n : ℕ) → n < most → nat_le most n ≡ false
-not_full most n h = grind (arith, nat_tests)
+use Rattle.arrival_laws.proofs.FirstRows.{not_full, row_off}
 
 module _ (limits : LimitNumbers) (U : Event → Type 0) (one : (f g : Event) → U f → U g → id_eq f.id g.id ≡ true → f ≡ g)
     (room : (held : List Event) (x : Event) → IsGood held → ((z : Event) → Among z held → U z) → U x → is_held held x.id ≡ false → length held < limits.events) where

@@ -4,16 +4,11 @@ use Rattle.ew_model.specs.declared.id.Id.{Id}
 use Rattle.ew_model.specs.declared.event.Op.{Op}
 use Rattle.ew_model.specs.declared.event.Event.{Event}
 use Rattle.ew_model.specs.Ancestors.{ids_of}
+use Rattle.ew_model.proofs.ListPlaces.{none_is_some, some_is}
 use Rattle.history_definitions.specs.Listings.{mark_line, marks_text}
 
-none_is_some : {A : Type 0} (x : A) → None ≡ Some x → ⊥
-none_is_some x same = cc
-
-some_is : {A : Type 0} (x y : A) → Some x ≡ Some y → x ≡ y
-some_is x y same = cc
-
 next : (line : Event → List ℕ) (history : List Event) (n : ℕ) (e : Event) → slice_get history n ≡ Some e → flat_map line (take (suc n) history) ≡ flat_map line (take n history) ++ line e
-next line [] n e is = absurd (none_is_some e is)
+next line [] n e is = none_is_some e is
 next line (d ∷ history) zero e is = append-nil (line d) ∙ ap line (some_is d e is)
 next line (d ∷ history) (suc n) e is = ap (λ t. line d ++ t) (next line history n e is) ∙ sym (append_assoc (line d) (flat_map line (take n history)) (line e))
 
@@ -24,7 +19,7 @@ line_next line history n e is = ap (λ k. flat_map line (take k history)) (add-o
 -- the event with the id and the operation that stand at a place
 event_at : (history : List Event) (n : ℕ) (x : Id) (op : Op) → slice_get (ids_of history) n ≡ Some x → slice_get (map (λ (e : Event). e.op) history) n ≡ Some op
     → (e : Event) × (slice_get history n ≡ Some e) × (mark_line e.id e.op ≡ mark_line x op)
-event_at [] n x op id does = absurd (none_is_some x id)
+event_at [] n x op id does = none_is_some x id
 event_at (d ∷ history) zero x op id does =
     let same_id = some_is d.id x id in
     let same_op = some_is d.op op does in

@@ -28,8 +28,8 @@ fn log_of(alloc: Global, graph: &Graph) -> Result<Vec<u8>, NoMem>
 {
     let mut text = Vec::new(alloc);
     let mut near = Near::start();
-    for lv in 0..graph.count() {
-        push_event(&mut text, &graph.event_near(lv, &mut near)?)?;
+    for position in 0..graph.count() {
+        push_event(&mut text, &graph.event_near(position, &mut near)?)?;
     }
     Ok(text)
 }

@@ -30,6 +30,7 @@ use Rattle.peer_exchange.proofs.Lengths.{all_drop, bye_taken, missing_few, missi
 use Rattle.peer_exchange.proofs.Refused.{refused_each}
 use Rattle.peer_definitions.specs.Answering.{answer_to, event_frames, frame_for, question, took_of}
 use Rattle.peer_frames.specs.Laws.{IsTaken}
+use Rattle.peer_frames.proofs.ShortNames.{events_long}
 use Rattle.peer_definitions.specs.Spelling.{event_bytes, events_body, id_bytes}
 use Rattle.ew_model.specs.Bytes.{four_bytes, op_bytes}
 use Rattle.peer_definitions.specs.declared.frame.Frame.{Frame}
@@ -77,24 +78,10 @@ put_sound name r (p ∷ peers) held waiting h = (at (cases_Bool (name_eq p.name 
     at (inr other) = subst IsSoundPeer (sym (put_elsewhere name r p other)) h.0
 
 -- how many events a frame may have
-event_some : (e : Event) → 1 ≤ length (event_bytes e)
-event_some e =
-    let one = length-append (id_bytes e.id ++ length e.parents ∷ flat_map id_bytes e.parents) (op_bytes e.op) in
-    let two = length-append (id_bytes e.id) (length e.parents ∷ flat_map id_bytes e.parents) in
-    omega (arith, one, two)
-
-events_some : (events : List Event) → length events ≤ length (flat_map event_bytes events)
-events_some [] = omega arith
-events_some (e ∷ events) =
-    let one = event_some e in
-    let more = events_some events in
-    let both = length-append (event_bytes e) (flat_map event_bytes events) in
-    omega (arith, one, more, both)
-
 events_in_body : (limits : LimitNumbers) (events : List Event) → IsTaken limits (Events events) → length events ≤ limits.body
 events_in_body limits events taken =
     let both = length-append (four_bytes (length events)) (flat_map event_bytes events) in
-    let some = events_some events in
+    let some = events_long events in
     let short : length (events_body events) ≤ limits.body = taken.short in
     omega (arith, both, some, short)
 

@@ -13,15 +13,6 @@ use Rattle.net_core.specs.Laws.{NoneClashes, answers_in, answers_to, is_clash}
 use Rattle.peer_definitions.specs.Machine.{Peer, delivery_of, frame_line}
 use Rattle.net_core.proofs.Deliveries.{all_before}
 
--- no element is left
-pub none_left : {X : Type 0} (xs : List X) → length xs ≡ 0 → xs ≡ []
-none_left [] h = refl
-none_left (x ∷ xs) h = absurd (omega (arith, h))
-
--- the next of what is left goes to what is there
-pub one_moved : {X : Type 0} (xs rest more all : List X) (x : X) → rest ≡ x ∷ more → xs ++ rest ≡ all → (xs ++ x ∷ []) ++ more ≡ all
-one_moved xs rest more all x is h = append_assoc xs (x ∷ []) more ∙ ap (λ ys. xs ++ ys) (sym is) ∙ h
-
 pub one_printed : (name : List ℕ) (cut : ℕ) (printed all : List ℕ) (rest more : List Frame) (f : Frame) → rest ≡ f ∷ more → printed ++ reply_lines name cut rest ≡ all
     → (printed ++ reply_line name f cut) ++ reply_lines name cut more ≡ all
 one_printed name cut printed all rest more f is h = append_assoc printed (reply_line name f cut) (reply_lines name cut more) ∙ ap

@@ -4,9 +4,10 @@ ghost use Rattle.std.specs.Prelude.{◌≡◌};
 ghost use Rattle.net_core.specs.Answers.{fault_of};
 ghost use Rattle.net_core.specs.declared.fault.NetFault.TheVariants as fault;
 
+use ew_model::NoMem;
 use ew_model::name::Name;
 use replica::EditFault;
-use std::alloc::{AllocError, AllocFailed};
+use std::alloc::AllocFailed;
 use thiserror::Error;
 
 /// Why a step is refused. The first reason in this order is told.
@@ -32,10 +33,10 @@ pub enum NetFault {
     OutOfMemory,
 }
 
-impl From<AllocError> for NetFault {
+impl From<NoMem> for NetFault {
     ghost from_gives = { λ _ e. e ≡ fault.OutOfMemory };
 
-    fn from(_: AllocError) -> NetFault {
+    fn from(_: NoMem) -> NetFault {
         NetFault::OutOfMemory
     }
 }

@@ -36,8 +36,8 @@ pub fn piece(alloc: Global, graph: &Graph, skip: u32, count: u32) -> Result<Vec<
     let from = skip.min(held);
     let to = from + count.min(held - from);
     let mut events = Vec::with_capacity(alloc, (to - from) as usize)?;
-    for lv in from..to {
-        events.push(graph.event_at(lv)?)?;
+    for position in from..to {
+        events.push(graph.event_at(position)?)?;
     }
     Ok(events)
 }

@@ -24,9 +24,10 @@ use crate::relabel::{Reached, relabel_entries};
 use crate::spares::Spares;
 use crate::summary::{Summary, Sums};
 use crate::visible::{Visible, kid_visible, visible_in};
+use ew_model::NoMem;
 use ew_model::run::Run;
 use ew_model::steps::Steps;
-use std::alloc::{AllocError, Global};
+use std::alloc::Global;
 use std::marker::Model;
 use std::sync::ledger::Ledger;
 
@@ -270,7 +271,7 @@ impl<R: Run + Drop> Branch<R> {
         way: Way,
         spares: &mut Spares<R>,
         visits: &mut Steps<L>,
-    ) -> Result<Edited<R>, AllocError>
+    ) -> Result<Edited<R>, NoMem>
         requires rising { IsRising self.old.pairs }
         requires placed { IsPlaced R.Run edit way.label self.old.pairs }
         requires label { IsFree edit (way.most + 1) self.old.pairs way.label }

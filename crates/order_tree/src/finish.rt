@@ -13,8 +13,8 @@ use crate::halves::{inner_halves, leaf_halves, settle};
 use crate::leaf::{Way, edit_leaf};
 use crate::spares::Spares;
 use crate::summary::{Summary, Sums};
+use ew_model::NoMem;
 use ew_model::run::Run;
-use std::alloc::AllocError;
 
 /// Does an edit in a leaf with these sums, and answers what is kept of it now.
 pub fn edit_entries<R: Run + Drop>(
@@ -23,7 +23,7 @@ pub fn edit_entries<R: Run + Drop>(
     edit: Edit<R>,
     way: Way,
     spares: &mut Spares<R>,
-) -> Result<(Summary, Edited<R>), AllocError>
+) -> Result<(Summary, Edited<R>), NoMem>
     requires some { 1 ≤ length entries.old.items }
     requires few { length entries.old.items ≤ 16 }
     requires room { 16 ≤ vec_capacity entries.old }

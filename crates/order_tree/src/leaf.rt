@@ -10,8 +10,8 @@ use crate::label::share;
 use crate::part::{entries_up_to, free_before, place_of};
 use crate::spares::{MOST_PARTS, Spares};
 use crate::summary::Sums;
+use ew_model::NoMem;
 use ew_model::run::Run;
-use std::alloc::AllocError;
 
 /// Where an edit goes: its label, the greatest label that is free behind all runs here, and how many full nodes stand right above.
 #[derive(Clone, Copy, Debug)]
@@ -36,7 +36,7 @@ pub fn edit_leaf<R: Run + Drop>(
     edit: Edit<R>,
     way: Way,
     spares: &mut Spares<R>,
-) -> Result<LeafEdited<R>, AllocError>
+) -> Result<LeafEdited<R>, NoMem>
     requires some { 1 ≤ length entries.old.items }
     requires few { length entries.old.items ≤ 16 }
     requires room { 16 ≤ vec_capacity entries.old }
@@ -61,7 +61,7 @@ fn insert_entry<R: Run + Drop>(
     run: R,
     way: Way,
     spares: &mut Spares<R>,
-) -> Result<LeafEdited<R>, AllocError>
+) -> Result<LeafEdited<R>, NoMem>
     requires some { 1 ≤ length entries.old.items }
     requires few { length entries.old.items ≤ 16 }
     requires room { 16 ≤ vec_capacity entries.old }
@@ -95,7 +95,7 @@ fn split_entry<R: Run + Drop>(
     given: Option<u64>,
     way: Way,
     spares: &mut Spares<R>,
-) -> Result<LeafEdited<R>, AllocError>
+) -> Result<LeafEdited<R>, NoMem>
     requires some { 1 ≤ length entries.old.items }
     requires few { length entries.old.items ≤ 16 }
     requires room { 16 ≤ vec_capacity entries.old }
@@ -148,7 +148,7 @@ fn block_for<R: Run + Drop>(
     runs: usize,
     above: u32,
     spares: &mut Spares<R>,
-) -> Result<Option<Vec<(u64, R)>>, AllocError>
+) -> Result<Option<Vec<(u64, R)>>, NoMem>
     requires few { runs ≤ 16 }
     requires spares { spares.old ≡ 0 }
     ensures { IfOk result (λ block. IsSupplied runs above block spares.new) }

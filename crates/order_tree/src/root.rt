@@ -11,9 +11,9 @@ use crate::branch::Branch;
 use crate::edit::Edit;
 use crate::leaf::Way;
 use crate::spares::Spares;
+use ew_model::NoMem;
 use ew_model::run::Run;
 use ew_model::steps::Steps;
-use std::alloc::AllocError;
 use std::sync::ledger::Ledger;
 
 /// Does an edit of a tree with runs, and answers the label of its new run.
@@ -23,7 +23,7 @@ pub fn edit_root<R: Run + Drop, L: Ledger>(
     edit: Edit<R>,
     spares: &mut Spares<R>,
     visits: &mut Steps<L>,
-) -> Result<u64, AllocError>
+) -> Result<u64, NoMem>
     requires some { is_some root.old ≡ true }
     requires rising { IsRising (tree_of root.old).pairs }
     requires placed { IsPlaced R.Run edit label (tree_of root.old).pairs }
@@ -79,7 +79,7 @@ pub fn insert_run<R: Run + Drop, L: Ledger>(
     run: R,
     spares: &mut Spares<R>,
     visits: &mut Steps<L>,
-) -> Result<u64, AllocError>
+) -> Result<u64, NoMem>
     requires rising { IsRising (tree_of root.old).pairs }
     requires room { HasRoom (tree_of root.old).pairs label }
     requires fits { StaysFit R.Run (Edit.Insert run) label (tree_of root.old).pairs }
@@ -101,7 +101,7 @@ fn plant<R: Run + Drop>(
     label: u64,
     run: R,
     spares: &mut Spares<R>,
-) -> Result<u64, AllocError>
+) -> Result<u64, NoMem>
     requires none { root.old ≡ None }
     requires room { HasRoom (tree_of root.old).pairs label }
     requires fits { StaysFit R.Run (Edit.Insert run) label (tree_of root.old).pairs }

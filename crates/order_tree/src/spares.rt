@@ -5,8 +5,9 @@ ghost use Rattle.order_tree.specs.Blocks.{IsRoomy};
 
 use crate::branch::Branch;
 use crate::label::Recent;
+use ew_model::NoMem;
 use ew_model::run::Run;
-use std::alloc::{AllocError, Global};
+use std::alloc::Global;
 use std::marker::Model;
 
 /// How many parts a node has at most.
@@ -61,7 +62,7 @@ impl<R: Run + Drop> Spares<R> {
     }
 
     /// An empty block for the runs of a leaf, and `above` blocks for the nodes above it that are full.
-    pub fn leaf_block(&mut self, above: u32) -> Result<Vec<(u64, R)>, AllocError>
+    pub fn leaf_block(&mut self, above: u32) -> Result<Vec<(u64, R)>, NoMem>
         ensures block { IfOk result IsRoomy }
         ensures spares { OnOk result (self.new ≡ self.old + above) }
     {
@@ -71,7 +72,7 @@ impl<R: Run + Drop> Spares<R> {
     }
 
     /// Takes `many` more blocks.
-    fn fill(&mut self, many: u32) -> Result<(), AllocError>
+    fn fill(&mut self, many: u32) -> Result<(), NoMem>
         ensures { OnOk result (self.new ≡ self.old + many) }
     {
         let mut done = 0;
@@ -83,7 +84,7 @@ impl<R: Run + Drop> Spares<R> {
     }
 
     /// Takes one more.
-    fn add(&mut self) -> Result<(), AllocError>
+    fn add(&mut self) -> Result<(), NoMem>
         ensures { OnOk result (self.new ≡ self.old + 1) }
     {
         let block = Vec::with_capacity(self.alloc, MOST_PARTS)?;

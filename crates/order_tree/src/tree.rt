@@ -16,7 +16,7 @@ use crate::visible::Visible;
 use ew_model::NoMem;
 use ew_model::run::Run;
 use ew_model::steps::Steps;
-use std::alloc::{AllocError, Global};
+use std::alloc::Global;
 use std::marker::Model;
 use std::sync::ledger::Ledger;
 
@@ -364,7 +364,7 @@ impl<R: Run + Copy> OrderTree<R> {
         };
         match root.relabel_about(label, u64::MAX, self.alloc, visits) {
             Tried::Crowded(_) => Ok(None),
-            Tried::NoMemory => Err(AllocError),
+            Tried::NoMemory => Err(NoMem),
             Tried::Given(given) => {
                 let own = own_of(given.as_slice(), label);
                 self.recent = Recent::NONE;

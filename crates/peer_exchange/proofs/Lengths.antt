@@ -21,25 +21,10 @@ use Rattle.peer_definitions.specs.declared.frame.Frame.{Frame}
 use Rattle.peer_definitions.specs.declared.frame.Frame.TheVariants.{Have, Events, Done, Took, Clash, Bye}
 use Rattle.peer_frames.specs.Laws.{IsTaken}
 use Rattle.peer_definitions.specs.Spelling.{AgentCount, id_bytes, event_bytes, count_bytes, events_body, body_of, names_ascend, IsSoundCount, IsSoundFrame}
-use Rattle.peer_frames.proofs.ShortNames.{name_short}
+use Rattle.peer_frames.proofs.ShortNames.{four_long, id_short, ids_short, name_short, op_short}
 use Rattle.peer_definitions.specs.Answering.{question, frame_for}
 use Rattle.peer_definitions.specs.Pieces.{frame_room, pieces_from, pieces}
 use Rattle.peer_exchange.proofs.Ascending.{summary_up, summary_some, summary_few}
-
-pub four_long : (n : ℕ) → length (four_bytes n) ≡ 4
-four_long n = refl
-
-id_short : (x : Id) → IsSoundId x → length (id_bytes x) ≤ 37
-id_short x h = let name = name_short x.agent h.agent in let whole = length-append (name_bytes x.agent) (four_bytes x.seq) in omega (arith, name, whole, four_long x.seq)
-
-ids_short : (ids : List Id) → AllByRecursion IsSoundId ids → length (flat_map id_bytes ids) ≤ 37 * length ids
-ids_short [] h = omega arith
-ids_short (x ∷ ids) h = let one = id_short x h.0 in let rest = ids_short ids h.1 in let both = length-append (id_bytes x) (flat_map id_bytes ids) in omega (arith, one, rest, both)
-
-op_short : (o : Op) → IsSoundOp o → length (op_bytes o) ≤ 34
-op_short (Ins at ch) h = let both = length-append (four_bytes at) (four_bytes ch) in omega (arith, both, four_long at, four_long ch)
-op_short (Del at) h = omega (arith, four_long at)
-op_short (Mark label) h = let name = name_short label h in omega (arith, name)
 
 -- no event with at most 16 parents has more bytes than this
 event_short : (e : Event) → IsSound e → length e.parents ≤ 16 → length (event_bytes e) ≤ 664

@@ -10,7 +10,7 @@ use Rattle.ew_model.specs.Bytes.{four_bytes, name_bytes, op_bytes}
 use Rattle.ew_model.specs.Limits.{LimitNumbers}
 use Rattle.ew_model.proofs.RoundLaws.{then}
 use Rattle.history_definitions.specs.Tallies.{refusal_in, refused_by, refused_in}
-use Rattle.peer_exchange.proofs.Lengths.{four_long}
+use Rattle.peer_frames.proofs.ShortNames.{four_long}
 use Rattle.peer_definitions.specs.Spelling.{id_bytes, event_bytes, events_body}
 
 -- each judgement gives one answer

@@ -46,18 +46,18 @@ impl Rights {
     }
 
     /// Notes where an event's new node hangs. An error for want of memory leaves what is told of it, if anything, as it was.
-    pub fn note(&mut self, lv: u32, parent: Node, side: Side) -> Result<(), NoMem>
+    pub fn note(&mut self, position: u32, parent: Node, side: Side) -> Result<(), NoMem>
         requires { IsWhole self.old }
         ensures whole { IsWhole self.new }
-        ensures parent { OnOk result ((counted self.new).parent_at lv ≡ (if side_eq side right then Some parent else None)) }
-        ensures others { (n : ℕ) → nat_eq lv n ≡ false → (counted self.new).parent_at n ≡ (counted self.old).parent_at n }
+        ensures parent { OnOk result ((counted self.new).parent_at position ≡ (if side_eq side right then Some parent else None)) }
+        ensures others { (n : ℕ) → nat_eq position n ≡ false → (counted self.new).parent_at n ≡ (counted self.old).parent_at n }
         ensures counts { (v : Nodes) → (counted self.new).count v ≡ (counted self.old).count v }
     {
         match side {
-            Side::Left => self.rows.note(lv, None),
+            Side::Left => self.rows.note(position, None),
             Side::Right => {
                 self.begin(parent)?;
-                self.rows.note(lv, Some(parent))
+                self.rows.note(position, Some(parent))
             }
         }
     }
@@ -87,8 +87,8 @@ impl Rights {
         ensures rights { (old new : Nodes → Bool) (attached : List Attached) → AreRights old attached (counted self.old) → ShiftEach old new attached from to was is
             → AreRights new attached (counted self.new) }
     {
-        for lv in from..to {
-            self.shift(Node::Event(lv), was, is);
+        for position in from..to {
+            self.shift(Node::Event(position), was, is);
         }
     }
 
@@ -99,8 +99,8 @@ impl Rights {
         ensures whole { IsWhole self.new }
         ensures rights { (known : Nodes → Bool) (attached : List Attached) → AreRights known attached (counted self.old) → HangWithin from to attached → AreRights none_known attached (counted self.new) }
     {
-        for lv in from..to {
-            self.reset(Node::Event(lv));
+        for position in from..to {
+            self.reset(Node::Event(position));
         }
     }
 
@@ -120,7 +120,7 @@ impl Rights {
         ensures { result ≡ parent_of (counted self.now) node }
     {
         match node {
-            Node::Event(lv) => self.rows.at(lv).parent,
+            Node::Event(position) => self.rows.at(position).parent,
             Node::Root | Node::Base(_) => None,
         }
     }
@@ -130,7 +130,7 @@ impl Rights {
         ensures { result ≡ (counted self.now).count node }
     {
         match node {
-            Node::Event(lv) => self.rows.at(lv).inserted,
+            Node::Event(position) => self.rows.at(position).inserted,
             Node::Root | Node::Base(_) => count_at(&self.counts, node),
         }
     }
@@ -143,7 +143,7 @@ impl Rights {
         ensures counts { (v : Nodes) → (counted self.new).count v ≡ (counted self.old).count v }
     {
         match node {
-            Node::Event(lv) => self.rows.begin(lv),
+            Node::Event(position) => self.rows.begin(position),
             Node::Root | Node::Base(_) => begin(&mut self.counts, node),
         }
     }
@@ -157,7 +157,7 @@ impl Rights {
         ensures counts { (v : Nodes) → (counted self.new).count v ≡ (if is_at (node_cmp node) v then stepped ((counted self.old).count node) is else (counted self.old).count v) }
     {
         match node {
-            Node::Event(lv) => self.rows.shift_inserted(lv, is),
+            Node::Event(position) => self.rows.shift_inserted(position, is),
             Node::Root | Node::Base(_) => {
                 let count = stepped(count_at(&self.counts, node), is);
                 set_count(&mut self.counts, node, count);
@@ -173,7 +173,7 @@ impl Rights {
         ensures counts { (v : Nodes) → (counted self.new).count v ≡ (if is_at (node_cmp node) v then 0 else (counted self.old).count v) }
     {
         match node {
-            Node::Event(lv) => self.rows.reset_inserted(lv),
+            Node::Event(position) => self.rows.reset_inserted(position),
             Node::Root | Node::Base(_) => set_count(&mut self.counts, node, 0),
         }
     }

@@ -55,156 +55,156 @@ impl Rows {
     }
 
     /// The row of a position, which is empty where none is kept.
-    pub fn at(&self, lv: u32) -> Row
-        ensures { result ≡ row_at self.now lv }
+    pub fn at(&self, position: u32) -> Row
+        ensures { result ≡ row_at self.now position }
     {
-        self.get(lv).unwrap_or(Row::empty())
+        self.get(position).unwrap_or(Row::empty())
     }
 
     /// The row that is kept of a position.
-    fn get(&self, lv: u32) -> Option<Row>
-        ensures { result ≡ kept_at self.now lv }
+    fn get(&self, position: u32) -> Option<Row>
+        ensures { result ≡ kept_at self.now position }
     {
-        match in_line(self.first, &self.line, lv) {
+        match in_line(self.first, &self.line, position) {
             Some(row) => Some(row),
-            None => other(&self.others, lv),
+            None => other(&self.others, position),
         }
     }
 
     /// Gives a position that has a row another.
-    fn put(&mut self, lv: u32, row: Row)
-        requires { IsSome (kept_at self.old lv) }
-        ensures { (n : ℕ) → kept_at self.new n ≡ (if nat_eq lv n then Some row else kept_at self.old n) }
+    fn put(&mut self, position: u32, row: Row)
+        requires { IsSome (kept_at self.old position) }
+        ensures { (n : ℕ) → kept_at self.new n ≡ (if nat_eq position n then Some row else kept_at self.old n) }
     {
-        if in_line(self.first, &self.line, lv).is_some() {
-            self.line[(lv - self.first) as usize] = row;
+        if in_line(self.first, &self.line, position).is_some() {
+            self.line[(position - self.first) as usize] = row;
         } else {
-            replace(&mut self.others, lv, row);
+            replace(&mut self.others, position, row);
         }
     }
 
     /// Notes that one more right child of the node of a position that has a row is inserted, or one fewer.
-    pub fn shift_inserted(&mut self, lv: u32, is: bool)
-        requires has { IsSome (kept_at self.old lv) }
-        requires may { MayStep (row_at self.old lv).inserted is }
-        ensures { (n : ℕ) → kept_at self.new n ≡ (if nat_eq lv n then Some (record (row_at self.old lv) { inserted = stepped (row_at self.old lv).inserted is }) else kept_at self.old n) }
+    pub fn shift_inserted(&mut self, position: u32, is: bool)
+        requires has { IsSome (kept_at self.old position) }
+        requires may { MayStep (row_at self.old position).inserted is }
+        ensures { (n : ℕ) → kept_at self.new n ≡ (if nat_eq position n then Some (record (row_at self.old position) { inserted = stepped (row_at self.old position).inserted is }) else kept_at self.old n) }
     {
-        if in_line(self.first, &self.line, lv).is_some() {
-            let place = (lv - self.first) as usize;
+        if in_line(self.first, &self.line, position).is_some() {
+            let place = (position - self.first) as usize;
             let row = self.line[place];
             let inserted = stepped(row.inserted, is);
             self.line[place] = Row { inserted, ..row };
         } else {
-            let row = self.elsewhere(lv);
+            let row = self.elsewhere(position);
             let inserted = stepped(row.inserted, is);
-            replace(&mut self.others, lv, Row { inserted, ..row });
+            replace(&mut self.others, position, Row { inserted, ..row });
         }
     }
 
     /// Notes that no right child of the node of a position that has a row is inserted.
-    pub fn reset_inserted(&mut self, lv: u32)
-        requires { IsSome (kept_at self.old lv) }
-        ensures { (n : ℕ) → kept_at self.new n ≡ (if nat_eq lv n then Some (record (row_at self.old lv) { inserted = 0 }) else kept_at self.old n) }
+    pub fn reset_inserted(&mut self, position: u32)
+        requires { IsSome (kept_at self.old position) }
+        ensures { (n : ℕ) → kept_at self.new n ≡ (if nat_eq position n then Some (record (row_at self.old position) { inserted = 0 }) else kept_at self.old n) }
     {
-        let row = self.at(lv);
-        self.put(lv, Row { inserted: 0, ..row });
+        let row = self.at(position);
+        self.put(position, Row { inserted: 0, ..row });
     }
 
     /// Notes the parent of the node of a position, or that it is no right child.
-    pub fn note(&mut self, lv: u32, parent: Option<Node>) -> Result<(), NoMem>
-        ensures ok { OnOk result ((n : ℕ) → row_at self.new n ≡ (if nat_eq lv n then record (row_at self.old n) { parent = parent } else row_at self.old n)) }
+    pub fn note(&mut self, position: u32, parent: Option<Node>) -> Result<(), NoMem>
+        ensures ok { OnOk result ((n : ℕ) → row_at self.new n ≡ (if nat_eq position n then record (row_at self.old n) { parent = parent } else row_at self.old n)) }
         ensures err { OnErr result ((n : ℕ) → row_at self.new n ≡ row_at self.old n) }
         ensures kept { (n : ℕ) → IsSome (kept_at self.old n) → IsSome (kept_at self.new n) }
     {
-        if self.is_next(lv) {
-            let row = self.elsewhere(lv);
-            return self.push_row(lv, Row { parent, ..row });
+        if self.is_next(position) {
+            let row = self.elsewhere(position);
+            return self.push_row(position, Row { parent, ..row });
         }
-        self.begin(lv)?;
-        let row = self.at(lv);
-        self.put(lv, Row { parent, ..row });
+        self.begin(position)?;
+        let row = self.at(position);
+        self.put(position, Row { parent, ..row });
         Ok(())
     }
 
     /// Sees to it that a position has a row.
-    pub fn begin(&mut self, lv: u32) -> Result<(), NoMem>
-        ensures begun { OnOk result (IsSome (kept_at self.new lv)) }
+    pub fn begin(&mut self, position: u32) -> Result<(), NoMem>
+        ensures begun { OnOk result (IsSome (kept_at self.new position)) }
         ensures rows { KeepsRows self.old self.new }
     {
-        if in_line(self.first, &self.line, lv).is_some() {
+        if in_line(self.first, &self.line, position).is_some() {
             return Ok(());
         }
-        self.begin_out_of_line(lv)
+        self.begin_out_of_line(position)
     }
 
     /// Sees to it that a position out of line has a row.
     // Seldom called: kept apart, so that what is done for each character stays short.
     #[inline(never)]
-    fn begin_out_of_line(&mut self, lv: u32) -> Result<(), NoMem>
-        requires { in_line self.old.first self.old.line.items lv ≡ None }
-        ensures begun { OnOk result (IsSome (kept_at self.new lv)) }
+    fn begin_out_of_line(&mut self, position: u32) -> Result<(), NoMem>
+        requires { in_line self.old.first self.old.line.items position ≡ None }
+        ensures begun { OnOk result (IsSome (kept_at self.new position)) }
         ensures rows { KeepsRows self.old self.new }
     {
-        if other(&self.others, lv).is_some() {
+        if other(&self.others, position).is_some() {
             return Ok(());
         }
         if self.line.is_empty() {
-            self.first = lv;
+            self.first = position;
         }
-        if self.is_near(lv) {
-            self.lengthen(lv)
+        if self.is_near(position) {
+            self.lengthen(position)
         } else {
-            keep(&mut self.others, lv, Row::empty())
+            keep(&mut self.others, position, Row::empty())
         }
     }
 
     /// Whether a position lies right behind the line. It may say no: then the longer way is taken.
-    fn is_next(&self, lv: u32) -> bool
-        ensures { result ≡ true → lv ≡ self.now.first + length self.now.line.items }
+    fn is_next(&self, position: u32) -> bool
+        ensures { result ≡ true → position ≡ self.now.first + length self.now.line.items }
     {
-        self.first as usize + self.line.len() == lv as usize
+        self.first as usize + self.line.len() == position as usize
     }
 
     /// Whether a position lies behind the line, and not far.
-    fn is_near(&self, lv: u32) -> bool
-        ensures { result ≡ true → (self.now.first ≤ lv) × (length self.now.line.items ≤ lv - self.now.first) }
+    fn is_near(&self, position: u32) -> bool
+        ensures { result ≡ true → (self.now.first ≤ position) × (length self.now.line.items ≤ position - self.now.first) }
     {
         let len = self.line.len();
-        match lv.checked_sub(self.first) {
+        match position.checked_sub(self.first) {
             Some(place) => len <= place as usize && place as usize - len <= LONGEST_GAP,
             None => false,
         }
     }
 
     /// Lengthens the line up to a position behind it.
-    fn lengthen(&mut self, lv: u32) -> Result<(), NoMem>
-        requires { (self.old.first ≤ lv) × (length self.old.line.items ≤ lv - self.old.first) }
-        ensures begun { OnOk result (IsSome (kept_at self.new lv)) }
+    fn lengthen(&mut self, position: u32) -> Result<(), NoMem>
+        requires { (self.old.first ≤ position) × (length self.old.line.items ≤ position - self.old.first) }
+        ensures begun { OnOk result (IsSome (kept_at self.new position)) }
         ensures rows { KeepsRows self.old self.new }
     {
         let next = self.first + self.line.len() as u32;
-        for gap in next..lv {
+        for gap in next..position {
             self.push(gap)?;
         }
-        self.push(lv)
+        self.push(position)
     }
 
     /// Lengthens the line by one position, whose row is the one that is kept elsewhere, if any.
-    fn push(&mut self, lv: u32) -> Result<(), NoMem>
-        requires { lv ≡ self.old.first + length self.old.line.items }
-        ensures begun { OnOk result (IsSome (kept_at self.new lv)) }
+    fn push(&mut self, position: u32) -> Result<(), NoMem>
+        requires { position ≡ self.old.first + length self.old.line.items }
+        ensures begun { OnOk result (IsSome (kept_at self.new position)) }
         ensures len { OnOk result (length self.new.line.items ≡ length self.old.line.items + 1) }
         ensures first { self.new.first ≡ self.old.first }
         ensures rows { KeepsRows self.old self.new }
     {
-        let row = self.elsewhere(lv);
-        self.push_row(lv, row)
+        let row = self.elsewhere(position);
+        self.push_row(position, row)
     }
 
     /// Lengthens the line by one position, with its row.
-    fn push_row(&mut self, lv: u32, row: Row) -> Result<(), NoMem>
-        requires { lv ≡ self.old.first + length self.old.line.items }
-        ensures ok { OnOk result ((n : ℕ) → kept_at self.new n ≡ (if nat_eq lv n then Some row else kept_at self.old n)) }
+    fn push_row(&mut self, position: u32, row: Row) -> Result<(), NoMem>
+        requires { position ≡ self.old.first + length self.old.line.items }
+        ensures ok { OnOk result ((n : ℕ) → kept_at self.new n ≡ (if nat_eq position n then Some row else kept_at self.old n)) }
         ensures err { OnErr result ((n : ℕ) → kept_at self.new n ≡ kept_at self.old n) }
         ensures len { OnOk result (length self.new.line.items ≡ length self.old.line.items + 1) }
         ensures first { self.new.first ≡ self.old.first }
@@ -214,10 +214,10 @@ impl Rows {
     }
 
     /// The row of a position out of line, which is empty where none is kept.
-    fn elsewhere(&self, lv: u32) -> Row
-        ensures { result ≡ unwrap_or (get nat_cmp self.now.others lv) empty }
+    fn elsewhere(&self, position: u32) -> Row
+        ensures { result ≡ unwrap_or (get nat_cmp self.now.others position) empty }
     {
-        other(&self.others, lv).unwrap_or(Row::empty())
+        other(&self.others, position).unwrap_or(Row::empty())
     }
 }
 
@@ -230,39 +230,39 @@ pub fn stepped(count: u32, more: bool) -> u32
 }
 
 /// The row of a position among rows in line, which begin at a position.
-fn in_line(first: u32, line: &[Row], lv: u32) -> Option<Row>
-    ensures { result ≡ in_line first line.now lv }
+fn in_line(first: u32, line: &[Row], position: u32) -> Option<Row>
+    ensures { result ≡ in_line first line.now position }
 {
-    if lv < first {
+    if position < first {
         return None;
     }
-    line.get((lv - first) as usize).copied()
+    line.get((position - first) as usize).copied()
 }
 
-fn other(others: &BTreeMap<u32, Row>, lv: u32) -> Option<Row>
-    ensures { result ≡ get nat_cmp others.now lv }
+fn other(others: &BTreeMap<u32, Row>, position: u32) -> Option<Row>
+    ensures { result ≡ get nat_cmp others.now position }
 {
-    others.get(&lv).copied()
+    others.get(&position).copied()
 }
 
 /// Keeps the row of a position, which may have one.
-fn keep(others: &mut BTreeMap<u32, Row>, lv: u32, row: Row) -> Result<(), NoMem>
-    ensures ok { OnOk result ((k : ℕ) → get nat_cmp others.new k ≡ (if nat_eq lv k then Some row else get nat_cmp others.old k)) }
+fn keep(others: &mut BTreeMap<u32, Row>, position: u32, row: Row) -> Result<(), NoMem>
+    ensures ok { OnOk result ((k : ℕ) → get nat_cmp others.new k ≡ (if nat_eq position k then Some row else get nat_cmp others.old k)) }
     ensures err { OnErr result ((k : ℕ) → get nat_cmp others.new k ≡ get nat_cmp others.old k) }
-    ensures absent { OnErr result (get nat_cmp others.old lv ≡ None) }
+    ensures absent { OnErr result (get nat_cmp others.old position ≡ None) }
 {
-    match others.insert(lv, row) {
+    match others.insert(position, row) {
         Ok(_) => Ok(()),
         Err(_) => Err(NoMem),
     }
 }
 
 /// Gives a position that has a row another.
-fn replace(others: &mut BTreeMap<u32, Row>, lv: u32, row: Row)
-    requires { IsSome (get nat_cmp others.old lv) }
-    ensures { (k : ℕ) → get nat_cmp others.new k ≡ (if nat_eq lv k then Some row else get nat_cmp others.old k) }
+fn replace(others: &mut BTreeMap<u32, Row>, position: u32, row: Row)
+    requires { IsSome (get nat_cmp others.old position) }
+    ensures { (k : ℕ) → get nat_cmp others.new k ≡ (if nat_eq position k then Some row else get nat_cmp others.old k) }
 {
-    let Ok(()) = keep(others, lv, row) else {
+    let Ok(()) = keep(others, position, row) else {
         unreachable!()
     };
 }

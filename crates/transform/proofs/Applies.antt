@@ -105,19 +105,19 @@ change_is history n e change at is =
     let same : Some (own_change e.op) ≡ Some change = sym (ap (option_map (λ (f : Event). own_change f.op)) at) ∙ sym (slice_get-map (λ (f : Event). own_change f.op) history n) ∙ is in cc
 
 -- what the calls of a state answer of the event
-pub insertion_answers : (front : List Event) (cut : ℕ) (e : Event) (old new : Kept) (answer : Result TextOp ApplyFault) (lv : ℕ) (x : Id) (at ch : ℕ) → length front ≡ lv → e.id ≡ x → e.op ≡ Ins at ch
-    → IfOk answer (λ op. op ≡ next_operation nat_eq (base_at front cut) (tree_of nat_eq (base_at front cut) (walked_from front cut)) (next_of lv (InsertAs x at ch) (over_since front cut e)))
-    → OnOk answer (StandsFor new (base_at front cut) (walked_from front cut ++ next_of lv (InsertAs x at ch) (over_since front cut e) ∷ []) (lv ∷ over_since front cut e))
+pub insertion_answers : (front : List Event) (cut : ℕ) (e : Event) (old new : Kept) (answer : Result TextOp ApplyFault) (position : ℕ) (x : Id) (at ch : ℕ) → length front ≡ position → e.id ≡ x → e.op ≡ Ins at ch
+    → IfOk answer (λ op. op ≡ next_operation nat_eq (base_at front cut) (tree_of nat_eq (base_at front cut) (walked_from front cut)) (next_of position (InsertAs x at ch) (over_since front cut e)))
+    → OnOk answer (StandsFor new (base_at front cut) (walked_from front cut ++ next_of position (InsertAs x at ch) (over_since front cut e) ∷ []) (position ∷ over_since front cut e))
     → ((len : ℕ) → (answer ≡ Err (OutOfRange len)) ↔ ((len ≡ prepared_length front cut e) × (len < at)))
     → OnErr answer (new ≡ with_lost old new.lost) → Answers front cut e old new answer
-insertion_answers front cut e old new answer lv x at ch long id op told stands range err =
+insertion_answers front cut e old new answer position x at ch long id op told stands range err =
     let b = base_at front cut in
     let over = over_since front cut e in
-    let same : next_of lv (InsertAs x at ch) over ≡ walked front cut e = λ i. record { name = sym long i; act = act_by (sym id i) (sym op i); over = over } in
+    let same : next_of position (InsertAs x at ch) over ≡ walked front cut e = λ i. record { name = sym long i; act = act_by (sym id i) (sym op i); over = over } in
     record {
       op = subst (λ (a : Applied ℕ). IfOk answer (λ o. o ≡ next_operation nat_eq b (tree_of nat_eq b (walked_from front cut)) a)) same told;
       ok = subst (λ n. OnOk answer (StandsFor new b (walked_from front cut ++ walked front cut e ∷ []) (n ∷ over))) (sym long)
-          (subst (λ (a : Applied ℕ). OnOk answer (StandsFor new b (walked_from front cut ++ a ∷ []) (lv ∷ over))) same stands);
+          (subst (λ (a : Applied ℕ). OnOk answer (StandsFor new b (walked_from front cut ++ a ∷ []) (position ∷ over))) same stands);
       range = λ len. (
         λ refused. let r = (range len).0 refused in (r.0, ap (is_outside len) op ∙ lt-ltb len at r.1),
         λ r. (range len).1 (r.0, ltb-true len at (ap (is_outside len) (sym op) ∙ r.1)),
@@ -125,19 +125,19 @@ insertion_answers front cut e old new answer lv x at ch long id op told stands r
       err = err;
     }
 
-pub deletion_answers : (front : List Event) (cut : ℕ) (e : Event) (old new : Kept) (answer : Result TextOp ApplyFault) (lv at : ℕ) → length front ≡ lv → e.op ≡ Del at
-    → IfOk answer (λ op. op ≡ next_operation nat_eq (base_at front cut) (tree_of nat_eq (base_at front cut) (walked_from front cut)) (next_of lv (DeleteAt at) (over_since front cut e)))
-    → OnOk answer (StandsFor new (base_at front cut) (walked_from front cut ++ next_of lv (DeleteAt at) (over_since front cut e) ∷ []) (lv ∷ over_since front cut e))
+pub deletion_answers : (front : List Event) (cut : ℕ) (e : Event) (old new : Kept) (answer : Result TextOp ApplyFault) (position at : ℕ) → length front ≡ position → e.op ≡ Del at
+    → IfOk answer (λ op. op ≡ next_operation nat_eq (base_at front cut) (tree_of nat_eq (base_at front cut) (walked_from front cut)) (next_of position (DeleteAt at) (over_since front cut e)))
+    → OnOk answer (StandsFor new (base_at front cut) (walked_from front cut ++ next_of position (DeleteAt at) (over_since front cut e) ∷ []) (position ∷ over_since front cut e))
     → ((len : ℕ) → (answer ≡ Err (OutOfRange len)) ↔ ((len ≡ prepared_length front cut e) × (len ≤ at)))
     → OnErr answer (new ≡ with_lost old new.lost) → Answers front cut e old new answer
-deletion_answers front cut e old new answer lv at long op told stands range err =
+deletion_answers front cut e old new answer position at long op told stands range err =
     let b = base_at front cut in
     let over = over_since front cut e in
-    let same : next_of lv (DeleteAt at) over ≡ walked front cut e = λ i. record { name = sym long i; act = act_by e.id (sym op i); over = over } in
+    let same : next_of position (DeleteAt at) over ≡ walked front cut e = λ i. record { name = sym long i; act = act_by e.id (sym op i); over = over } in
     record {
       op = subst (λ (a : Applied ℕ). IfOk answer (λ o. o ≡ next_operation nat_eq b (tree_of nat_eq b (walked_from front cut)) a)) same told;
       ok = subst (λ n. OnOk answer (StandsFor new b (walked_from front cut ++ walked front cut e ∷ []) (n ∷ over))) (sym long)
-          (subst (λ (a : Applied ℕ). OnOk answer (StandsFor new b (walked_from front cut ++ a ∷ []) (lv ∷ over))) same stands);
+          (subst (λ (a : Applied ℕ). OnOk answer (StandsFor new b (walked_from front cut ++ a ∷ []) (position ∷ over))) same stands);
       range = λ len. (
         λ refused. let r = (range len).0 refused in (r.0, ap (is_outside len) op ∙ le-leb len at r.1),
         λ r. (range len).1 (r.0, leb-true len at (ap (is_outside len) (sym op) ∙ r.1)),
@@ -146,29 +146,29 @@ deletion_answers front cut e old new answer lv at long op told stands range err 
     }
 
 -- a mark is never out of range
-pub mark_turned : (front : List Event) (cut : ℕ) (e : Event) (old new : Kept) (op : TextOp) (lv : ℕ) (label : Name) → length front ≡ lv → e.op ≡ Mark label → IsReady front cut e old
-    → op ≡ next_operation nat_eq (base_at front cut) (tree_of nat_eq (base_at front cut) (walked_from front cut)) (next_of lv MarkAs (over_since front cut e))
-    → StandsFor new (base_at front cut) (walked_from front cut ++ next_of lv MarkAs (over_since front cut e) ∷ []) (lv ∷ over_since front cut e)
+pub mark_turned : (front : List Event) (cut : ℕ) (e : Event) (old new : Kept) (op : TextOp) (position : ℕ) (label : Name) → length front ≡ position → e.op ≡ Mark label → IsReady front cut e old
+    → op ≡ next_operation nat_eq (base_at front cut) (tree_of nat_eq (base_at front cut) (walked_from front cut)) (next_of position MarkAs (over_since front cut e))
+    → StandsFor new (base_at front cut) (walked_from front cut ++ next_of position MarkAs (over_since front cut e) ∷ []) (position ∷ over_since front cut e)
     → Turned front cut e new (turn.Applied op)
-mark_turned front cut e old new op lv label long is ready told stands =
+mark_turned front cut e old new op position label long is ready told stands =
     let b = base_at front cut in
     let over = over_since front cut e in
-    let same : next_of lv MarkAs over ≡ walked front cut e = λ i. record { name = sym long i; act = act_by e.id (sym is i); over = over } in
+    let same : next_of position MarkAs over ≡ walked front cut e = λ i. record { name = sym long i; act = act_by e.id (sym is i); over = over } in
     applied_well front cut e old ready op new (ap (is_outside (prepared_length front cut e)) is)
     (told ∙ ap (next_operation nat_eq b (tree_of nat_eq b (walked_from front cut))) same)
     (subst (λ n. StandsFor new b (walked_from front cut ++ walked front cut e ∷ []) (n ∷ over)) (sym long)
-    (subst (λ (a : Applied ℕ). StandsFor new b (walked_from front cut ++ a ∷ []) (lv ∷ over)) same stands))
+    (subst (λ (a : Applied ℕ). StandsFor new b (walked_from front cut ++ a ∷ []) (position ∷ over)) same stands))
 
-pub may_insert : (front : List Event) (cut : ℕ) (e : Event) (lv : ℕ) (x : Id) → cut ≤ length front → graph_verdict front e ≡ Good → e.id ≡ x → length front ≡ lv → MayInsert (walked_from front cut) lv x
-may_insert front cut e lv x low admitted id long =
-    subst (MayInsert (walked_from front cut) lv) id
+pub may_insert : (front : List Event) (cut : ℕ) (e : Event) (position : ℕ) (x : Id) → cut ≤ length front → graph_verdict front e ≡ Good → e.id ≡ x → length front ≡ position → MayInsert (walked_from front cut) position x
+may_insert front cut e position x low admitted id long =
+    subst (MayInsert (walked_from front cut) position) id
     (subst (λ n. MayInsert (walked_from front cut) n e.id) long (record { position = unnamed front cut low; id = uninserted front cut e.id (let_in front e admitted).new }))
 
-pub may_mark : (front : List Event) (cut lv : ℕ) → cut ≤ length front → length front ≡ lv → MayMark (walked_from front cut) lv
-may_mark front cut lv low long = subst (MayMark (walked_from front cut)) long (unnamed front cut low)
+pub may_mark : (front : List Event) (cut position : ℕ) → cut ≤ length front → length front ≡ position → MayMark (walked_from front cut) position
+may_mark front cut position low long = subst (MayMark (walked_from front cut)) long (unnamed front cut low)
 
-pub may_delete : (front : List Event) (cut lv : ℕ) → cut ≤ length front → length front ≡ lv → MayDelete (walked_from front cut) lv
-may_delete front cut lv low long = subst (MayDelete (walked_from front cut)) long (unnamed front cut low)
+pub may_delete : (front : List Event) (cut position : ℕ) → cut ≤ length front → length front ≡ position → MayDelete (walked_from front cut) position
+may_delete front cut position low long = subst (MayDelete (walked_from front cut)) long (unnamed front cut low)
 
 -- the event at a place, where what it was made over is prepared
 pub ready : (history : List Event) (cut n : ℕ) (e : Event) (state : Kept) → IsAdmitted history → AreSound history → slice_get history n ≡ Some e → IsReadyAt history cut n state → IsReady (take n history) cut e state

@@ -157,74 +157,74 @@ emitted_by n xs op false q =
     drop_all n xs (omega (arith, far)) ∙ sym (drop_all n (xs ++ op ∷ []) (omega (arith, far, length-append xs (op ∷ []))))
 
 -- an operation is handed out where it is asked for
-pub emitted : (history : List Event) (lv n : ℕ) (old new : List TextOp) (op : TextOp) → lv ≤ length history → operations (take (lv + 1) history) ≡ operations (take lv history) ++ op ∷ []
-    → old ≡ drop n (operations (take lv history)) → new ≡ cond (nat_le n lv) (old ++ op ∷ []) old → new ≡ drop n (operations (take (lv + 1) history))
-emitted history lv n old new op within more before after =
-    let front = take lv history in
-    let long : lv ≡ length (operations front) = sym (length_operations front ∙ length-take-le lv history within) in
+pub emitted : (history : List Event) (position n : ℕ) (old new : List TextOp) (op : TextOp) → position ≤ length history → operations (take (position + 1) history) ≡ operations (take position history) ++ op ∷ []
+    → old ≡ drop n (operations (take position history)) → new ≡ cond (nat_le n position) (old ++ op ∷ []) old → new ≡ drop n (operations (take (position + 1) history))
+emitted history position n old new op within more before after =
+    let front = take position history in
+    let long : position ≡ length (operations front) = sym (length_operations front ∙ length-take-le position history within) in
     after
     ∙ (λ i. cond (nat_le n (long i)) (before i ++ op ∷ []) (before i))
     ∙ emitted_by n (operations front) op (nat_le n (length (operations front))) refl
     ∙ ap (drop n) (sym more)
 
 -- one more event was walked
-pub goes_on : (history : List Event) (from lv : ℕ) (line : Option ℕ) (state : Kept) (turn : Turn) (op : TextOp) → turn ≡ Applied op → TurnedTo history from lv line state turn
-    → WalkedTo history from (lv + 1) line state × (operations (take (lv + 1) history) ≡ operations (take lv history) ++ op ∷ [])
-goes_on history from lv line state turn op is turned = subst (TurnedTo history from lv line state) is turned
+pub goes_on : (history : List Event) (from position : ℕ) (line : Option ℕ) (state : Kept) (turn : Turn) (op : TextOp) → turn ≡ Applied op → TurnedTo history from position line state turn
+    → WalkedTo history from (position + 1) line state × (operations (take (position + 1) history) ≡ operations (take position history) ++ op ∷ [])
+goes_on history from position line state turn op is turned = subst (TurnedTo history from position line state) is turned
 
 -- THE END
 good_to : (history : List Event) (from n : ℕ) (line : Option ℕ) (state : Kept) → WalkedTo history from n line state → IsGood (take n history)
 good_to history from n (Some len) state h = h.behind.good
 good_to history from n None state h = h.1.behind.good
 
-pub stops : (history : List Event) (from lv : ℕ) (line after : Option ℕ) (old state : Kept) (turn : Turn) (len : ℕ) → lv < length history → turn ≡ OutOfRange len → WalkedTo history from lv line old → TurnedTo history from lv after state turn
-    → (Some (bad_at (lv, len)) ≡ first_bad history) × StandsBehind history (cut_left history from (Some (lv, len))) (take lv history) state
-stops history from lv line after old state turn len within is walked turned =
-    let found = element_there history lv within in
+pub stops : (history : List Event) (from position : ℕ) (line after : Option ℕ) (old state : Kept) (turn : Turn) (len : ℕ) → position < length history → turn ≡ OutOfRange len → WalkedTo history from position line old → TurnedTo history from position after state turn
+    → (Some (bad_at (position, len)) ≡ first_bad history) × StandsBehind history (cut_left history from (Some (position, len))) (take position history) state
+stops history from position line after old state turn len within is walked turned =
+    let found = element_there history position within in
     let e = found.0 in
-    let done = subst (TurnedTo history from lv after state) is turned in (
-      sym (ap first_bad (split_at history lv e found.1) ∙ first_bad_is (take lv history) e (drop (suc lv) history) len (good_to history from lv line old walked) (done.0 e found.1) ∙ ap (λ n. Some (bad_at (n, len))) (length_front history lv e found.1)),
+    let done = subst (TurnedTo history from position after state) is turned in (
+      sym (ap first_bad (split_at history position e found.1) ∙ first_bad_is (take position history) e (drop (suc position) history) len (good_to history from position line old walked) (done.0 e found.1) ∙ ap (λ n. Some (bad_at (n, len))) (length_front history position e found.1)),
       record { prepared = done.1.0; stands = done.1.1 },
     )
 
-pub ends : (history : List Event) (from lv : ℕ) (line : Option ℕ) (state : Kept) → from ≤ lv → length history ≡ lv → WalkedTo history from lv line state → (None ≡ first_bad history) × StandsBehind history (cut_left history from None) history state
-ends history from lv line state low all walked =
-    let whole : take lv history ≡ history = take_all lv history (omega (arith, all)) in (
-      sym ((good_has_no_bad history).0 (subst IsGood whole (good_to history from lv line state walked))),
+pub ends : (history : List Event) (from position : ℕ) (line : Option ℕ) (state : Kept) → from ≤ position → length history ≡ position → WalkedTo history from position line state → (None ≡ first_bad history) × StandsBehind history (cut_left history from None) history state
+ends history from position line state low all walked =
+    let whole : take position history ≡ history = take_all position history (omega (arith, all)) in (
+      sym ((good_has_no_bad history).0 (subst IsGood whole (good_to history from position line state walked))),
       left line walked,
     )
   where
     -- a state that was kept
-    kept : (b : Bool) → nat_eq from (length history) ≡ b → (from < length history → b ≡ false) → from < lv → Reached history (latest_cut history (lv - 1)) lv state → StandsBehind history (cond b from (latest_cut history (length history - 1))) history state
+    kept : (b : Bool) → nat_eq from (length history) ≡ b → (from < length history → b ≡ false) → from < position → Reached history (latest_cut history (position - 1)) position state → StandsBehind history (cond b from (latest_cut history (length history - 1))) history state
     kept b q other some reached =
-        let same : latest_cut history (lv - 1) ≡ cond b from (latest_cut history (length history - 1)) =
+        let same : latest_cut history (position - 1) ≡ cond b from (latest_cut history (length history - 1)) =
         (λ i. latest_cut history (sym all i - 1)) ∙ ap (λ c. cond c from (latest_cut history (length history - 1))) (sym (other (omega (arith, some, all)))) in
         subst (λ c. StandsBehind history c history state) same (record {
-          prepared = prepared_since (take lv history) (latest_cut history (lv - 1));
-          stands = subst (λ (es : List Event). StandsFor state (base_at history (latest_cut history (lv - 1))) (walked_from es (latest_cut history (lv - 1))) (prepared_since (take lv history) (latest_cut history (lv - 1)))) (take_all lv history (omega (arith, all))) reached.stands;
+          prepared = prepared_since (take position history) (latest_cut history (position - 1));
+          stands = subst (λ (es : List Event). StandsFor state (base_at history (latest_cut history (position - 1))) (walked_from es (latest_cut history (position - 1))) (prepared_since (take position history) (latest_cut history (position - 1)))) (take_all position history (omega (arith, all))) reached.stands;
         })
 
     -- no event was walked
-    begun : (b : Bool) → nat_eq from (length history) ≡ b → (from ≡ length history → b ≡ true) → from ≡ lv → StandsFor state (base_at history lv) [] [] → StandsBehind history (cond b from (latest_cut history (length history - 1))) history state
+    begun : (b : Bool) → nat_eq from (length history) ≡ b → (from ≡ length history → b ≡ true) → from ≡ position → StandsFor state (base_at history position) [] [] → StandsBehind history (cond b from (latest_cut history (length history - 1))) history state
     begun b q other same stands =
-        let cut : lv ≡ cond b from (latest_cut history (length history - 1)) = sym same ∙ ap (λ c. cond c from (latest_cut history (length history - 1))) (sym (other (same ∙ sym all))) in
-        let none : drop lv history ≡ [] = drop_all lv history (omega (arith, all)) in
+        let cut : position ≡ cond b from (latest_cut history (length history - 1)) = sym same ∙ ap (λ c. cond c from (latest_cut history (length history - 1))) (sym (other (same ∙ sym all))) in
+        let none : drop position history ≡ [] = drop_all position history (omega (arith, all)) in
         subst (λ c. StandsBehind history c history state) cut (record {
           prepared = [];
-          stands = subst (λ (es : List Event). StandsFor state (base_at history lv) (walked_after lv (take lv history) [] es) []) (sym none) stands;
+          stands = subst (λ (es : List Event). StandsFor state (base_at history position) (walked_after position (take position history) [] es) []) (sym none) stands;
         })
 
-    left : (line : Option ℕ) → WalkedTo history from lv line state → StandsBehind history (cut_left history from None) history state
+    left : (line : Option ℕ) → WalkedTo history from position line state → StandsBehind history (cut_left history from None) history state
     left (Some len) h =
-        let last : from ≡ lv = at_start h in
+        let last : from ≡ position = at_start h in
         begun (nat_eq from (length history)) refl (λ same. eq-eqb from (length history) same) last (h.begins (sym last))
       where
-        at_start : InLine history from lv len state → from ≡ lv
-        at_start h = at (nat_lt from lv) refl
+        at_start : InLine history from position len state → from ≡ position
+        at_start h = at (nat_lt from position) refl
           where
-            at : (b : Bool) → nat_lt from lv ≡ b → from ≡ lv
-            at true q = let more = h.goes_on (ltb-true from lv q) in let no : ⊥ = omega (arith, more, all) in absurd no
-            at false q = let high = ltb-false from lv q in omega (arith, low, high)
+            at : (b : Bool) → nat_lt from position ≡ b → from ≡ position
+            at true q = let more = h.goes_on (ltb-true from position q) in let no : ⊥ = omega (arith, more, all) in absurd no
+            at false q = let high = ltb-false from position q in omega (arith, low, high)
     left None h = kept (nat_eq from (length history)) refl (λ some. ne_eqb from (length history) (λ same. omega (arith, some, same))) h.0 h.1
 
 -- no front is touched more than the whole

@@ -10,7 +10,6 @@ use event_graph::{Graph, Near};
 use ew_model::NoMem;
 use ew_model::steps::Steps;
 use ew_model::text_op::TextOp;
-use std::alloc::AllocError;
 use std::sync::ledger::Ledger;
 
 /// What a turn of the walk answers.
@@ -26,24 +25,24 @@ pub enum Turn {
 pub fn apply<L: Ledger>(
     graph: &Graph,
     state: &mut State,
-    lv: u32,
+    position: u32,
     near: &mut Near,
     steps: &mut Steps<L>,
 ) -> Result<Turn, NoMem>
-    requires within { lv < length graph.now }
-    requires ready { (cut : ℕ) × IsReadyAt graph.now cut lv state.old }
-    ensures turned { (cut : ℕ) (e : Event) → IsReadyAt graph.now cut lv state.old → slice_get graph.now lv ≡ Some e → IfOk result (Turned (take lv graph.now) cut e state.new) }
+    requires within { position < length graph.now }
+    requires ready { (cut : ℕ) × IsReadyAt graph.now cut position state.old }
+    ensures turned { (cut : ℕ) (e : Event) → IsReadyAt graph.now cut position state.old → slice_get graph.now position ≡ Some e → IfOk result (Turned (take position graph.now) cut e state.new) }
     ensures steps { steps.new ≡ steps.old + 1 }
 {
     let _count = graph.count();
-    match graph.change_near(lv, near) {
+    match graph.change_near(position, near) {
         TextOp::Ins { at, ch } => {
-            let id = graph.id_near(lv, near);
-            turn_of(state.apply_ins(lv, id, at, ch, steps))
+            let id = graph.id_near(position, near);
+            turn_of(state.apply_ins(position, id, at, ch, steps))
         }
-        TextOp::Del { at } => turn_of(state.apply_del(lv, at, steps)),
+        TextOp::Del { at } => turn_of(state.apply_del(position, at, steps)),
         // A mark.
-        TextOp::Nothing => Ok(Turn::Applied(state.apply_mark(lv, steps)?)),
+        TextOp::Nothing => Ok(Turn::Applied(state.apply_mark(position, steps)?)),
     }
 }
 
@@ -54,6 +53,6 @@ fn turn_of(answer: Result<TextOp, ApplyFault>) -> Result<Turn, NoMem>
     match answer {
         Ok(op) => Ok(Turn::Applied(op)),
         Err(ApplyFault::OutOfRange { len }) => Ok(Turn::OutOfRange(len)),
-        Err(ApplyFault::OutOfMemory) => Err(AllocError),
+        Err(ApplyFault::OutOfMemory) => Err(NoMem),
     }
 }

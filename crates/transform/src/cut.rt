@@ -26,21 +26,21 @@ pub fn pass_cut<L: Ledger>(
     graph: &Graph,
     state: &mut State,
     line: &mut Option<u32>,
-    lv: u32,
+    position: u32,
     len: u32,
     near: &mut Near,
     steps: &mut Steps<L>,
 ) -> Result<Turn, NoMem>
-    requires within { lv < length graph.now }
-    requires behind { IsBehind graph.now lv lv }
-    requires long { len ≡ base_at graph.now lv }
-    ensures turned { (from : ℕ) → from ≤ lv → IfOk result (TurnedTo graph.now from lv line.new state.new) }
+    requires within { position < length graph.now }
+    requires behind { IsBehind graph.now position position }
+    requires long { len ≡ base_at graph.now position }
+    ensures turned { (from : ℕ) → from ≤ position → IfOk result (TurnedTo graph.now from position line.new state.new) }
     ensures steps { OnOk result (steps.new ≡ steps.old + 1) }
     ensures most { steps.new ≤ steps.old + 1 }
 {
     let _count = graph.count();
-    if stands_alone(graph, lv, near) {
-        let change = graph.change_near(lv, near);
+    if stands_alone(graph, position, near) {
+        let change = graph.change_near(position, near);
         if let Some(len) = changed_length(change, len) {
             steps.tick();
             *line = Some(len);
@@ -49,16 +49,16 @@ pub fn pass_cut<L: Ledger>(
     }
     *state = State::base(alloc, len)?;
     *line = None;
-    apply(graph, state, lv, near, steps)
+    apply(graph, state, position, near, steps)
 }
 
 /// Whether there are events behind the one at a position, which all know all events up to it.
-fn stands_alone(graph: &Graph, lv: u32, near: &mut Near) -> bool
-    requires { lv < length graph.now }
-    ensures { IsTrue result ↔ ((lv + 1 < length graph.now) × (is_critical graph.now (lv + 1) ≡ true)) }
+fn stands_alone(graph: &Graph, position: u32, near: &mut Near) -> bool
+    requires { position < length graph.now }
+    ensures { IsTrue result ↔ ((position + 1 < length graph.now) × (is_critical graph.now (position + 1) ≡ true)) }
 {
     let count = graph.count();
-    lv + 1 < count && graph.is_cut_near(lv + 1, near)
+    position + 1 < count && graph.is_cut_near(position + 1, near)
 }
 
 /// The length of a text of so many characters after a change, where its index is in range. The change is what some operation does to

@@ -27,19 +27,19 @@ pub fn take_turn<L: Ledger>(
     graph: &Graph,
     state: &mut State,
     line: &mut Option<u32>,
-    lv: u32,
+    position: u32,
     near: &mut Near,
     steps: &mut Steps<L>,
 ) -> Result<Turn, NoMem>
-    requires within { lv < length graph.now }
-    requires walked { (from : ℕ) × (from ≤ lv) × WalkedTo graph.now from lv line.old state.old }
-    ensures turned { (from : ℕ) → from ≤ lv → WalkedTo graph.now from lv line.old state.old → IfOk result (TurnedTo graph.now from lv line.new state.new) }
-    ensures steps { (from : ℕ) → from ≤ lv → WalkedTo graph.now from lv line.old state.old → OnOk result (steps.new + touches (take lv graph.now) from ≡ steps.old + touches (take (lv + 1) graph.now) from) }
-    ensures most { (from : ℕ) → from ≤ lv → WalkedTo graph.now from lv line.old state.old → steps.new + touches (take lv graph.now) from ≤ steps.old + touches (take (lv + 1) graph.now) from }
+    requires within { position < length graph.now }
+    requires walked { (from : ℕ) × (from ≤ position) × WalkedTo graph.now from position line.old state.old }
+    ensures turned { (from : ℕ) → from ≤ position → WalkedTo graph.now from position line.old state.old → IfOk result (TurnedTo graph.now from position line.new state.new) }
+    ensures steps { (from : ℕ) → from ≤ position → WalkedTo graph.now from position line.old state.old → OnOk result (steps.new + touches (take position graph.now) from ≡ steps.old + touches (take (position + 1) graph.now) from) }
+    ensures most { (from : ℕ) → from ≤ position → WalkedTo graph.now from position line.old state.old → steps.new + touches (take position graph.now) from ≤ steps.old + touches (take (position + 1) graph.now) from }
 {
-    match reach(graph, state, *line, lv, near, steps)? {
-        Some(len) => pass_cut(alloc, graph, state, line, lv, len, near, steps),
-        None => apply(graph, state, lv, near, steps),
+    match reach(graph, state, *line, position, near, steps)? {
+        Some(len) => pass_cut(alloc, graph, state, line, position, len, near, steps),
+        None => apply(graph, state, position, near, steps),
     }
 }
 
@@ -49,23 +49,23 @@ fn reach<L: Ledger>(
     graph: &Graph,
     state: &mut State,
     line: Option<u32>,
-    lv: u32,
+    position: u32,
     near: &mut Near,
     steps: &mut Steps<L>,
 ) -> Result<Option<u32>, NoMem>
-    requires within { lv < length graph.now }
-    requires walked { (from : ℕ) × (from ≤ lv) × WalkedTo graph.now from lv line state.old }
-    ensures ready { (from : ℕ) → WalkedTo graph.now from lv line state.old → IfOk result (λ at. ReadyAt graph.now lv at state.new) }
+    requires within { position < length graph.now }
+    requires walked { (from : ℕ) × (from ≤ position) × WalkedTo graph.now from position line state.old }
+    ensures ready { (from : ℕ) → WalkedTo graph.now from position line state.old → IfOk result (λ at. ReadyAt graph.now position at state.new) }
     ensures line { IfOk result (λ at. at ≡ None → line ≡ None) }
-    ensures steps { (from : ℕ) → from ≤ lv → WalkedTo graph.now from lv line state.old → OnOk result (steps.new + touches (take lv graph.now) from + 1 ≡ steps.old + touches (take (lv + 1) graph.now) from) }
-    ensures most { (from : ℕ) → from ≤ lv → WalkedTo graph.now from lv line state.old → steps.new + touches (take lv graph.now) from + 1 ≤ steps.old + touches (take (lv + 1) graph.now) from }
+    ensures steps { (from : ℕ) → from ≤ position → WalkedTo graph.now from position line state.old → OnOk result (steps.new + touches (take position graph.now) from + 1 ≡ steps.old + touches (take (position + 1) graph.now) from) }
+    ensures most { (from : ℕ) → from ≤ position → WalkedTo graph.now from position line state.old → steps.new + touches (take position graph.now) from + 1 ≤ steps.old + touches (take (position + 1) graph.now) from }
 {
     let _count = graph.count();
     if line.is_some() {
         return Ok(line);
     }
-    prepare(graph, state, lv, near, steps)?;
-    if graph.is_cut_near(lv, near) {
+    prepare(graph, state, position, near, steps)?;
+    if graph.is_cut_near(position, near) {
         Ok(Some(state.prepared_len()))
     } else {
         Ok(None)
@@ -76,52 +76,52 @@ fn reach<L: Ledger>(
 fn prepare<L: Ledger>(
     graph: &Graph,
     state: &mut State,
-    lv: u32,
+    position: u32,
     near: &mut Near,
     steps: &mut Steps<L>,
 ) -> Result<(), NoMem>
-    requires within { lv < length graph.now }
-    requires reached { (cut : ℕ) × Reached graph.now cut lv state.old }
-    ensures moved { (cut : ℕ) (e : Event) → Reached graph.now cut lv state.old → slice_get graph.now lv ≡ Some e → OnOk result (StandsAt graph.now cut lv (over_since (take lv graph.now) cut e) state.new) }
-    ensures steps { (from : ℕ) → from < lv → OnOk result (steps.new + touches (take lv graph.now) from + 1 ≡ steps.old + touches (take (lv + 1) graph.now) from) }
-    ensures most { (from : ℕ) → from < lv → steps.new + touches (take lv graph.now) from + 1 ≤ steps.old + touches (take (lv + 1) graph.now) from }
+    requires within { position < length graph.now }
+    requires reached { (cut : ℕ) × Reached graph.now cut position state.old }
+    ensures moved { (cut : ℕ) (e : Event) → Reached graph.now cut position state.old → slice_get graph.now position ≡ Some e → OnOk result (StandsAt graph.now cut position (over_since (take position graph.now) cut e) state.new) }
+    ensures steps { (from : ℕ) → from < position → OnOk result (steps.new + touches (take position graph.now) from + 1 ≡ steps.old + touches (take (position + 1) graph.now) from) }
+    ensures most { (from : ℕ) → from < position → steps.new + touches (take position graph.now) from + 1 ≤ steps.old + touches (take (position + 1) graph.now) from }
 {
     let _count = graph.count();
-    if follows(graph, lv, near) {
+    if follows(graph, position, near) {
         Ok(())
     } else {
-        move_to(graph, state, lv, steps)
+        move_to(graph, state, position, steps)
     }
 }
 
 /// Whether the one parent of the event at a position is the event before it.
-fn follows(graph: &Graph, lv: u32, near: &mut Near) -> bool
-    requires some { 0 < lv }
-    requires within { lv < length graph.now }
-    ensures { IsTrue result ↔ (parents_at (parent_positions graph.now) lv ≡ (lv - 1) ∷ []) }
+fn follows(graph: &Graph, position: u32, near: &mut Near) -> bool
+    requires some { 0 < position }
+    requires within { position < length graph.now }
+    ensures { IsTrue result ↔ (parents_at (parent_positions graph.now) position ≡ (position - 1) ∷ []) }
 {
-    if graph.chain_start_near(lv, near) < lv {
+    if graph.chain_start_near(position, near) < position {
         return true;
     }
-    let parents = graph.parents_of(lv);
-    parents.as_slice() == [lv - 1].as_slice()
+    let parents = graph.parents_of(position);
+    parents.as_slice() == [position - 1].as_slice()
 }
 
 /// Prepares the ancestors of the event at a position.
 fn move_to<L: Ledger>(
     graph: &Graph,
     state: &mut State,
-    lv: u32,
+    position: u32,
     steps: &mut Steps<L>,
 ) -> Result<(), NoMem>
-    requires within { lv < length graph.now }
-    requires reached { (cut : ℕ) × Reached graph.now cut lv state.old }
-    ensures moved { (cut : ℕ) (e : Event) → Reached graph.now cut lv state.old → slice_get graph.now lv ≡ Some e → OnOk result (StandsAt graph.now cut lv (over_since (take lv graph.now) cut e) state.new) }
-    ensures steps { (from : ℕ) → from < lv → OnOk result (steps.new + touches (take lv graph.now) from + 1 ≡ steps.old + touches (take (lv + 1) graph.now) from) }
-    ensures most { (from : ℕ) → from < lv → steps.new + touches (take lv graph.now) from + 1 ≤ steps.old + touches (take (lv + 1) graph.now) from }
+    requires within { position < length graph.now }
+    requires reached { (cut : ℕ) × Reached graph.now cut position state.old }
+    ensures moved { (cut : ℕ) (e : Event) → Reached graph.now cut position state.old → slice_get graph.now position ≡ Some e → OnOk result (StandsAt graph.now cut position (over_since (take position graph.now) cut e) state.new) }
+    ensures steps { (from : ℕ) → from < position → OnOk result (steps.new + touches (take position graph.now) from + 1 ≡ steps.old + touches (take (position + 1) graph.now) from) }
+    ensures most { (from : ℕ) → from < position → steps.new + touches (take position graph.now) from + 1 ≤ steps.old + touches (take (position + 1) graph.now) from }
 {
     let _count = graph.count();
-    let (out, into) = differences(graph, lv)?;
+    let (out, into) = differences(graph, position)?;
     retreat_all(state, &out, steps)?;
     advance_all(state, &into, steps)?;
     Ok(())
@@ -129,13 +129,13 @@ fn move_to<L: Ledger>(
 
 /// What is prepared behind the events before a position and isn't among the ancestors of the event there, and what is among
 /// these and isn't prepared.
-fn differences(graph: &Graph, lv: u32) -> Result<(Spans, Spans), NoMem>
-    requires some { 0 < lv }
-    requires within { lv < length graph.now }
-    ensures out { (e : Event) → slice_get graph.now lv ≡ Some e → IfOk result (λ sides. positions_of sides.0 ≡ alone (prepared_since (take lv graph.now) 0) (over_since (take lv graph.now) 0 e)) }
-    ensures into { (e : Event) → slice_get graph.now lv ≡ Some e → IfOk result (λ sides. positions_of sides.1 ≡ alone (over_since (take lv graph.now) 0 e) (prepared_since (take lv graph.now) 0)) }
+fn differences(graph: &Graph, position: u32) -> Result<(Spans, Spans), NoMem>
+    requires some { 0 < position }
+    requires within { position < length graph.now }
+    ensures out { (e : Event) → slice_get graph.now position ≡ Some e → IfOk result (λ sides. positions_of sides.0 ≡ alone (prepared_since (take position graph.now) 0) (over_since (take position graph.now) 0 e)) }
+    ensures into { (e : Event) → slice_get graph.now position ≡ Some e → IfOk result (λ sides. positions_of sides.1 ≡ alone (over_since (take position graph.now) 0 e) (prepared_since (take position graph.now) 0)) }
 {
     let _count = graph.count();
-    let parents = graph.parents_of(lv);
-    graph.diff(&[lv - 1], parents.as_slice(), 0)
+    let parents = graph.parents_of(position);
+    graph.diff(&[position - 1], parents.as_slice(), 0)
 }

@@ -52,13 +52,13 @@ pub fn walk<L: Ledger>(
     let mut ops = Vec::new(alloc);
     let mut line = Some(state.effect_len());
     let mut near = Near::start();
-    for lv in from_cut..graph.count() {
-        match take_turn(alloc, graph, state, &mut line, lv, &mut near, steps)? {
-            Turn::Applied(op) => emit(&mut ops, lv, emit_from, op)?,
+    for position in from_cut..graph.count() {
+        match take_turn(alloc, graph, state, &mut line, position, &mut near, steps)? {
+            Turn::Applied(op) => emit(&mut ops, position, emit_from, op)?,
             Turn::OutOfRange(len) => {
                 return Ok(Walk {
                     ops,
-                    stopped: Some((lv, len)),
+                    stopped: Some((position, len)),
                 });
             }
         }
@@ -67,10 +67,10 @@ pub fn walk<L: Ledger>(
 }
 
 /// Puts the operation of the event at a position behind the others, if it is one of those asked for.
-fn emit(ops: &mut Vec<TextOp>, lv: u32, emit_from: u32, op: TextOp) -> Result<(), NoMem>
-    ensures { OnOk result (ops.new.items ≡ (if nat_le emit_from lv then ops.old.items ++ op ∷ [] else ops.old.items)) }
+fn emit(ops: &mut Vec<TextOp>, position: u32, emit_from: u32, op: TextOp) -> Result<(), NoMem>
+    ensures { OnOk result (ops.new.items ≡ (if nat_le emit_from position then ops.old.items ++ op ∷ [] else ops.old.items)) }
 {
-    if lv >= emit_from {
+    if position >= emit_from {
         ops.push(op)?;
     }
     Ok(())

@@ -1,7 +1,8 @@
 //! Why a row has no answer.
 
+use ew_model::NoMem;
 use ew_model::name::NameFault;
-use std::alloc::{AllocError, AllocFailed};
+use std::alloc::AllocFailed;
 use std::num::ParseIntError;
 
 #[derive(Clone, Copy)]
@@ -11,8 +12,8 @@ pub enum Fault {
     Unreadable,
 }
 
-impl From<AllocError> for Fault {
-    fn from(_e: AllocError) -> Fault {
+impl From<NoMem> for Fault {
+    fn from(_e: NoMem) -> Fault {
         Fault::OutOfMemory
     }
 }

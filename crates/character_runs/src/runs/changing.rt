@@ -209,7 +209,7 @@ impl Runs {
     /// Changes the states of the run of an event's character, where all of its characters are of events at positions within these.
     pub fn change_run<L: Ledger>(
         &mut self,
-        lv: u32,
+        position: u32,
         within: Positions,
         change: Change,
         visits: &mut Steps<L>,
@@ -218,7 +218,7 @@ impl Runs {
         requires room { AllByRecursion HasRoom (chars_in self.old.tree.pairs) }
         requires few { length (chars_in self.old.tree.pairs) < 2 ^ 32 }
         ensures laid { AreLabelled self.new.tree.pairs self.new.labels }
-        ensures part { IfSome result (λ r. ArePart lv r.positions within) }
+        ensures part { IfSome result (λ r. ArePart position r.positions within) }
         ensures told { IfSome result (λ r. (n : ℕ) → r.positions.from ≤ n → n < r.positions.to → list_any (is_of (nodes.Event n)) (chars_in self.old.tree.pairs) ≡ true) }
         ensures chars { IfSome result (λ r. chars_in self.new.tree.pairs ≡ map (changed_in r.positions change) (chars_in self.old.tree.pairs)) }
         ensures recounted { IfSome result (λ r. Recounted (chars_in self.old.tree.pairs) (chars_in self.new.tree.pairs) r.altered) }
@@ -227,7 +227,7 @@ impl Runs {
         ensures none { IfNone result (self.new ≡ self.old) }
         ensures loose { (among : Nodes → Bool) → loose_in among (runs self.new.tree.pairs) ≡ loose_in among (runs self.old.tree.pairs) }
     {
-        let found = self.run_of(Node::Event(lv), visits)?;
+        let found = self.run_of(Node::Event(position), visits)?;
         let positions = positions_within(&found.run, within)?;
         Some(Recast {
             positions,

@@ -20,15 +20,15 @@ use walker_record::Record;
 pub struct Child {
     pub slot: Slot,
     pub id: Id,
-    pub lv: u32,
+    pub position: u32,
 }
 
 impl Child {
     /// Its node.
     pub fn node(&self) -> Node
-        ensures { result ≡ nodes.Event self.now.lv }
+        ensures { result ≡ nodes.Event self.now.position }
     {
-        Node::Event(self.lv)
+        Node::Event(self.position)
     }
 
     /// Its run before it has a place among the characters.
@@ -59,7 +59,7 @@ impl Child {
     pub fn attach(&self, siblings: &mut Siblings) -> Result<(), NoMem>
         requires parent { is_there siblings.old self.now.slot.parent ≡ true }
         requires unused { has_id siblings.old self.now.id ≡ false }
-        requires new { is_attached siblings.old (nodes.Event self.now.lv) ≡ false }
+        requires new { is_attached siblings.old (nodes.Event self.now.position) ≡ false }
         ensures ok { OnOk result (siblings.new ≡ siblings.old ++ attached_by self.now ∷ []) }
         ensures err { OnErr result (siblings.new ≡ siblings.old) }
     {
@@ -76,11 +76,11 @@ impl Child {
     ) -> Result<(), NoMem>
         requires parent { is_there siblings.old self.now.slot.parent ≡ true }
         requires unused { has_id siblings.old self.now.id ≡ false }
-        requires new { is_attached siblings.old (nodes.Event self.now.lv) ≡ false }
-        requires bare { label_of labels.old (nodes.Event self.now.lv) ≡ None }
+        requires new { is_attached siblings.old (nodes.Event self.now.position) ≡ false }
+        requires bare { label_of labels.old (nodes.Event self.now.position) ≡ None }
         ensures ok { OnOk result (siblings.new ≡ siblings.old ++ attached_by self.now ∷ []) }
         ensures err { OnErr result (siblings.new ≡ siblings.old) }
-        ensures sets { OnOk result (Sets labels.old labels.new (nodes.Event self.now.lv) (Some label)) }
+        ensures sets { OnOk result (Sets labels.old labels.new (nodes.Event self.now.position) (Some label)) }
         ensures same { OnErr result ((v : Nodes) → label_of labels.new v ≡ label_of labels.old v) }
     {
         labels.insert(self.node(), label)?;

@@ -47,7 +47,7 @@ impl Runs {
         ensures attached { OnOk result (siblings.new ≡ siblings.old ++ attached_by child.now ∷ []) }
         ensures err { OnErr result (chars_in self.new.tree.pairs ≡ chars_in self.old.tree.pairs) }
         ensures detached { OnErr result (siblings.new ≡ siblings.old) }
-        ensures told { OnOk result ((among : Nodes → Bool) → among (nodes.Event child.now.lv) ≡ true → loose_in among (runs self.new.tree.pairs) ≤ loose_parted among (runs self.old.tree.pairs) (length (up_to self.old.tree.pairs label))) }
+        ensures told { OnOk result ((among : Nodes → Bool) → among (nodes.Event child.now.position) ≡ true → loose_in among (runs self.new.tree.pairs) ≤ loose_parted among (runs self.old.tree.pairs) (length (up_to self.old.tree.pairs label))) }
         ensures loose { OnErr result ((among : Nodes → Bool) → loose_in among (runs self.new.tree.pairs) ≤ loose_in among (runs self.old.tree.pairs) + 1) }
     {
         self.facts();
@@ -96,7 +96,7 @@ impl Runs {
         ensures attached { OnOk result (siblings.new ≡ siblings.old ++ attached_by child.now ∷ []) }
         ensures err { OnErr result (self.new.tree ≡ self.old.tree) }
         ensures detached { OnErr result (siblings.new ≡ siblings.old) }
-        ensures told { OnOk result ((among : Nodes → Bool) → among (nodes.Event child.now.lv) ≡ true → loose_in among (runs self.new.tree.pairs) ≤ loose_parted among (runs self.old.tree.pairs) (length (up_to self.old.tree.pairs label))) }
+        ensures told { OnOk result ((among : Nodes → Bool) → among (nodes.Event child.now.position) ≡ true → loose_in among (runs self.new.tree.pairs) ≤ loose_parted among (runs self.old.tree.pairs) (length (up_to self.old.tree.pairs label))) }
     {
         child.attach(siblings)?;
         self.facts();
@@ -149,11 +149,11 @@ impl Runs {
         requires laid { AreLabelled self.old.tree.pairs self.old.labels }
         requires new { IsNewChild (chars_in self.old.tree.pairs) siblings.old child.now }
         ensures laid { AreLabelled self.new.tree.pairs self.new.labels }
-        ensures comes { IfOk result (Comes (chars_in self.old.tree.pairs) (chars_in self.new.tree.pairs) (place.After node) child.now.lv) }
+        ensures comes { IfOk result (Comes (chars_in self.old.tree.pairs) (chars_in self.new.tree.pairs) (place.After node) child.now.position) }
         ensures attached { OnOk result (siblings.new ≡ siblings.old ++ attached_by child.now ∷ []) }
         ensures err { OnErr result (chars_in self.new.tree.pairs ≡ chars_in self.old.tree.pairs) }
         ensures detached { OnErr result (siblings.new ≡ siblings.old) }
-        ensures told { OnOk result ((among : Nodes → Bool) → among (nodes.Event child.now.lv) ≡ true → loose_in among (runs self.new.tree.pairs) ≤ loose_in among (runs self.old.tree.pairs)) }
+        ensures told { OnOk result ((among : Nodes → Bool) → among (nodes.Event child.now.position) ≡ true → loose_in among (runs self.new.tree.pairs) ≤ loose_in among (runs self.old.tree.pairs)) }
         ensures loose { OnErr result ((among : Nodes → Bool) → loose_in among (runs self.new.tree.pairs) ≤ loose_in among (runs self.old.tree.pairs) + 2) }
     {
         let ended = self.cut_behind(node, visits)?;
@@ -177,11 +177,11 @@ impl Runs {
         requires laid { AreLabelled self.old.tree.pairs self.old.labels }
         requires new { IsNewChild (chars_in self.old.tree.pairs) siblings.old child.now }
         ensures laid { AreLabelled self.new.tree.pairs self.new.labels }
-        ensures comes { IfOk result (Comes (chars_in self.old.tree.pairs) (chars_in self.new.tree.pairs) (place.After node) child.now.lv) }
+        ensures comes { IfOk result (Comes (chars_in self.old.tree.pairs) (chars_in self.new.tree.pairs) (place.After node) child.now.position) }
         ensures attached { OnOk result (siblings.new ≡ siblings.old ++ attached_by child.now ∷ []) }
         ensures err { OnErr result (chars_in self.new.tree.pairs ≡ chars_in self.old.tree.pairs) }
         ensures detached { OnErr result (siblings.new ≡ siblings.old) }
-        ensures told { OnOk result ((among : Nodes → Bool) → among (nodes.Event child.now.lv) ≡ true → loose_in among (runs self.new.tree.pairs) ≤ loose_in among (runs self.old.tree.pairs)) }
+        ensures told { OnOk result ((among : Nodes → Bool) → among (nodes.Event child.now.position) ≡ true → loose_in among (runs self.new.tree.pairs) ≤ loose_in among (runs self.old.tree.pairs)) }
         ensures loose { OnErr result ((among : Nodes → Bool) → loose_in among (runs self.new.tree.pairs) ≤ loose_in among (runs self.old.tree.pairs) + 2) }
     {
         self.facts();

@@ -63,7 +63,7 @@ impl Runs {
         ensures attached { OnOk result (siblings.new ≡ siblings.old ++ attached_by child.now ∷ []) }
         ensures err { OnErr result (chars_in self.new.tree.pairs ≡ chars_in self.old.tree.pairs) }
         ensures detached { OnErr result (siblings.new ≡ siblings.old) }
-        ensures told { OnOk result ((among : Nodes → Bool) → among (nodes.Event child.now.lv) ≡ true → loose_in among (runs self.new.tree.pairs) ≤ loose_parted among (runs self.old.tree.pairs) (length (lower self.old.tree.pairs label))) }
+        ensures told { OnOk result ((among : Nodes → Bool) → among (nodes.Event child.now.position) ≡ true → loose_in among (runs self.new.tree.pairs) ≤ loose_parted among (runs self.old.tree.pairs) (length (lower self.old.tree.pairs label))) }
         ensures loose { OnErr result ((among : Nodes → Bool) → loose_in among (runs self.new.tree.pairs) ≤ loose_in among (runs self.old.tree.pairs) + 1) }
     {
         self.facts();
@@ -86,11 +86,11 @@ impl Runs {
         requires laid { AreLabelled self.old.tree.pairs self.old.labels }
         requires new { IsNewChild (chars_in self.old.tree.pairs) siblings.old child.now }
         ensures laid { AreLabelled self.new.tree.pairs self.new.labels }
-        ensures comes { IfOk result (Comes (chars_in self.old.tree.pairs) (chars_in self.new.tree.pairs) (places.Before node) child.now.lv) }
+        ensures comes { IfOk result (Comes (chars_in self.old.tree.pairs) (chars_in self.new.tree.pairs) (places.Before node) child.now.position) }
         ensures attached { OnOk result (siblings.new ≡ siblings.old ++ attached_by child.now ∷ []) }
         ensures err { OnErr result (chars_in self.new.tree.pairs ≡ chars_in self.old.tree.pairs) }
         ensures detached { OnErr result (siblings.new ≡ siblings.old) }
-        ensures told { OnOk result ((among : Nodes → Bool) → among (nodes.Event child.now.lv) ≡ true → loose_in among (runs self.new.tree.pairs) ≤ loose_in among (runs self.old.tree.pairs)) }
+        ensures told { OnOk result ((among : Nodes → Bool) → among (nodes.Event child.now.position) ≡ true → loose_in among (runs self.new.tree.pairs) ≤ loose_in among (runs self.old.tree.pairs)) }
         ensures loose { OnErr result ((among : Nodes → Bool) → loose_in among (runs self.new.tree.pairs) ≤ loose_in among (runs self.old.tree.pairs) + 2) }
     {
         let begun = self.cut(node, visits)?;
@@ -116,11 +116,11 @@ impl Runs {
         requires laid { AreLabelled self.old.tree.pairs self.old.labels }
         requires new { IsNewChild (chars_in self.old.tree.pairs) siblings.old child.now }
         ensures laid { AreLabelled self.new.tree.pairs self.new.labels }
-        ensures comes { IfOk result (Comes (chars_in self.old.tree.pairs) (chars_in self.new.tree.pairs) place child.now.lv) }
+        ensures comes { IfOk result (Comes (chars_in self.old.tree.pairs) (chars_in self.new.tree.pairs) place child.now.position) }
         ensures attached { OnOk result (siblings.new ≡ siblings.old ++ attached_by child.now ∷ []) }
         ensures err { OnErr result (chars_in self.new.tree.pairs ≡ chars_in self.old.tree.pairs) }
         ensures detached { OnErr result (siblings.new ≡ siblings.old) }
-        ensures told { OnOk result ((among : Nodes → Bool) → among (nodes.Event child.now.lv) ≡ true → loose_in among (runs self.new.tree.pairs) ≤ loose_in among (runs self.old.tree.pairs)) }
+        ensures told { OnOk result ((among : Nodes → Bool) → among (nodes.Event child.now.position) ≡ true → loose_in among (runs self.new.tree.pairs) ≤ loose_in among (runs self.old.tree.pairs)) }
         ensures loose { OnErr result ((among : Nodes → Bool) → loose_in among (runs self.new.tree.pairs) ≤ loose_in among (runs self.old.tree.pairs) + 2) }
     {
         match place {

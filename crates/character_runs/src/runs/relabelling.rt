@@ -11,7 +11,6 @@ use crate::runs::{Runs, Spot};
 use ew_model::NoMem;
 use ew_model::node::Node;
 use ew_model::steps::Steps;
-use std::alloc::AllocError;
 use std::sync::ledger::Ledger;
 use walker_record::Record;
 
@@ -105,7 +104,7 @@ impl Runs {
         ensures before { IfOk result (λ o. IfNone o (HasRoom self.new.tree.pairs 0)) }
     {
         if self.tree.runs() == u32::MAX {
-            return Err(AllocError);
+            return Err(NoMem);
         }
         if self.has_room_at(spot, visits) {
             return Ok(spot);

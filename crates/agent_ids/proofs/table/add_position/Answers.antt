@@ -2,7 +2,7 @@ use Rattle.std.proofs.Common.{◌≡◌, ◌∙◌, ◌∷◌, ◌++◌, [], ℕ
 use Rattle.std.specs.Cmp.Lexicographic.{pointwise}
 use Rattle.agent_ids.specs.Table.{AreAgents}
 use Rattle.agent_ids.proofs.OwnPositions.{place_within, found_name, searched, more_of_agent, more_of_new}
-use Rattle.agent_ids.proofs.LastIds.{pushed}
+use Rattle.ew_model.proofs.PositionCuts.{last_at}
 use Rattle.agent_ids.proofs.table.add_position.Goals as goal
 
 pub start_agent-requires : goal.start_agent-requires
@@ -29,4 +29,4 @@ returns-in_ok-push-in-Some-clause-number c = found_name c.args.names.now.keys c.
 
 pub returns-in_ok-start_agent-in-None-clause-number : goal.returns-in_ok-start_agent-in-None-clause-number
 returns-in_ok-start_agent-in-None-clause-number c =
-    ap (slice_get c.start_agent.new.names.keys) c.len-count.ensures.len ∙ ap (λ (ns : List (List ℕ)). slice_get ns (length c.args.names.now.keys)) c.in_ok-start_agent-in-None.ensures.names ∙ pushed c.args.names.now.keys c.args.name.now
+    ap (slice_get c.start_agent.new.names.keys) c.len-count.ensures.len ∙ ap (λ (ns : List (List ℕ)). slice_get ns (length c.args.names.now.keys)) c.in_ok-start_agent-in-None.ensures.names ∙ last_at c.args.names.now.keys c.args.name.now

@@ -2,5 +2,5 @@ use Rattle.std.proofs.Common.{ℕ, ◌<◌}
 use Rattle.agreement.specs.Sharing.{IsShared}
 use Rattle.agreement.proofs.sharing.holds_all.Given as goal
 
-abbrev pub invariant-loop-lv : goal.invariant-loop-lv
-invariant-loop-lv l = (p : ℕ) → p < l.lv → IsShared l.a p l.b
+abbrev pub invariant-loop-position : goal.invariant-loop-position
+invariant-loop-position l = (p : ℕ) → p < l.position → IsShared l.a p l.b

@@ -1,7 +1,8 @@
 use Rattle.std.proofs.Common.{◌++◌, length, sym, ap, ◌∙◌, append-nil, arith}
 use Rattle.std.specs.Vec.Iter.{into_iter_items}
 use Rattle.net_core.specs.Bytes.{reply_lines}
-use Rattle.net_core.proofs.Receiving.{none_left, one_moved, one_printed}
+use Rattle.ew_model.proofs.ListParts.{none_left, one_moved}
+use Rattle.net_core.proofs.Receiving.{one_printed}
 use Rattle.net_core.proofs.delivery.push_replies.Goals as goal
 
 pub loop-frame-preserved : goal.loop-frame-preserved

@@ -13,25 +13,25 @@ use Rattle.transform.proofs.cut.pass_cut.Goals as goal
 pub changed_length-requires : goal.changed_length-requires
 changed_length-requires g c =
     let alone = c.stands_alone.ensures.0 c.if-stands_alone.true in
-    let low : base_at c.args.graph.now c.args.lv ≤ c.args.lv = base_low c.args.graph.now c.args.lv c.requires.behind.good in
+    let low : base_at c.args.graph.now c.args.position ≤ c.args.position = base_low c.args.graph.now c.args.position c.requires.behind.good in
     omega (arith, alone.0, low, c.requires.long, c.count-count.ensures.count)
 
 pub apply-requires-clause-ready : goal.apply-requires-clause-ready
 apply-requires-clause-ready g c =
-    (c.args.lv, fresh c.args.graph.now c.args.lv c.args.len c.in_ok-state.field-0 (omega (arith, c.requires.within)) c.requires.behind c.requires.long c.in_ok-state.ensures.stands)
+    (c.args.position, fresh c.args.graph.now c.args.position c.args.len c.in_ok-state.field-0 (omega (arith, c.requires.within)) c.requires.behind c.requires.long c.in_ok-state.ensures.stands)
 
 pub returns-in-Some-clause-turned : goal.returns-in-Some-clause-turned
 returns-in-Some-clause-turned g c = λ from low.
     let now = c.args.graph.now in
-    let lv = c.args.lv in
-    let found = element_there now lv c.requires.within in
+    let position = c.args.position in
+    let found = element_there now position c.requires.within in
     let e = found.0 in
-    let own : own_change e.op ≡ c.change_near-change.result = change_is now lv e c.change_near-change.result found.1 c.change_near-change.ensures in
+    let own : own_change e.op ≡ c.change_near-change.result = change_is now position e c.change_near-change.result found.1 c.change_near-change.ensures in
     let alone = c.stands_alone.ensures.0 c.if-stands_alone.true in
     let length = c.in-Some.ensures.some e.op own in
-    let done = goes_in_line now lv e c.count-count.ensures.admitted found.1 c.requires.behind.critical from c.args.len c.in-Some.len c.args.state.now low c.requires.behind.good c.requires.long length.0 length.1 alone.0 alone.1 in
-    (done.0, done.1 ∙ ap (λ o. operations (take lv now) ++ o ∷ []) own)
+    let done = goes_in_line now position e c.count-count.ensures.admitted found.1 c.requires.behind.critical from c.args.len c.in-Some.len c.args.state.now low c.requires.behind.good c.requires.long length.0 length.1 alone.0 alone.1 in
+    (done.0, done.1 ∙ ap (λ o. operations (take position now) ++ o ∷ []) own)
 
 pub returns-clause-turned : goal.returns-clause-turned
 returns-clause-turned g c = λ from low.
-    turned_at_cut c.args.graph.now from c.args.lv c.args.len c.in_ok-state.field-0 c.apply.new.state c.apply.result c.requires.within low c.requires.behind c.requires.long c.in_ok-state.ensures.stands c.apply.ensures.turned
+    turned_at_cut c.args.graph.now from c.args.position c.args.len c.in_ok-state.field-0 c.apply.new.state c.apply.result c.requires.within low c.requires.behind c.requires.long c.in_ok-state.ensures.stands c.apply.ensures.turned

@@ -24,5 +24,5 @@ invariant_of-self-2 g c =
     let new = c.insert.new.self in
     let same = ap (λ (s : InRuns). length s.records) (ap in_runs c.settle.ensures.pairs ∙ c.self.view_is) in
     let room : length (chars_in was.tree.pairs) < 2 ^ 25 = omega (arith, same, c.requires.new.room) in
-    let counted = counted_more was.tree.pairs was.labels inside.visible inside.shown (now_counted inside.runs.tree.pairs c.settle.new.runs.tree.pairs inside.runs.labels c.settle.new.runs.labels inside.visible inside.shown inside.cursor inside.pending c.self.invariant c.settle.ensures.pairs c.settle.ensures.labels) new.tree.pairs new.labels c.args.place c.args.child.now.lv c.in_ok-at.at c.insert.ensures.laid c.in_ok-at.ensures.comes room in
+    let counted = counted_more was.tree.pairs was.labels inside.visible inside.shown (now_counted inside.runs.tree.pairs c.settle.new.runs.tree.pairs inside.runs.labels c.settle.new.runs.labels inside.visible inside.shown inside.cursor inside.pending c.self.invariant c.settle.ensures.pairs c.settle.ensures.labels) new.tree.pairs new.labels c.args.place c.args.child.now.position c.in_ok-at.at c.insert.ensures.laid c.in_ok-at.ensures.comes room in
     record { counted = counted; cursor = tt; told = λ e. refl; few = counted.few }

@@ -56,7 +56,7 @@ invariant_of-self g c =
     let typed = c.typed.ensures in
     let next : c.typed.result ≡ typed_at c.in-Some.cursor c.args.child.now = λ i. record { label = typed.label i; run = typed.run i; before = typed.before i; index = typed.index i; struck = typed.struck i } in
     let old = chars_in (settled inside.runs.tree.pairs inside.cursor) in
-    let new : list_any (is_of (Event c.args.child.now.lv)) old ≡ false = ap (λ (s : InRuns). list_any (is_of (Event c.args.child.now.lv)) s.records) c.self.view_is ∙ c.requires.new.unrecorded in
+    let new : list_any (is_of (Event c.args.child.now.position)) old ≡ false = ap (λ (s : InRuns). list_any (is_of (Event c.args.child.now.position)) s.records) c.self.view_is ∙ c.requires.new.unrecorded in
     let same = ap (λ (s : InRuns). length s.records) c.self.view_is in
     let room : length old < 2 ^ 25 = omega (arith, same, c.requires.new.room) in
     subst (λ (d : Cursor). AreKept c.settle_struck.new.runs.tree.pairs c.settle_struck.new.runs.labels (inside.visible + 1) (inside.shown + 1) (Some d) true) (sym next)
@@ -69,9 +69,9 @@ returns-clause-comes g c =
     let next : c.typed.result ≡ typed_at c.in-Some.cursor c.args.child.now = λ i. record { label = typed.label i; run = typed.run i; before = typed.before i; index = typed.index i; struck = typed.struck i } in
     let new = chars_in (settled c.settle_struck.new.runs.tree.pairs (Some c.typed.result)) in
     let place = c.in-Some.ensures.place in
-    rw c.shown-at.ensures (subst (λ (s : InRuns). Comes s.records new c.args.place c.args.child.now.lv (c.in-Some.cursor.before + c.in-Some.cursor.run.len)) c.self.view_is
-    (subst (λ (p : Place). Comes (chars_in (settled inside.runs.tree.pairs inside.cursor)) new p c.args.child.now.lv (c.in-Some.cursor.before + c.in-Some.cursor.run.len)) (sym place)
-    (subst (λ (d : Cursor). Comes (chars_in (settled inside.runs.tree.pairs inside.cursor)) (chars_in (settled c.settle_struck.new.runs.tree.pairs (Some d))) (After (last_of c.in-Some.cursor.run)) c.args.child.now.lv (c.in-Some.cursor.before + c.in-Some.cursor.run.len)) (sym next)
+    rw c.shown-at.ensures (subst (λ (s : InRuns). Comes s.records new c.args.place c.args.child.now.position (c.in-Some.cursor.before + c.in-Some.cursor.run.len)) c.self.view_is
+    (subst (λ (p : Place). Comes (chars_in (settled inside.runs.tree.pairs inside.cursor)) new p c.args.child.now.position (c.in-Some.cursor.before + c.in-Some.cursor.run.len)) (sym place)
+    (subst (λ (d : Cursor). Comes (chars_in (settled inside.runs.tree.pairs inside.cursor)) (chars_in (settled c.settle_struck.new.runs.tree.pairs (Some d))) (After (last_of c.in-Some.cursor.run)) c.args.child.now.position (c.in-Some.cursor.before + c.in-Some.cursor.run.len)) (sym next)
     (comes inside.runs.tree.pairs inside.runs.labels inside.visible inside.shown inside.cursor inside.pending c.self.invariant c.facts.ensures.rising c.in-Some.cursor c.in-Some.ensures.is c.args.child.now c.in-Some.ensures.goes_on c.settle_struck.new.runs.tree.pairs c.settle_struck.new.runs.labels c.settle_struck.ensures.end c.settle_struck.ensures.labels c.settle_struck.ensures.own))))
 
 pub returns-clause-told : goal.returns-clause-told

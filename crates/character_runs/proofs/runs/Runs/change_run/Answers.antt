@@ -12,7 +12,7 @@ pub returns-clause-part : goal.returns-clause-part
 returns-clause-part g c =
     let run = c.in_ok-found.found.run in
     let p = c.in_ok-positions.positions in
-    let place = offset_between run p.from p.to c.in_ok-positions.ensures.from c.in_ok-positions.ensures.to c.args.lv c.in_ok-found.found.offset c.in_ok-found.ensures.offset in
+    let place = offset_between run p.from p.to c.in_ok-positions.ensures.from c.in_ok-positions.ensures.to c.args.position c.in_ok-found.found.offset c.in_ok-found.ensures.offset in
     record { first = c.in_ok-positions.ensures.first; last = c.in_ok-positions.ensures.last; low = place.0; high = place.1 }
 
 pub returns-clause-told : goal.returns-clause-told

@@ -48,7 +48,7 @@ returns-in-Some-clause-comes g c =
     let same = same_chars qs cut c.make_room_at.ensures.runs ∙ c.cut.ensures.chars in
     let old = chars_in c.args.self.now.tree.pairs in
     let new = chars_in c.prepend.new.self.tree.pairs in
-    if_ok_then c.prepend.result (EntersAt (chars_in qs) new c.args.child.now (length (chars_in (lower qs spot.label)))) (Comes old new (Before c.args.node) c.args.child.now.lv)
+    if_ok_then c.prepend.result (EntersAt (chars_in qs) new c.args.child.now (length (chars_in (lower qs spot.label)))) (Comes old new (Before c.args.node) c.args.child.now.position)
     (λ m e. comes_ahead qs c.facts.ensures.rising old new same c.args.child.now c.args.node m spot.label spot.offset s begins e) c.prepend.ensures.enters
 
 pub returns-in-Some-clause-err : goal.returns-in-Some-clause-err
@@ -77,7 +77,7 @@ returns-in-None-clause-comes g c =
     let same = same_chars qs cut c.make_room_at.ensures.runs ∙ c.cut.ensures.chars in
     let old = chars_in c.args.self.now.tree.pairs in
     let new = chars_in c.insert_run.new.self.tree.pairs in
-    if_ok_then c.insert_run.result (EntersAt (chars_in qs) new c.args.child.now (length (chars_in (up_to qs 0)))) (Comes old new (Before c.args.node) c.args.child.now.lv)
+    if_ok_then c.insert_run.result (EntersAt (chars_in qs) new c.args.child.now (length (chars_in (up_to qs 0)))) (Comes old new (Before c.args.node) c.args.child.now.position)
     (λ m e. comes_first_ahead qs c.facts.ensures.rising old new same c.args.child.now c.args.node m none e) c.insert_run.ensures.enters
 
 pub returns-in-None-clause-err : goal.returns-in-None-clause-err
@@ -111,8 +111,8 @@ returns-in-Some-clause-told g c =
     let cut = subst (λ (rs : List Stretch). MayBeCut (runs ps) rs c.args.node) (sym c.make_room_at.ensures.runs) c.cut.ensures.cut in
     let s = subst (λ (o : Option Spot). IfSome o (λ s. Stands qs s.label s.offset c.args.node)) c.in-Some.is c.in_ok-room.ensures.spot in
     let spot = c.in-Some.spot in
-    on_ok_then c.prepend.result ((among : Node → Bool) → among (Event c.args.child.now.lv) ≡ true → loose_in among (runs c.prepend.new.self.tree.pairs) ≤ loose_parted among (runs qs) (length (lower qs spot.label)))
-    ((among : Node → Bool) → among (Event c.args.child.now.lv) ≡ true → loose_in among (runs c.prepend.new.self.tree.pairs) ≤ loose_in among (runs ps))
+    on_ok_then c.prepend.result ((among : Node → Bool) → among (Event c.args.child.now.position) ≡ true → loose_in among (runs c.prepend.new.self.tree.pairs) ≤ loose_parted among (runs qs) (length (lower qs spot.label)))
+    ((among : Node → Bool) → among (Event c.args.child.now.position) ≡ true → loose_in among (runs c.prepend.new.self.tree.pairs) ≤ loose_in among (runs ps))
     (λ h among e.
     let le = h among e in
     let told = ahead_told among qs c.make_room_at.new.self.labels c.make_room_at.ensures.laid c.facts.ensures.rising (runs ps) c.args.node spot.label spot.offset s cut in
@@ -136,8 +136,8 @@ returns-in-None-clause-told g c =
     let qs = c.make_room_at.new.self.tree.pairs in
     let cut = subst (λ (rs : List Stretch). MayBeCut (runs ps) rs c.args.node) (sym c.make_room_at.ensures.runs) c.cut.ensures.cut in
     let none = subst (λ (o : Option Spot). IfNone o ((label n : ℕ) → Stands qs label n c.args.node → ⊥)) c.in-None.is c.in_ok-room.ensures.none in
-    on_ok_then c.insert_run.result ((among : Node → Bool) → among (Event c.args.child.now.lv) ≡ true → loose_in among (runs c.insert_run.new.self.tree.pairs) ≤ loose_parted among (runs qs) (length (up_to qs 0)))
-    ((among : Node → Bool) → among (Event c.args.child.now.lv) ≡ true → loose_in among (runs c.insert_run.new.self.tree.pairs) ≤ loose_in among (runs ps))
+    on_ok_then c.insert_run.result ((among : Node → Bool) → among (Event c.args.child.now.position) ≡ true → loose_in among (runs c.insert_run.new.self.tree.pairs) ≤ loose_parted among (runs qs) (length (up_to qs 0)))
+    ((among : Node → Bool) → among (Event c.args.child.now.position) ≡ true → loose_in among (runs c.insert_run.new.self.tree.pairs) ≤ loose_in among (runs ps))
     (λ h among e.
     let le = h among e in
     let told = first_ahead_told among qs c.make_room_at.new.self.labels c.make_room_at.ensures.laid c.facts.ensures.rising (runs ps) c.args.node none cut in

@@ -24,7 +24,7 @@ returns-in-Some-clause-comes g c =
     let ends = last_ends ps c.args.self.now.labels c.requires.laid rising node label offset c.in-Some.found.run s c.in-Some.ensures.held (omega (arith, last)) in
     let old = chars_in ps in
     let new = chars_in c.lengthen.new.self.tree.pairs in
-    if_ok_then c.lengthen.result (EntersAt old new c.args.child.now (length (chars_in (up_to ps label)))) (Comes old new (After node) c.args.child.now.lv)
+    if_ok_then c.lengthen.result (EntersAt old new c.args.child.now (length (chars_in (up_to ps label)))) (Comes old new (After node) c.args.child.now.position)
     (λ m e. comes_behind ps rising old new refl c.args.child.now node m label offset s ends e) c.lengthen.ensures.enters
 
 pub returns-in-Some-clause-told : goal.returns-in-Some-clause-told
@@ -33,8 +33,8 @@ returns-in-Some-clause-told g c =
     let label = c.in-Some.found.spot.label in
     let offset = c.in-Some.found.spot.offset in
     let new = runs c.lengthen.new.self.tree.pairs in
-    on_ok_then c.lengthen.result ((among : Node → Bool) → among (Event c.args.child.now.lv) ≡ true → loose_in among new ≤ loose_parted among (runs ps) (length (up_to ps label)))
-    ((among : Node → Bool) → among (Event c.args.child.now.lv) ≡ true → loose_in among new ≤ loose_in among (runs ps))
+    on_ok_then c.lengthen.result ((among : Node → Bool) → among (Event c.args.child.now.position) ≡ true → loose_in among new ≤ loose_parted among (runs ps) (length (up_to ps label)))
+    ((among : Node → Bool) → among (Event c.args.child.now.position) ≡ true → loose_in among new ≤ loose_in among (runs ps))
     (λ h among e.
     let le = h among e in
     let told = behind_told among ps c.args.self.now.labels c.requires.laid c.facts.ensures.rising (runs ps) c.args.node label offset c.in-Some.ensures.some (inl refl) in

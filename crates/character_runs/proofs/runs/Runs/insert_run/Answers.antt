@@ -16,8 +16,8 @@ use Rattle.character_runs.proofs.runs.Runs.insert_run.Goals as goal
 
 pub enlist-requires-clause-bare : goal.enlist-requires-clause-bare
 enlist-requires-clause-bare g c =
-    label_not c.open_run.new.self.tree.pairs c.open_run.new.self.labels (Event c.args.child.now.lv) c.open_run.ensures.laid
-    (ap (list_any (is_of (Event c.args.child.now.lv))) c.open_run.ensures.chars ∙ c.requires.new.unrecorded)
+    label_not c.open_run.new.self.tree.pairs c.open_run.new.self.labels (Event c.args.child.now.position) c.open_run.ensures.laid
+    (ap (list_any (is_of (Event c.args.child.now.position))) c.open_run.ensures.chars ∙ c.requires.new.unrecorded)
 
 pub returns-in_err-enlist-clause-laid : goal.returns-in_err-enlist-clause-laid
 returns-in_err-enlist-clause-laid g c =
@@ -43,7 +43,7 @@ pub fill-requires-clause-new : goal.fill-requires-clause-new
 fill-requires-clause-new g c =
     stands_not c.open_run.new.self.tree.pairs c.run.result.from
     (ap (λ (r : Stretch). list_any (is_of r.from) (chars_in c.open_run.new.self.tree.pairs)) c.run.ensures
-    ∙ ap (list_any (is_of (Event c.args.child.now.lv))) c.open_run.ensures.chars ∙ c.requires.new.unrecorded)
+    ∙ ap (list_any (is_of (Event c.args.child.now.position))) c.open_run.ensures.chars ∙ c.requires.new.unrecorded)
 
 pub returns-clause-enters : goal.returns-clause-enters
 returns-clause-enters g c =

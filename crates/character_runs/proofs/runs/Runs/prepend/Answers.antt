@@ -18,8 +18,8 @@ use Rattle.character_runs.proofs.runs.Runs.prepend.Goals as goal
 
 pub enlist-requires-clause-bare : goal.enlist-requires-clause-bare
 enlist-requires-clause-bare g c =
-    label_not c.open_run.new.self.tree.pairs c.open_run.new.self.labels (Event c.args.child.now.lv) c.open_run.ensures.laid
-    (ap (list_any (is_of (Event c.args.child.now.lv))) c.open_run.ensures.chars ∙ c.requires.new.unrecorded)
+    label_not c.open_run.new.self.tree.pairs c.open_run.new.self.labels (Event c.args.child.now.position) c.open_run.ensures.laid
+    (ap (list_any (is_of (Event c.args.child.now.position))) c.open_run.ensures.chars ∙ c.requires.new.unrecorded)
 
 pub returns-in_err-enlist-clause-laid : goal.returns-in_err-enlist-clause-laid
 returns-in_err-enlist-clause-laid g c =
@@ -42,7 +42,7 @@ pub give_way-requires-clause-one : goal.give_way-requires-clause-one
 give_way-requires-clause-one g c = ap (λ (r : Stretch). r.len) c.run.ensures
 
 pub give_way-requires-clause-some : goal.give_way-requires-clause-some
-give_way-requires-clause-some g c e = no_root c.args.child.now.lv (ap (λ (r : Stretch). r.from) (sym c.run.ensures) ∙ e)
+give_way-requires-clause-some g c e = no_root c.args.child.now.position (ap (λ (r : Stretch). r.from) (sym c.run.ensures) ∙ e)
   where
     no_root : (n : ℕ) → Event n ≡ Root → ⊥
     no_root n e = cc
@@ -51,7 +51,7 @@ pub give_way-requires-clause-new : goal.give_way-requires-clause-new
 give_way-requires-clause-new g c =
     stands_not c.open_run.new.self.tree.pairs c.run.result.from
     (ap (λ (r : Stretch). list_any (is_of r.from) (chars_in c.open_run.new.self.tree.pairs)) c.run.ensures
-    ∙ ap (list_any (is_of (Event c.args.child.now.lv))) c.open_run.ensures.chars ∙ c.requires.new.unrecorded)
+    ∙ ap (list_any (is_of (Event c.args.child.now.position))) c.open_run.ensures.chars ∙ c.requires.new.unrecorded)
 
 pub give_way-requires-clause-few : goal.give_way-requires-clause-few
 give_way-requires-clause-few g c = let same = ap (λ (rs : List Stretch). length rs) c.open_run.ensures.chars in omega (arith, same, c.requires.new.room)

@@ -10,7 +10,7 @@ use Rattle.net_core.specs.Handing.{IsNotHanded}
 use Rattle.net_core.specs.Keeping.{IsPacket, IsReached}
 use Rattle.peer_definitions.specs.Machine.{Network, Packet}
 use Rattle.net_core.proofs.DeliverResults.{handed_at, may_receive, nobody_there, none_told, not_handed, part_left, part_reached, replies_sound, some_told, told_left, whole_left, whole_reached}
-use Rattle.net_core.proofs.Receiving.{none_left}
+use Rattle.ew_model.proofs.ListParts.{none_left}
 use Rattle.net_core.proofs.Writes.{no_peer_told, read, with_written}
 use Rattle.net_core.proofs.net.Net.deliver.Goals as goal
 

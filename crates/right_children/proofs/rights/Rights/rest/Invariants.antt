@@ -3,8 +3,8 @@ use Rattle.right_children.proofs.RestingRights.{AreReset}
 use Rattle.right_children.proofs.rights.Rights.rest.Given as goal
 
 -- the parents of the events below the position are seen to
-abbrev pub invariant-loop-lv : goal.invariant-loop-lv
-invariant-loop-lv l = record {
+abbrev pub invariant-loop-position : goal.invariant-loop-position
+invariant-loop-position l = record {
   whole : IsWhole l.self;
-  reset : AreReset (counted l.fn.self) (counted l.self) l.fn.from l.lv;
+  reset : AreReset (counted l.fn.self) (counted l.self) l.fn.from l.position;
 }

@@ -6,9 +6,9 @@ use Rattle.right_children.proofs.RightSpans.{so_far}
 use Rattle.right_children.proofs.rights.Rights.shift_each.Given as goal
 
 -- the counts are right where the events below the position are seen to
-abbrev pub invariant-loop-lv : goal.invariant-loop-lv
-invariant-loop-lv l = record {
+abbrev pub invariant-loop-position : goal.invariant-loop-position
+invariant-loop-position l = record {
   whole : IsWhole l.self;
   rights : (old new : Node → Bool) (attached : List Attached) → AreRights old attached (counted l.fn.self) → ShiftEach old new attached l.fn.from l.fn.to l.fn.was l.fn.is
-      → AreRights (so_far old new l.fn.from l.lv) attached (counted l.self);
+      → AreRights (so_far old new l.fn.from l.position) attached (counted l.self);
 }

@@ -16,41 +16,41 @@ same_rows r new same = record {
   kept = λ n some. subst (λ (o : Option Row). IsSome o) (sym (same n)) some;
 }
 
-module _ (r new : Rows) (lv : ℕ) (next : lv ≡ r.first + length r.line.items) (row : Row) where
+module _ (r new : Rows) (position : ℕ) (next : position ≡ r.first + length r.line.items) (row : Row) where
   -- the position's row was kept elsewhere, if at all
-  row_before : row_at r lv ≡ unwrap_or (get nat_cmp r.others lv) empty
+  row_before : row_at r position ≡ unwrap_or (get nat_cmp r.others position) empty
   row_before =
-      ap (λ (o : Option Row). unwrap_or (option_or o (get nat_cmp r.others lv)) empty)
-      (ap (λ (b : Bool). if b then None else slice_get r.line.items (lv - r.first)) (le-ltb lv r.first (omega (arith, next)))
-      ∙ slice_get_past r.line.items (lv - r.first) (omega (arith, next)))
+      ap (λ (o : Option Row). unwrap_or (option_or o (get nat_cmp r.others position)) empty)
+      (ap (λ (b : Bool). if b then None else slice_get r.line.items (position - r.first)) (le-ltb position r.first (omega (arith, next)))
+      ∙ slice_get_past r.line.items (position - r.first) (omega (arith, next)))
 
-  module _ (put : (n : ℕ) → kept_at new n ≡ (if nat_eq lv n then Some row else kept_at r n)) where
+  module _ (put : (n : ℕ) → kept_at new n ≡ (if nat_eq position n then Some row else kept_at r n)) where
     still_kept : (n : ℕ) → IsSome (kept_at r n) → IsSome (kept_at new n)
-    still_kept n some = subst (λ (o : Option Row). IsSome o) (sym (put n)) (at (nat_eq lv n))
+    still_kept n some = subst (λ (o : Option Row). IsSome o) (sym (put n)) (at (nat_eq position n))
       where
         at : (b : Bool) → IsSome (cond b (Some row) (kept_at r n))
         at true = refl
         at false = some
 
-    row_after : (n : ℕ) → row_at new n ≡ (if nat_eq lv n then row else row_at r n)
-    row_after n = ap (λ (o : Option Row). unwrap_or o empty) (put n) ∙ at (nat_eq lv n)
+    row_after : (n : ℕ) → row_at new n ≡ (if nat_eq position n then row else row_at r n)
+    row_after n = ap (λ (o : Option Row). unwrap_or o empty) (put n) ∙ at (nat_eq position n)
       where
         at : (b : Bool) → unwrap_or (cond b (Some row) (kept_at r n)) empty ≡ cond b row (row_at r n)
         at true = refl
         at false = refl
 
     -- nothing is told anew where it is the row from before
-    put_same : row ≡ unwrap_or (get nat_cmp r.others lv) empty → KeepsRows r new
-    put_same is = record { same = λ n. row_after n ∙ at n (nat_eq lv n) refl; kept = still_kept }
+    put_same : row ≡ unwrap_or (get nat_cmp r.others position) empty → KeepsRows r new
+    put_same is = record { same = λ n. row_after n ∙ at n (nat_eq position n) refl; kept = still_kept }
       where
-        at : (n : ℕ) (b : Bool) → nat_eq lv n ≡ b → cond b row (row_at r n) ≡ row_at r n
-        at n true e = is ∙ sym row_before ∙ ap (row_at r) (eqb-true lv n e)
+        at : (n : ℕ) (b : Bool) → nat_eq position n ≡ b → cond b row (row_at r n) ≡ row_at r n
+        at n true e = is ∙ sym row_before ∙ ap (row_at r) (eqb-true position n e)
         at n false e = refl
 
-  pushed : {X E : Type 0} (result : Result X E) → OnOk result ((n : ℕ) → kept_at new n ≡ (if nat_eq lv n then Some row else kept_at r n)) → OnErr result ((n : ℕ) → kept_at new n ≡ kept_at r n)
-      → row ≡ unwrap_or (get nat_cmp r.others lv) empty → KeepsRows r new
+  pushed : {X E : Type 0} (result : Result X E) → OnOk result ((n : ℕ) → kept_at new n ≡ (if nat_eq position n then Some row else kept_at r n)) → OnErr result ((n : ℕ) → kept_at new n ≡ kept_at r n)
+      → row ≡ unwrap_or (get nat_cmp r.others position) empty → KeepsRows r new
   pushed (Ok x) ok err is = put_same ok is
   pushed (Err x) ok err is = same_rows r new err
 
 pub returns-clause-rows : goal.returns-clause-rows
-returns-clause-rows c = pushed c.args.self.now c.push_row.new.self c.args.lv c.requires c.elsewhere-row.result c.push_row.result c.push_row.ensures.ok c.push_row.ensures.err c.elsewhere-row.ensures
+returns-clause-rows c = pushed c.args.self.now c.push_row.new.self c.args.position c.requires c.elsewhere-row.result c.push_row.result c.push_row.ensures.ok c.push_row.ensures.err c.elsewhere-row.ensures
