@@ -12,22 +12,7 @@ use Rattle.ew_model.specs.Bytes.{four_bytes, name_bytes, op_bytes}
 use Rattle.ew_model.specs.declared.limits.TheConstants.{COUNT_BYTES, MOST_EVENT_BYTES, MOST_PARENTS}
 use Rattle.ew_model.specs.Sound.{IsSoundId, IsSoundOp, IsSound, AreSound}
 use Rattle.peer_definitions.specs.Spelling.{id_bytes, event_bytes, events_body}
-use Rattle.peer_frames.proofs.ShortNames.{name_short}
-
-four_long : (n : ℕ) → length (four_bytes n) ≡ 4
-four_long n = refl
-
-id_short : (x : Id) → IsSoundId x → length (id_bytes x) ≤ 37
-id_short x h = let name = name_short x.agent h.agent in let whole = length-append (name_bytes x.agent) (four_bytes x.seq) in omega (arith, name, whole, four_long x.seq)
-
-ids_short : (ids : List Id) → AllByRecursion IsSoundId ids → length (flat_map id_bytes ids) ≤ 37 * length ids
-ids_short [] h = omega arith
-ids_short (x ∷ ids) h = let one = id_short x h.0 in let rest = ids_short ids h.1 in let both = length-append (id_bytes x) (flat_map id_bytes ids) in omega (arith, one, rest, both)
-
-op_short : (o : Op) → IsSoundOp o → length (op_bytes o) ≤ 34
-op_short (Ins at ch) h = let both = length-append (four_bytes at) (four_bytes ch) in omega (arith, both, four_long at, four_long ch)
-op_short (Del at) h = omega (arith, four_long at)
-op_short (Mark label) h = omega (arith, name_short label h)
+use Rattle.peer_frames.proofs.ShortNames.{four_long, id_short, ids_short, op_short}
 
 event_short : (e : Event) → IsSound e → length e.parents ≤ MOST_PARENTS → length (event_bytes e) ≤ MOST_EVENT_BYTES
 event_short e h few =

@@ -4,23 +4,17 @@ use Rattle.std.proofs.lemmas.List.{length-append, length-drop, drop-drop, take_a
 use Rattle.ew_model.specs.declared.event.Event.{Event}
 use Rattle.ew_model.specs.Limits.{LimitNumbers}
 use Rattle.ew_model.specs.Bytes.{four_bytes}
+use Rattle.ew_model.proofs.BaseLaws.{joined_all}
 use Rattle.peer_definitions.specs.Spelling.{event_bytes, events_body}
 use Rattle.peer_definitions.specs.Batches.{batch_bytes, journal_bytes, journal_events, BeginWith}
-use Rattle.peer_frames.proofs.Written.{all_pushed}
 use Rattle.peer_definitions.specs.Batches as words
+use Rattle.peer_frames.proofs.ShortNames.{events_long}
 use Rattle.event_journal.specs.Journal.{HoldsTooMany}
 use Rattle.event_journal.specs.Reading.{IsFirst, IsRead}
 use Rattle.event_journal.proofs.Torn.{bytes_pushed, events_pushed, batch_long}
 
-many : (events : List Event) → length events ≤ length (flat_map event_bytes events)
-many [] = omega arith
-many (e ∷ events) = omega (arith, many events, length-append (event_bytes e) (flat_map event_bytes events), some e)
-  where
-    some : (e : Event) → 0 < length (event_bytes e)
-    some e = omega arith
-
 many_events : (events : List Event) → length events ≤ length (events_body events)
-many_events events = omega (arith, many events, length-append (four_bytes (length events)) (flat_map event_bytes events))
+many_events events = omega (arith, events_long events, length-append (four_bytes (length events)) (flat_map event_bytes events))
 
 module _ (limits : LimitNumbers) (bytes : List ℕ) (events : List Event) (place : ℕ) (read : IsRead limits bytes events place) (batch : List Event) (len : ℕ) (first : IsFirst limits.body (drop place bytes) batch len) where
   onward : drop len (drop place bytes) ≡ drop (place + len) bytes
@@ -28,7 +22,7 @@ module _ (limits : LimitNumbers) (bytes : List ℕ) (events : List Event) (place
 
   pub begins_both : BeginWith limits.body bytes (read.batches ++ batch ∷ []) (drop (place + len) bytes)
   begins_both = record {
-    each = all_pushed (words.IsBatch limits.body) read.batches batch read.begins.each first.begins.each.0;
+    each = joined_all (words.IsBatch limits.body) read.batches batch read.begins.each first.begins.each.0;
     parts = read.begins.parts
         ∙ ap (λ (l : List ℕ). journal_bytes read.batches ++ l) (first.begins.parts ∙ ap (λ (l : List ℕ). l ++ drop len (drop place bytes)) (append-nil (batch_bytes batch)))
         ∙ sym (append_assoc (journal_bytes read.batches) (batch_bytes batch) (drop len (drop place bytes)))
@@ -65,14 +59,6 @@ module _ (limits : LimitNumbers) (bytes : List ℕ) (events : List Event) (place
   -- no more events than bytes
   pub few_in : length batch ≤ len
   few_in = omega (arith, first.size, batch_long batch, many_events batch)
-
--- one element more is moved from the back list to the front one
-pub one_moved : {A : Type 0} (old rest more all : List A) (x : A) → rest ≡ x ∷ more → old ++ rest ≡ all → (old ++ x ∷ []) ++ more ≡ all
-one_moved old rest more all x is h = append_assoc old (x ∷ []) more ∙ ap (λ l. old ++ l) (sym is) ∙ h
-
-pub none_left : {A : Type 0} (xs : List A) → length xs ≡ 0 → xs ≡ []
-none_left [] none = refl
-none_left (x ∷ xs) none = absurd (omega (arith, none))
 
 -- as the code sees it: the slice from a place on, and the limit in a variable of its own
 pub sliced_first : (most limit : ℕ) (bytes : List ℕ) (place : ℕ) (batch : List Event) (len : ℕ) → limit ≡ most

@@ -4,9 +4,9 @@ use Rattle.std.specs.List.{AllByRecursion}
 use Rattle.std.proofs.lemmas.List.{take_at, drop_at, drop_more, length-append}
 use Rattle.ew_model.specs.declared.event.Event.{Event}
 use Rattle.ew_model.specs.Bytes.{four_bytes}
+use Rattle.ew_model.proofs.BaseLaws.{joined_all}
 use Rattle.peer_definitions.specs.Spelling.{events_body}
 use Rattle.peer_definitions.specs.Batches.{IsBatch, batch_bytes, journal_bytes, journal_events}
-use Rattle.peer_frames.proofs.Written.{all_pushed}
 use Rattle.event_journal.specs.Disk.{written, IsTorn}
 use Rattle.event_journal.specs.Journal.{RestsAt, Holds, HoldsOneMoreAtMost, HoldSame}
 use Rattle.event_journal.specs.Writing.{staged, IsTornTwice}
@@ -96,7 +96,7 @@ module _ (most : ℕ) (bytes : List ℕ) (batches : List (List Event)) (gate : �
     more = drop (gate + 1 + length piece) bytes
 
     pub each_one : AllByRecursion (IsBatch most) (batches ++ batch ∷ [])
-    each_one = all_pushed (IsBatch most) batches batch rests.begins.each is_batch
+    each_one = joined_all (IsBatch most) batches batch rests.begins.each is_batch
 
     -- with the gate open the batch stands there whole, and a closed gate behind it
     opened_is : (rest : List ℕ) → journal_bytes batches ++ 1 ∷ (piece ++ rest) ≡ journal_bytes (batches ++ batch ∷ []) ++ 0 ∷ rest

@@ -12,7 +12,7 @@ pub trait Disk {
     ghost seen: { Self → DiskSeen };
 
     /// What a crash at this moment may leave. The calls' clauses bound it from above alone: a disk of which a crash leaves less meets them
-    /// too. `reads_one` says that what is read is among it.
+    /// too. `reads_one` says that what is read is among it. What else is, each disk says for itself, as `MayLeave` does of a `MemDisk`.
     ghost may_leave: { Self → List ℕ → Type 0 };
 
     /// The moment, as a number that never falls.

@@ -2,8 +2,9 @@
 
 ghost use Rattle.std.specs.Prelude.{◌≡◌};
 
+use ew_model::NoMem;
 use ew_outside::Failed;
-use std::alloc::{AllocError, AllocFailed};
+use std::alloc::AllocFailed;
 use thiserror::Error;
 
 /// Why a journal isn't opened.
@@ -32,12 +33,12 @@ impl From<Failed> for OpenFault {
     }
 }
 
-impl From<AllocError> for OpenFault {
+impl From<NoMem> for OpenFault {
     ghost use Rattle.event_journal.specs.declared.fault.OpenFault.{OpenFault};
 
     ghost from_gives = { λ _ fault. fault ≡ OpenFault.OutOfMemory };
 
-    fn from(_: AllocError) -> OpenFault {
+    fn from(_: NoMem) -> OpenFault {
         OpenFault::OutOfMemory
     }
 }
@@ -65,12 +66,12 @@ pub enum AppendFault {
     OutOfMemory,
 }
 
-impl From<AllocError> for AppendFault {
+impl From<NoMem> for AppendFault {
     ghost use Rattle.event_journal.specs.declared.fault.AppendFault.{AppendFault};
 
     ghost from_gives = { λ _ fault. fault ≡ AppendFault.OutOfMemory };
 
-    fn from(_: AllocError) -> AppendFault {
+    fn from(_: NoMem) -> AppendFault {
         AppendFault::OutOfMemory
     }
 }

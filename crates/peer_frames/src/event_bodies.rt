@@ -14,7 +14,7 @@ use crate::reading::read_events;
 use crate::writing::put_events;
 use ew_model::NoMem;
 use ew_model::event::Event;
-use std::alloc::{AllocError, Global};
+use std::alloc::Global;
 
 /// The body of an Events frame of these events. Each has at most 255 parents, and the body has fewer than 2^32 bytes.
 pub fn encode_events(alloc: Global, events: &[Event]) -> Result<Vec<u8>, NoMem>
@@ -36,7 +36,7 @@ pub fn decode_events(alloc: Global, bytes: &[u8]) -> Result<Option<Vec<Event>>, 
     match read_all(alloc, bytes) {
         Ok(events) => Ok(Some(events)),
         Err(FrameFault::BadBody) => Ok(None),
-        Err(_) => Err(AllocError),
+        Err(_) => Err(NoMem),
     }
 }
 

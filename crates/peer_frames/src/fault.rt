@@ -1,6 +1,7 @@
 //! Why bytes begin with no frame.
 
-use std::alloc::{AllocError, AllocFailed};
+use ew_model::NoMem;
+use std::alloc::AllocFailed;
 use thiserror::Error;
 
 /// Why bytes begin with no frame.
@@ -19,13 +20,13 @@ pub enum FrameFault {
     OutOfMemory,
 }
 
-impl From<AllocError> for FrameFault {
+impl From<NoMem> for FrameFault {
     ghost use Rattle.std.specs.Prelude.{◌≡◌};
     ghost use Rattle.peer_frames.specs.declared.fault.FrameFault.TheVariants.{OutOfMemory};
 
     ghost from_gives = { λ _ fault. fault ≡ OutOfMemory };
 
-    fn from(_: AllocError) -> FrameFault {
+    fn from(_: NoMem) -> FrameFault {
         FrameFault::OutOfMemory
     }
 }

@@ -162,7 +162,7 @@ fn read_event(alloc: Global, input: &mut Input) -> Result<Event, FrameFault>
 fn read_ids(alloc: Global, count: u8, input: &mut Input) -> Result<Vec<Id>, FrameFault>
     ensures { Gives (λ ids. (ids.items, input.new.left.now)) result (read_ids [] count input.old.left.now) }
 {
-    let mut ids = Vec::new(alloc);
+    let mut ids = Vec::with_capacity(alloc, usize::from(count))?;
     for _ in 0..count {
         let id = input.id()?;
         ids.push(id)?;

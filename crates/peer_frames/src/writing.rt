@@ -81,7 +81,7 @@ fn put_count(out: &mut Vec<u8>, count: &(Name, u32)) -> Result<(), NoMem>
 }
 
 /// The body of a frame of events.
-#[tactic(auto, using(crate::proofs::Written::all_pushed))]
+#[tactic(auto, using(ew_model::proofs::BaseLaws::joined_all))]
 pub(crate) fn put_events(out: &mut Vec<u8>, events: &[Event]) -> Result<(), NoMem>
     requires few { length events.now < 2 ^ 32 }
     requires parents { AllByRecursion (λ e. length e.parents ≤ 255) events.now }
@@ -105,7 +105,7 @@ fn put_event(out: &mut Vec<u8>, event: &Event) -> Result<(), NoMem>
     put_operation(out, &event.op)
 }
 
-#[tactic(auto, using(crate::proofs::Written::all_pushed))]
+#[tactic(auto, using(ew_model::proofs::BaseLaws::joined_all))]
 fn put_ids(out: &mut Vec<u8>, ids: &[Id]) -> Result<(), NoMem>
     requires { length ids.now ≤ 255 }
     ensures bytes { OnOk result (out.new.items ≡ out.old.items ++ (length ids.now ∷ flat_map id_bytes ids.now)) }

@@ -1,6 +1,6 @@
 use Rattle.std.proofs.Common.{◌++◌, length, sym, ap, ◌∙◌, append-nil, arith}
 use Rattle.std.specs.Vec.Iter.{into_iter_items}
-use Rattle.event_journal.proofs.ReadBatches.{one_moved, none_left}
+use Rattle.ew_model.proofs.ListParts.{none_left, one_moved}
 use Rattle.event_journal.proofs.reading.push_all.Goals as goal
 
 pub loop-event-preserved : goal.loop-event-preserved

@@ -6,7 +6,7 @@ use Rattle.peer_frames.proofs.reading.read_ids.Goals as goal
 
 pub returns-in_err-id : goal.returns-in_err-id
 returns-in_err-id c =
-    let p = err_from_is_err_and c.from_residual.result c.from_residual.ensures.1 in
+    let p = err_from_is_err_and c.from_residual-in_err-id.result c.from_residual-in_err-id.ensures.1 in
     rw (p.1, p.2) (ends read_ids next_id ids_step ids_last c.in_err-id.field-0.0 c.loop.ids.items c.args.count c.loop.counter c.loop.input.left.now (read_ids [] c.args.count c.args.input.now.left.now) c.loop-test.true c.in_err-id.ensures c.loop.invariant)
 
 pub loop-preserved : goal.loop-preserved
