@@ -11,6 +11,7 @@ pub mod Fronts
 pub mod Giving
 pub mod GoingOn
 pub mod HeadLaws
+pub mod Joined
 pub mod Judged
 pub mod Knowing
 pub mod LengthLaws

@@ -20,13 +20,10 @@ use Rattle.replica.specs.Fronts.{IsFront}
 use Rattle.replica.specs.Keeping.{IsUpToDate}
 use Rattle.replica.specs.Lengths.{lengths_through, prefix_lengths}
 use Rattle.replica.proofs.Appends.{stay_short}
+use Rattle.replica.proofs.Joined.{changed_joined}
 use Rattle.replica.proofs.LengthLaws.{good_lengths, operations_front}
 
 -- operations one behind the other
-changed_joined : (xs ys : List TextOp) (text : List ℕ) → changed_by_all (xs ++ ys) text ≡ changed_by_all ys (changed_by_all xs text)
-changed_joined [] ys text = refl
-changed_joined (x ∷ xs) ys text = changed_joined xs ys (changed_by x text)
-
 fit_behind : (xs ys : List TextOp) (text : List ℕ) → AllFit text (xs ++ ys) → AllFit (changed_by_all xs text) ys
 fit_behind [] ys text h = h
 fit_behind (x ∷ xs) ys text h = fit_behind xs ys (changed_by x text) h.1

@@ -6,6 +6,7 @@ pub mod Editing
 pub mod Fronts
 pub mod Giving
 pub mod Keeping
+pub mod LazyTexts
 pub mod Lengths
 pub mod Marking
 pub mod Offering

@@ -9,18 +9,18 @@ ghost use Rattle.rope.specs.Lengths.{AllStayShort};
 ghost use Rattle.replica.specs.Fronts.{IsFront};
 ghost use Rattle.replica.specs.Lengths.{lengths_through};
 
+use crate::lazy_text::LazyText;
 use crate::lengths::write;
 use event_graph::Graph;
 use ew_model::NoMem;
 use ew_model::event::Event;
 use ew_model::text_op::TextOp;
-use rope::Rope;
 
 /// Puts events behind the others, which know all of these, changes the text, and puts how long it is after each behind the other
 /// lengths: all of it or nothing.
 pub fn extend(
     graph: &mut Graph,
-    text: &mut Rope,
+    text: &mut LazyText,
     lengths: &mut Vec<u32>,
     made: &[Event],
     changes: &[TextOp],
@@ -28,11 +28,11 @@ pub fn extend(
     requires admitted { AreAdmittedAfter graph.old made.now }
     requires room { length graph.old + length made.now < 2 ^ 32 }
     requires cut { is_critical (graph.old ++ made.now) (length graph.old) ≡ true }
-    requires fit { AllFit text.old.chars changes.now }
-    requires short { AllStayShort text.old.chars changes.now }
+    requires fit { AllFit text.old changes.now }
+    requires short { AllStayShort text.old changes.now }
     ensures graph { OnOk result (graph.new ≡ graph.old ++ made.now) }
-    ensures text { OnOk result (text.new.chars ≡ changed_by_all changes.now text.old.chars) }
-    ensures lengths { OnOk result (lengths.new.items ≡ lengths.old.items ++ lengths_through text.old.chars changes.now) }
+    ensures text { OnOk result (text.new ≡ changed_by_all changes.now text.old) }
+    ensures lengths { OnOk result (lengths.new.items ≡ lengths.old.items ++ lengths_through text.old changes.now) }
     ensures same_graph { OnErr result (graph.new ≡ graph.old) }
     ensures same_text { OnErr result (text.new ≡ text.old) }
     ensures same_lengths { OnErr result (lengths.new.items ≡ lengths.old.items) }
@@ -50,7 +50,7 @@ pub fn extend(
 /// The same, but that some of the events and of the lengths may be there where memory is wanting.
 fn grow(
     graph: &mut Graph,
-    text: &mut Rope,
+    text: &mut LazyText,
     lengths: &mut Vec<u32>,
     made: &[Event],
     changes: &[TextOp],
@@ -58,11 +58,11 @@ fn grow(
     requires admitted { AreAdmittedAfter graph.old made.now }
     requires room { length graph.old + length made.now < 2 ^ 32 }
     requires cut { is_critical (graph.old ++ made.now) (length graph.old) ≡ true }
-    requires fit { AllFit text.old.chars changes.now }
-    requires short { AllStayShort text.old.chars changes.now }
+    requires fit { AllFit text.old changes.now }
+    requires short { AllStayShort text.old changes.now }
     ensures graph { OnOk result (graph.new ≡ graph.old ++ made.now) }
-    ensures text { OnOk result (text.new.chars ≡ changed_by_all changes.now text.old.chars) }
-    ensures lengths { OnOk result (lengths.new.items ≡ lengths.old.items ++ lengths_through text.old.chars changes.now) }
+    ensures text { OnOk result (text.new ≡ changed_by_all changes.now text.old) }
+    ensures lengths { OnOk result (lengths.new.items ≡ lengths.old.items ++ lengths_through text.old changes.now) }
     ensures front { OnErr result (IsFront graph.old graph.new) }
     ensures still_cut { OnErr result (is_critical graph.new (length graph.old) ≡ true) }
     ensures same_text { OnErr result (text.new ≡ text.old) }

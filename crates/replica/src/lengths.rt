@@ -8,44 +8,45 @@ ghost use Rattle.ew_model.specs.Texts.{text_of};
 ghost use Rattle.rope.specs.Lengths.{AllStayShort};
 ghost use Rattle.replica.specs.Lengths.{lengths_through, prefix_lengths};
 
+use crate::lazy_text::LazyText;
 use ew_model::NoMem;
 use ew_model::text_op::TextOp;
-use rope::Rope;
 use std::alloc::Global;
 
-/// The text that the operations make of the empty one, and how long it is after each.
-pub fn written(alloc: Global, ops: &[TextOp]) -> Result<(Rope, Vec<u32>), NoMem>
-    requires fit { AllFit [] ops.now }
-    requires short { AllStayShort [] ops.now }
-    ensures text { IfOk result (λ made. made.0.chars ≡ changed_by_all ops.now []) }
-    ensures lengths { IfOk result (λ made. made.1.items ≡ lengths_through [] ops.now) }
+/// The text that the operations make of the empty one, and how long it is after each. The text is made when it is asked for.
+pub fn written(alloc: Global, ops: Vec<TextOp>) -> Result<(LazyText, Vec<u32>), NoMem>
+    requires fit { AllFit [] ops.items }
+    requires short { AllStayShort [] ops.items }
+    ensures text { IfOk result (λ made. made.0 ≡ changed_by_all ops.items []) }
+    ensures lengths { IfOk result (λ made. made.1.items ≡ lengths_through [] ops.items) }
 {
-    let mut text = Rope::new(alloc)?;
+    let empty = LazyText::new(alloc)?;
     let mut lengths = Vec::new(alloc);
-    write(&mut text, &mut lengths, ops)?;
-    Ok((text, lengths))
+    let len = push_lengths(&mut lengths, &empty, &ops)?;
+    Ok((LazyText::told(ops, len), lengths))
 }
 
 /// Does the operations to the text, and puts how long it is after each behind the other lengths. Where memory is wanting,
 /// the text is as before, and some of the lengths may be there.
-pub fn write(text: &mut Rope, lengths: &mut Vec<u32>, ops: &[TextOp]) -> Result<(), NoMem>
-    requires fit { AllFit text.old.chars ops.now }
-    requires short { AllStayShort text.old.chars ops.now }
-    ensures text { OnOk result (text.new.chars ≡ changed_by_all ops.now text.old.chars) }
-    ensures lengths { OnOk result (lengths.new.items ≡ lengths.old.items ++ lengths_through text.old.chars ops.now) }
+pub fn write(text: &mut LazyText, lengths: &mut Vec<u32>, ops: &[TextOp]) -> Result<(), NoMem>
+    requires fit { AllFit text.old ops.now }
+    requires short { AllStayShort text.old ops.now }
+    ensures text { OnOk result (text.new ≡ changed_by_all ops.now text.old) }
+    ensures lengths { OnOk result (lengths.new.items ≡ lengths.old.items ++ lengths_through text.old ops.now) }
     ensures same_text { OnErr result (text.new ≡ text.old) }
     ensures front { OnErr result (take (length lengths.old.items) lengths.new.items ≡ lengths.old.items) }
 {
-    push_lengths(lengths, text, ops)?;
-    text.apply(ops)
+    let len = push_lengths(lengths, text, ops)?;
+    text.apply(ops, len)
 }
 
-/// Puts how long the text would be after each of the operations behind the other lengths. Where memory is wanting, some of
-/// them may be there.
-fn push_lengths(lengths: &mut Vec<u32>, text: &Rope, ops: &[TextOp]) -> Result<(), NoMem>
-    requires fit { AllFit text.now.chars ops.now }
-    requires short { AllStayShort text.now.chars ops.now }
-    ensures ok { OnOk result (lengths.new.items ≡ lengths.old.items ++ lengths_through text.now.chars ops.now) }
+/// Puts how long the text would be after each of the operations behind the other lengths, and answers how long it would be after all.
+/// Where memory is wanting, some of the lengths may be there.
+fn push_lengths(lengths: &mut Vec<u32>, text: &LazyText, ops: &[TextOp]) -> Result<u32, NoMem>
+    requires fit { AllFit text.now ops.now }
+    requires short { AllStayShort text.now ops.now }
+    ensures ok { OnOk result (lengths.new.items ≡ lengths.old.items ++ lengths_through text.now ops.now) }
+    ensures long { IfOk result (λ len. len ≡ length (changed_by_all ops.now text.now)) }
     ensures front { OnErr result (take (length lengths.old.items) lengths.new.items ≡ lengths.old.items) }
 {
     let mut len = text.len();
@@ -53,7 +54,7 @@ fn push_lengths(lengths: &mut Vec<u32>, text: &Rope, ops: &[TextOp]) -> Result<(
         len = length_after(len, op);
         lengths.push(len)?;
     }
-    Ok(())
+    Ok(len)
 }
 
 /// How long a text of `len` characters is after an operation.

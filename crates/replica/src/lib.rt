@@ -11,6 +11,7 @@ mod fault;
 mod heads;
 mod judging;
 pub mod laws;
+mod lazy_text;
 mod lengths;
 mod listed;
 mod load;

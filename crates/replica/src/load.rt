@@ -13,13 +13,13 @@ ghost use Rattle.replica.specs.Fronts.{IsAdmittedFront};
 ghost use Rattle.replica.specs.Lengths.{prefix_lengths};
 
 use crate::fault::LoadFault;
+use crate::lazy_text::LazyText;
 use crate::lengths::written;
 use event_graph::Graph;
 use ew_model::NoMem;
 use ew_model::steps::Steps;
 use ew_model::text_op::TextOp;
 use ew_model::verdict::Verdict;
-use rope::Rope;
 use std::alloc::Global;
 use std::sync::ledger::Ledger;
 use transform::{State, Walk, walk};
@@ -31,17 +31,17 @@ pub fn load<L: Ledger>(
     graph: &Graph,
     refused: Option<Verdict>,
     steps: &mut Steps<L>,
-) -> Result<(Rope, Vec<u32>), LoadFault>
+) -> Result<(LazyText, Vec<u32>), LoadFault>
     requires few { length graph.now ≤ 16777216 }
     ensures all { OnOk result (refused ≡ None) }
     ensures good { OnOk result (first_bad graph.now ≡ None) }
-    ensures text { IfOk result (λ made. made.0.chars ≡ text_of graph.now) }
+    ensures text { IfOk result (λ made. made.0 ≡ text_of graph.now) }
     ensures lengths { IfOk result (λ made. made.1.items ≡ prefix_lengths graph.now) }
     ensures bad { IfErr result (λ fault. (events : List Event) → IsAdmittedFront graph.now (option_map ruling_of refused) events → TellsBad events fault) }
     ensures touches { steps.new ≤ steps.old + touches graph.now 0 }
 {
     let ops = walk_good(alloc, graph, refused, 0, steps)?;
-    let made = written(alloc, &ops)?;
+    let made = written(alloc, ops)?;
     Ok(made)
 }
 

@@ -110,8 +110,8 @@ impl Loading {
         Ok(())
     }
 
-    /// The replica of all events given, or the first that isn't good behind those before it. The steps taken are at most the
-    /// touches of the events.
+    /// The replica of all events given, or the first that isn't good behind those before it. Its text isn't made before it is asked
+    /// for. The steps taken are at most the touches of the events.
     pub fn finish<L: Ledger>(self, steps: &mut Steps<L>) -> Result<Replica, LoadFault>
         ensures loads { (events : List Event) → WereGiven events self → Loads events self.limits result }
         ensures touches { (events : List Event) → WereGiven events self → steps.new ≤ steps.old + touches events 0 }

@@ -17,13 +17,13 @@ ghost use Rattle.waiting_pool.specs.Waiting.{events_of};
 
 use crate::desk::{Desk, Progress};
 use crate::judging::judge_all;
+use crate::lazy_text::LazyText;
 use crate::lengths::{length_below, write};
 use crate::offered::Offered;
 use event_graph::{Graph, Hold};
 use ew_model::NoMem;
 use ew_model::limits::Limits;
 use ew_model::steps::Steps;
-use rope::Rope;
 use std::alloc::Global;
 use std::sync::ledger::Ledger;
 use transform::{State, Walk, walk};
@@ -52,16 +52,16 @@ pub fn round<L: Ledger>(
     alloc: Global,
     intake: Intake<'_>,
     graph: &mut Graph,
-    text: &mut Rope,
+    text: &mut LazyText,
     lengths: &mut Vec<u32>,
     steps: &mut Steps<L>,
 ) -> Result<(Desk, bool), NoMem>
     requires desk { IsDesk intake.limits.now graph.old intake.events.now intake.pool.now intake.progress.now }
-    requires kept { IsUpToDate intake.limits.now graph.old intake.pool.now text.old.chars lengths.old.items }
+    requires kept { IsUpToDate intake.limits.now graph.old intake.pool.now text.old lengths.old.items }
     requires few { length intake.events.now < 2 ^ 32 }
     ensures round { IfOk result (λ r. IsRound intake.entry.limits.now (desk_at graph.old (events_of intake.entry.pool.now) intake.entry.events.now intake.entry.progress.now) (desk_as graph.new intake.entry.events.now r.0) intake.entry.progress.now r.0.progress (drop (length graph.old) (operations graph.new)) r.1) }
     ensures desk { IfOk result (λ r. IsDesk intake.entry.limits.now graph.new intake.entry.events.now r.0.pool r.0.progress) }
-    ensures kept { IfOk result (λ r. IsUpToDate intake.entry.limits.now graph.new r.0.pool text.new.chars lengths.new.items) }
+    ensures kept { IfOk result (λ r. IsUpToDate intake.entry.limits.now graph.new r.0.pool text.new lengths.new.items) }
     ensures touches { IfOk result (λ r. r.1 ≡ false → steps.new ≡ steps.old + round_touches intake.entry.limits.now (desk_at graph.old (events_of intake.entry.pool.now) intake.entry.events.now intake.entry.progress.now)) }
     ensures most { steps.new ≤ steps.old + round_touches intake.entry.limits.now (desk_at graph.old (events_of intake.entry.pool.now) intake.entry.events.now intake.entry.progress.now) }
     ensures same_graph { OnErr result (graph.new ≡ graph.old) }

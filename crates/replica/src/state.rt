@@ -39,6 +39,7 @@ use crate::desk::Progress;
 use crate::edit::{Edit, changes, characters};
 use crate::fault::{EditFault, LoadFault, VersionFault};
 use crate::heads::head_ids;
+use crate::lazy_text::LazyText;
 use crate::lengths::length_below;
 use crate::listed::listed;
 use crate::loading::given;
@@ -57,7 +58,6 @@ use ew_model::limits::{Limits, MOST_PARENTS};
 use ew_model::name::Name;
 use ew_model::steps::Steps;
 use ew_model::text_op::TextOp;
-use rope::Rope;
 use std::alloc::Global;
 use std::marker::Model;
 use std::sync::ledger::Ledger;
@@ -68,7 +68,7 @@ pub struct Replica {
     alloc: Global,
     limits: Limits,
     graph: Graph,
-    text: Rope,
+    text: LazyText,
     /// Number i is how many characters the text of the first i + 1 events has.
     lengths: Vec<u32>,
     /// The events that wait for their parents.
@@ -97,7 +97,7 @@ impl Model for Replica {
 
     ghost view = { λ r. record { limits = r.limits; held = r.graph; waiting = events_of r.pool } };
 
-    ghost invariant = { λ r. IsUpToDate r.limits r.graph r.pool r.text.chars r.lengths.items };
+    ghost invariant = { λ r. IsUpToDate r.limits r.graph r.pool r.text r.lengths.items };
 }
 
 impl Replica {
@@ -106,7 +106,7 @@ impl Replica {
         ensures { IfOk result (λ r. r ≡ record { limits = limits; held = []; waiting = [] }) }
     {
         let graph = Graph::new(alloc)?;
-        let text = Rope::new(alloc)?;
+        let text = LazyText::new(alloc)?;
         let lengths = Vec::new(alloc);
         Replica::of_good(alloc, limits, graph, text, lengths)
     }
@@ -124,7 +124,9 @@ impl Replica {
         ensures touches { steps.new ≤ steps.old + touches events.items 0 }
     {
         let loading = given(alloc, events, limits)?;
-        loading.finish(steps)
+        let mut replica = loading.finish(steps)?;
+        replica.make_text()?;
+        Ok(replica)
     }
 
     /// A replica of good events, with their text, and how long it is after each.
@@ -132,12 +134,12 @@ impl Replica {
         alloc: Global,
         limits: Limits,
         graph: Graph,
-        text: Rope,
+        text: LazyText,
         lengths: Vec<u32>,
     ) -> Result<Replica, NoMem>
         requires good { first_bad graph ≡ None }
         requires few { length graph ≤ limits.events }
-        requires text { text.chars ≡ text_of graph }
+        requires text { text ≡ text_of graph }
         requires lengths { lengths.items ≡ prefix_lengths graph }
         ensures { IfOk result (λ r. r ≡ record { limits = limits; held = graph; waiting = [] }) }
     {
@@ -290,6 +292,14 @@ impl Replica {
         ensures { result ≡ is_awaited self.now.held self.now.waiting agent.now }
     {
         awaits(&self.graph, &self.pool, agent)
+    }
+
+    /// Makes the text, if it isn't made yet, and keeps it: calls of `text` need not make it then. Nothing else changes.
+    pub fn make_text(&mut self) -> Result<(), NoMem>
+        ensures ok { OnOk result (self.new ≡ self.old) }
+        ensures err { OnErr result (self.new ≡ self.old) }
+    {
+        self.text.make(self.alloc)
     }
 
     /// The text, in UTF-8.

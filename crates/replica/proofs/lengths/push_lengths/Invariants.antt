@@ -1,4 +1,5 @@
 use Rattle.std.proofs.Common.{◌≡◌, ℕ, List, ◌++◌, drop}
+use Rattle.ew_model.specs.Operations.{changed_by_all}
 use Rattle.replica.specs.Lengths.{lengths_through}
 use Rattle.replica.proofs.LengthSteps.{IsOnTheWay}
 use Rattle.replica.proofs.lengths.push_lengths.Given as goal
@@ -6,5 +7,5 @@ use Rattle.replica.proofs.lengths.push_lengths.Given as goal
 abbrev pub invariant-loop-op : goal.invariant-loop-op
 invariant-loop-op l = record {
   begun : (more : List ℕ) × (l.lengths.items ≡ l.initial.lengths.items ++ more);
-  left : IsOnTheWay l.len l.lengths.items (drop l.op-index l.ops) (l.initial.lengths.items ++ lengths_through l.text.chars l.ops);
+  left : IsOnTheWay l.len l.lengths.items (drop l.op-index l.ops) (l.initial.lengths.items ++ lengths_through l.text l.ops) (changed_by_all l.ops l.text);
 }

@@ -2,19 +2,19 @@ use Rattle.std.proofs.Common.{◌∙◌}
 use Rattle.replica.proofs.FrontWalks.{AreWalked, may_write, text_made, lengths_made}
 use Rattle.replica.proofs.load.load.Given.{Over}
 use Rattle.replica.proofs.load.load.Goals as goal
-use Rattle.replica.proofs.load.load.Goals.{After-deref}
+use Rattle.replica.proofs.load.load.Goals.{In_ok-ops}
 
-walked : (g : Over) (c : After-deref g) → AreWalked c.args.graph.now c.deref.result.now
-walked g c = record { none = c.in_ok-ops.ensures.good; ops_are = c.deref.ensures.value ∙ c.in_ok-ops.ensures.ops }
+walked : (g : Over) (c : In_ok-ops g) → AreWalked c.args.graph.now c.in_ok-ops.ops.items
+walked g c = record { none = c.in_ok-ops.ensures.good; ops_are = c.in_ok-ops.ensures.ops }
 
 pub written-requires-clause-fit : goal.written-requires-clause-fit
-written-requires-clause-fit g c = (may_write c.args.graph.now c.deref.result.now (walked g c) c.requires.few).0
+written-requires-clause-fit g c = (may_write c.args.graph.now c.in_ok-ops.ops.items (walked g c) c.requires.few).0
 
 pub written-requires-clause-short : goal.written-requires-clause-short
-written-requires-clause-short g c = (may_write c.args.graph.now c.deref.result.now (walked g c) c.requires.few).1
+written-requires-clause-short g c = (may_write c.args.graph.now c.in_ok-ops.ops.items (walked g c) c.requires.few).1
 
 pub returns-clause-text : goal.returns-clause-text
-returns-clause-text g c = c.in_ok-made.ensures.text ∙ text_made c.args.graph.now c.deref.result.now (walked g (goal.at.returns-clause-text g c).After-deref)
+returns-clause-text g c = c.in_ok-made.ensures.text ∙ text_made c.args.graph.now c.in_ok-ops.ops.items (walked g (goal.at.returns-clause-text g c).In_ok-ops)
 
 pub returns-clause-lengths : goal.returns-clause-lengths
-returns-clause-lengths g c = c.in_ok-made.ensures.lengths ∙ lengths_made c.args.graph.now c.deref.result.now (walked g (goal.at.returns-clause-lengths g c).After-deref)
+returns-clause-lengths g c = c.in_ok-made.ensures.lengths ∙ lengths_made c.args.graph.now c.in_ok-ops.ops.items (walked g (goal.at.returns-clause-lengths g c).In_ok-ops)

@@ -11,7 +11,7 @@ pub invariant_of-self : goal.invariant_of-self
 invariant_of-self c =
     let inside = c.self.inside in
     let told = c.in_err-extend_marks.ensures in
-    same_kept inside.limits inside.graph _ inside.pool _ inside.text.chars _ inside.lengths.items _ told.same_graph refl refl told.same_lengths c.self.invariant
+    same_kept inside.limits inside.graph _ inside.pool _ inside.text _ inside.lengths.items _ told.same_graph refl refl told.same_lengths c.self.invariant
 
 -- all of it was done
 pub invariant_of-self-2 : goal.invariant_of-self-2
@@ -21,5 +21,5 @@ invariant_of-self-2 c =
     let len = c.len-len.result in
     let told = c.in_ok-extend_marks.ensures in
     let can : CanMark inside.limits inside.graph (events_of inside.pool) made = subst (λ (s : ReplicaState). CanMark s.limits s.held s.waiting made) (sym c.self.view_is) c.requires in
-    same_kept inside.limits (inside.graph ++ made) _ inside.pool _ inside.text.chars _ (inside.lengths.items ++ replicate (length made) len) _ told.graph refl refl told.lengths
-    (marked inside.limits inside.graph inside.pool made inside.text.chars inside.lengths.items len c.self.invariant can c.len-len.ensures.count)
+    same_kept inside.limits (inside.graph ++ made) _ inside.pool _ inside.text _ (inside.lengths.items ++ replicate (length made) len) _ told.graph refl refl told.lengths
+    (marked inside.limits inside.graph inside.pool made inside.text inside.lengths.items len c.self.invariant can c.len-len.ensures)
