@@ -1,10 +1,16 @@
+pub mod Asked
 pub mod Found
 pub mod GoingOn
+pub mod IdRuns
 pub mod Indexes
 pub mod Known
 pub mod Loops
 pub mod NameLoop
 pub mod ParentLoop
 pub mod Rest
+pub mod RunRest
+pub mod RunWriting
 pub mod SeenCounts
 pub mod Tables
+pub mod Texts
+pub mod Versions

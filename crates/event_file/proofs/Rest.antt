@@ -38,7 +38,7 @@ agents_by : (agents : List (List ℕ)) (events : List Event) → fold with_agent
 agents_by agents [] = refl
 agents_by agents (e ∷ events) = agents_by (with_agent agents e) events
 
-same_agents : (xs ys : List Event) → ids_of xs ≡ ids_of ys → agents_of xs ≡ agents_of ys
+pub same_agents : (xs ys : List Event) → ids_of xs ≡ ids_of ys → agents_of xs ≡ agents_of ys
 same_agents xs ys same = sym (agents_by [] xs) ∙ ap (λ ids. fold with_agent [] (map known_by ids)) same ∙ agents_by [] ys
 
 same_record : (agents : List (List ℕ)) (xs ys : List Event) (bytes : List ℕ) → ids_of xs ≡ ids_of ys → read_record agents xs bytes ≡ read_record agents ys bytes
@@ -47,15 +47,15 @@ same_record agents xs ys bytes same =
     ∙ ap (λ ids. record_by (open_agents agents ys) ids bytes) same ∙ sym (by_ids agents ys bytes)
 
 -- the events of so many records and of the end behind them, without those before
-abbrev to_come : List (List ℕ) → List Event → ℕ → Reader (List Event)
+abbrev pub to_come : List (List ℕ) → List Event → ℕ → Reader (List Event)
 to_come agents before zero bytes = go_on (read_end agents before bytes) (λ _. done [])
 to_come agents before (suc n) bytes = go_on (read_record agents before bytes) (λ e left. go_on (to_come agents (before ++ e ∷ []) n left) (λ es. done (e ∷ es)))
 
-same_steps : {A B : Type 0} (r : Result (A × List ℕ) model.Stop) (f g : A → Reader B) → ((x : A) (left : List ℕ) → f x left ≡ g x left) → go_on r f ≡ go_on r g
+pub same_steps : {A B : Type 0} (r : Result (A × List ℕ) model.Stop) (f g : A → Reader B) → ((x : A) (left : List ℕ) → f x left ≡ g x left) → go_on r f ≡ go_on r g
 same_steps (Ok found) f g same = same found.0 found.1
 same_steps (Err why) f g same = refl
 
-same_end : (agents : List (List ℕ)) (xs ys : List Event) (bytes : List ℕ) → ids_of xs ≡ ids_of ys → go_on (read_end agents xs bytes) (λ _. done {A = List Event} []) ≡ go_on (read_end agents ys bytes) (λ _. done [])
+pub same_end : (agents : List (List ℕ)) (xs ys : List Event) (bytes : List ℕ) → ids_of xs ≡ ids_of ys → go_on (read_end agents xs bytes) (λ _. done {A = List Event} []) ≡ go_on (read_end agents ys bytes) (λ _. done [])
 unfolding read_end
 same_end agents xs ys [] same = at xs (length (agents_of xs) == length agents) ∙ ap (λ (names : List (List ℕ)). ended (length names == length agents)) (same_agents xs ys same) ∙ sym (at ys (length (agents_of ys) == length agents))
   where
@@ -79,7 +79,7 @@ same_to_come agents xs ys (suc n) bytes same =
     one_more e = map-append (λ (f : Event). f.id) xs (e ∷ []) ∙ ap (λ ids. ids ++ e.id ∷ []) same ∙ sym (map-append (λ (f : Event). f.id) ys (e ∷ []))
 
 -- with the events before in front it is what the definition reads
-whole : (agents : List (List ℕ)) (before : List Event) (n : ℕ) (bytes : List ℕ) → go_on (read_records agents before n bytes) (read_end agents) ≡ go_on (to_come agents before n bytes) (λ es. done (before ++ es))
+pub whole : (agents : List (List ℕ)) (before : List Event) (n : ℕ) (bytes : List ℕ) → go_on (read_records agents before n bytes) (read_end agents) ≡ go_on (to_come agents before n bytes) (λ es. done (before ++ es))
 unfolding read_records read_end
 whole agents before zero [] = at (length (agents_of before) == length agents)
   where
@@ -98,7 +98,7 @@ whole agents before (suc n) bytes = at (read_record agents before bytes) (λ e l
     at (Ok found) later = later found.0 found.1 ∙ behind found.0 (to_come agents (before ++ found.0 ∷ []) n found.1)
     at (Err why) later = refl
 
-without : (before : List Event) (len : ℕ) (r : Result (List Event × List ℕ) model.Stop) → beyond (length before) (finding_of len (go_on r (λ es. done (before ++ es)))) ≡ finding_of len r
+pub without : (before : List Event) (len : ℕ) (r : Result (List Event × List ℕ) model.Stop) → beyond (length before) (finding_of len (go_on r (λ es. done (before ++ es)))) ≡ finding_of len r
 without before len (Ok found) = ap (λ es. model.IsFile es) (drop-append_seam before found.0)
 without before len (Err (model.BadField left kind)) = refl
 without before len (Err (model.OverLimit count)) = refl
@@ -111,7 +111,7 @@ in_front_of e len (Ok found) = refl
 in_front_of e len (Err (model.BadField left kind)) = refl
 in_front_of e len (Err (model.OverLimit count)) = refl
 
-one_less : (n : ℕ) → 0 < n → n ≡ suc (n - 1)
+pub one_less : (n : ℕ) → 0 < n → n ≡ suc (n - 1)
 one_less n more = omega (arith, more)
 
 -- a record that is read is the next event, and of those before it the ids are enough
@@ -128,7 +128,7 @@ goes_on agents before n len bytes left e more one =
     same = map-append (λ (f : Event). f.id) before (e ∷ []) ∙ sym (map-append (λ (f : Event). f.id) before (known_by e.id ∷ []))
 
 -- reading that stops has the fault of what it reads
-stops_with : {A : Type 0} (stop : Stop) (fault : FileFault) (len : ℕ) (r : Result (A × List ℕ) model.Stop) (next : A → Reader (List Event)) → Stops stop r → IsStop stop len fault → IsFault fault (finding_of len (go_on r next))
+pub stops_with : {A : Type 0} (stop : Stop) (fault : FileFault) (len : ℕ) (r : Result (A × List ℕ) model.Stop) (next : A → Reader (List Event)) → Stops stop r → IsStop stop len fault → IsFault fault (finding_of len (go_on r next))
 stops_with OutOfMemory fault len r next stopped is = subst (λ f. IsFault f (finding_of len (go_on r next))) (sym is) tt
 stops_with (Field left kind) fault len r next stopped is = subst (λ f. IsFault f (finding_of len (go_on r next))) (sym is) (ap (λ s. finding_of len (go_on s next)) stopped)
 stops_with (OverLimit count) fault len r next stopped is = subst (λ f. IsFault f (finding_of len (go_on r next))) (sym is) (ap (λ s. finding_of len (go_on s next)) stopped)
@@ -149,7 +149,7 @@ pub end_faults : (stop : Stop) (fault : FileFault) (agents : List (List ℕ)) (b
 end_faults stop fault agents before len bytes stopped is =
     subst (IsFault fault) (sym (rest_is agents before 0 len bytes)) (stops_with stop fault len (read_end agents before bytes) (λ _. done []) stopped is)
 
-none_beyond : (found : FileFinding) → beyond 0 found ≡ found
+pub none_beyond : (found : FileFinding) → beyond 0 found ≡ found
 none_beyond (model.IsFile events) = refl
 none_beyond (model.Short len) = refl
 none_beyond model.BadMagic = refl

@@ -7,7 +7,7 @@ use Rattle.file_words.specs.FileFaults.{FileFinding}
 use Rattle.event_file.specs.declared.fault.FileFault.{FileFault}
 use Rattle.event_file.specs.declared.fault.FileFault.TheVariants.{Short, BadMagic, BadVersion, BadDigest, BadRecord, TooMany, OutOfMemory}
 use Rattle.event_file.specs.declared.fault.RecordFault.{RecordFault}
-use Rattle.event_file.specs.declared.fault.RecordFault.TheVariants.{Cut, NameBad, NameTwice, AgentNumber, IdTwice, ParentCount, ParentPosition, ParentOrder, KindBad, Scalar, Trailing, UnusedAgent}
+use Rattle.event_file.specs.declared.fault.RecordFault.TheVariants.{Cut, NameBad, NameTwice, AgentNumber, IdTwice, ParentCount, ParentPosition, ParentOrder, KindBad, RunJoin, RunLength, Scalar, Trailing, UnusedAgent}
 
 -- the model's word for a kind of fault
 abbrev pub kind_of : RecordFault → model.RecordFault
@@ -20,6 +20,8 @@ kind_of ParentCount = model.ParentCount
 kind_of ParentPosition = model.ParentPosition
 kind_of ParentOrder = model.ParentOrder
 kind_of KindBad = model.KindBad
+kind_of RunJoin = model.RunJoin
+kind_of RunLength = model.RunLength
 kind_of Scalar = model.Scalar
 kind_of Trailing = model.Trailing
 kind_of UnusedAgent = model.UnusedAgent

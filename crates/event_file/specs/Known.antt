@@ -3,11 +3,16 @@ use Rattle.std.specs.Prelude.{◌≡◌, ℕ, ◌<◌, List, [], map, get_or, sl
 use Rattle.ew_model.specs.declared.id.Id.{Id}
 use Rattle.ew_model.specs.declared.event.Event.{Event}
 use Rattle.ew_model.specs.declared.event.Op.TheVariants.{Del}
+use Rattle.file_words.specs.FileRuns.{ids_from}
 use Rattle.event_file.specs.declared.short_id.ShortId.{ShortId}
 
 -- an event with this id
 abbrev pub known_by : Id → Event
 known_by x = record { id = x; parents = []; op = Del 0 }
+
+-- events with so many ids of an agent, from this one on
+abbrev pub known_run : Id → ℕ → List Event
+known_run x count = map known_by (ids_from x.agent x.seq count)
 
 -- the id that a short one stands for, whose agent is told by its place
 abbrev pub id_by : List (List ℕ) → ShortId → Id

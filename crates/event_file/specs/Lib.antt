@@ -1,8 +1,14 @@
 pub mod Faults
+pub mod IdRuns
 pub mod Known
+pub mod OpenRuns
 pub mod Places
 pub mod Progress
 pub mod Reading
 pub mod Rest
+pub mod RunWriting
+pub mod Runs
 pub mod SeenIds
+pub mod Steps
+pub mod Versions
 pub mod Writing

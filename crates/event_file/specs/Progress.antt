@@ -1,5 +1,5 @@
 -- What is read of a content so far.
-use Rattle.std.specs.Prelude.{◌≡◌, ℕ, ◌-◌, Bool, true, List, [], ◌∷◌, ◌++◌, length, take, get_or, slice_get, Some, Ok}
+use Rattle.std.specs.Prelude.{◌≡◌, ◌↔◌, ℕ, ◌-◌, Bool, true, List, [], ◌∷◌, ◌++◌, length, take, get_or, slice_get, Some, Ok}
 use Rattle.std.specs.List.{list_any}
 use Rattle.ew_model.specs.declared.id.Id.{Id}
 use Rattle.ew_model.specs.declared.event.Op.{Op}
@@ -18,12 +18,12 @@ pub record Known : Type 0 where
   pub agents : List (List ℕ)
   pub events : List Event
 
--- the agents are distinct and begin with those of the events, of which there are `used`, and the set has the events' ids
-pub record IsIndexed (agents : List (List ℕ)) (events : List Event) (used : ℕ) (has : Id → Bool) : Type 0 where
+-- the agents are distinct and begin with those of the events, of which there are `used`, and the ids that it has are the events'
+pub record IsIndexed (agents : List (List ℕ)) (events : List Event) (used : ℕ) (Has : Id → Type 0) : Type 0 where
   pub distinct : AreDistinct name_eq agents
   pub begin : agents_of events ≡ take used agents
   pub count : length (agents_of events) ≡ used
-  pub ids : (x : Id) → has x ≡ is_held events x
+  pub ids : (x : Id) → Has x ↔ (is_held events x ≡ true)
 
 -- at this place among the agents stands one that may have the next record
 pub record IsOpenAt (agents : List (List ℕ)) (events : List Event) (place : ℕ) (agent : List ℕ) : Type 0 where

@@ -1,15 +1,18 @@
 -- What is still to come of a file.
-use Rattle.std.specs.Prelude.{◌≡◌, ℕ, suc, List, [], ◌∷◌, ◌++◌, length, drop, Option, Some, None, Result, Ok, Err}
+use Rattle.std.specs.Prelude.{◌≡◌, ℕ, suc, ◌+◌, List, [], ◌∷◌, ◌++◌, length, drop, Option, Some, None, Result, Ok, Err}
 use Rattle.ew_model.specs.declared.id.Id.{Id}
 use Rattle.ew_model.specs.declared.event.Op.{Op}
 use Rattle.ew_model.specs.declared.event.Event.{Event}
 use Rattle.file_words.specs.FileFaults.{FileFinding, go_on, finding_of, read_records, read_end}
 use Rattle.file_words.specs.FileFaults.FileFinding.{IsFile, Short, BadMagic, BadVersion, BadDigest, BadRecord, TooMany}
+use Rattle.file_words.specs.FileRuns.{FileRun, read_runs}
 use Rattle.history_definitions.specs.Chains.{event_behind}
 use Rattle.event_file.specs.declared.fault.FileFault.{FileFault}
 use Rattle.event_file.specs.Faults.{IsFault}
+use Rattle.event_file.specs.OpenRuns.{Opened, run_of, last_of, events_behind}
+use Rattle.event_file.specs.Progress.{Known}
 
--- what a reader has still to hand out: so many records, and what is found of them and of the end behind them; and the id of the
+-- what a reader has still to hand out: so many events, and what is found of them and of the end behind them; and the id of the
 -- event that was handed out last, if one was
 pub record Rest : Type 0 where
   pub records : ℕ
@@ -51,3 +54,15 @@ pub record GoesOnBy (op : Op) (old new : Rest) : Type 0 where
   pub last : Id
   pub is_last : old.last ≡ Some last
   pub next : IsNext (Ok (Some (event_behind last op))) old new
+
+-- what is found of records of runs behind those of these events and this run, in a content of that many bytes
+abbrev pub runs_found : List (List ℕ) → List Event → Option FileRun → ℕ → ℕ → List ℕ → FileFinding
+runs_found agents before last left len bytes = beyond (length before) (finding_of len (go_on (read_runs agents before last left left bytes) (read_end agents)))
+
+-- what is still to come of a file in runs: the events of the run that was read last, and those of records that aren't read yet
+abbrev pub run_rest : Known → Option Opened → ℕ → ℕ → List ℕ → Rest
+run_rest known open_run left len bytes = record {
+  records = length (events_behind open_run) + left;
+  found = in_front (events_behind open_run) (runs_found known.agents known.events (run_of open_run) left len bytes);
+  last = last_of open_run;
+}

@@ -9,9 +9,9 @@ use Rattle.ew_model.specs.Bytes.{four_bytes, name_bytes, op_bytes}
 abbrev pub with_name : List (List ℕ) → List ℕ → List (List ℕ)
 with_name agents name = if list_any (name_eq name) agents then agents else agents ++ name ∷ []
 
--- what stands before so many records of these agents
-abbrev pub start_of : List (List ℕ) → ℕ → List ℕ
-start_of agents count = codes "EGWFILE" ++ 1 ∷ four_bytes (length agents) ++ flat_map name_bytes agents ++ four_bytes count
+-- what stands before the records of so many events of these agents, in a file of this version
+abbrev pub start_of : ℕ → List (List ℕ) → ℕ → List ℕ
+start_of version agents count = codes "EGWFILE" ++ version ∷ four_bytes (length agents) ++ flat_map name_bytes agents ++ four_bytes count
 
 -- the record of an event with the places of its agent and of its parents
 abbrev pub fields_of : ℕ → ℕ → List ℕ → Op → List ℕ

@@ -2,8 +2,10 @@
 
 ghost use Rattle.std.specs.Prelude.{◌≡◌, length};
 ghost use Rattle.event_file.specs.declared.fault.Stop.TheVariants.{OutOfMemory};
+ghost use Rattle.event_file.specs.Reading.{IsStop};
 
-use std::alloc::{AllocError, AllocFailed};
+use ew_model::NoMem;
+use std::alloc::AllocFailed;
 use thiserror::Error;
 
 /// Why bytes are no event file: the first fault in reading order. Want of memory may come before it.
@@ -56,6 +58,12 @@ pub enum RecordFault {
     ParentOrder,
     #[error("no kind of event")]
     KindBad,
+    /// The first event goes on from the run before, and so belongs to it.
+    #[error("run join")]
+    RunJoin,
+    /// No run of the kind has so many events there.
+    #[error("run length")]
+    RunLength,
     /// The number is no Unicode scalar value.
     #[error("no character")]
     Scalar,
@@ -85,20 +93,34 @@ pub(crate) fn bad_field(field: &[u8], kind: RecordFault) -> Stop
     }
 }
 
-impl From<AllocError> for FileFault {
+/// The fault of a content of this length.
+pub(crate) fn fault_of(stop: Stop, len: usize) -> FileFault
+    ensures { IsStop stop len result }
+{
+    match stop {
+        Stop::Field { left, kind } => FileFault::BadRecord {
+            offset: len.saturating_sub(left) as u64,
+            kind,
+        },
+        Stop::OverLimit { count } => FileFault::TooMany { count },
+        Stop::OutOfMemory => FileFault::OutOfMemory,
+    }
+}
+
+impl From<NoMem> for FileFault {
     ghost use Rattle.event_file.specs.declared.fault.FileFault.TheVariants.{OutOfMemory};
 
     ghost from_gives = { λ _ fault. fault ≡ OutOfMemory };
 
-    fn from(_e: AllocError) -> FileFault {
+    fn from(_e: NoMem) -> FileFault {
         FileFault::OutOfMemory
     }
 }
 
-impl From<AllocError> for Stop {
+impl From<NoMem> for Stop {
     ghost from_gives = { λ _ stop. stop ≡ OutOfMemory };
 
-    fn from(_e: AllocError) -> Stop {
+    fn from(_e: NoMem) -> Stop {
         Stop::OutOfMemory
     }
 }

@@ -1,13 +1,15 @@
 //! The content of a file as it is read, and the fields that stand in it.
 
-ghost use Rattle.std.specs.Prelude.{◌≡◌, true, Ok, IfSome};
+ghost use Rattle.std.specs.Prelude.{◌≡◌, true, [], nat_lt, Ok, IfSome};
 ghost use Rattle.file_words.specs.FileFaults.{byte, number, field, only, is_scalar, read_name, read_mark, read_op};
-ghost use Rattle.file_words.specs.FileFaults.RecordFault.{Scalar};
+ghost use Rattle.file_words.specs.FileFaults.RecordFault.{KindBad, Scalar};
+ghost use Rattle.file_words.specs.FileRuns.{read_text};
+ghost use Rattle.event_file.specs.Runs.{numbers_in};
 ghost use Rattle.event_file.specs.Progress.{BeginsBy};
 ghost use Rattle.event_file.specs.Reading.{Gives};
 
 use crate::fault::{RecordFault, Stop, bad_field};
-use crate::format::{DELETION, INSERTION, MARK};
+use crate::format::{BACK_DELETIONS, DELETION, INSERTION, MARK};
 use crate::short_id::ShortId;
 use ew_model::event::Op;
 use ew_model::name::{LONGEST_NAME, Name};
@@ -134,6 +136,29 @@ impl<'a> Input<'a> {
             }
             _ => None,
         }
+    }
+
+    /// The kind of a run.
+    pub(crate) fn run_kind(&mut self) -> Result<u8, Stop>
+        ensures { Gives (λ kind. (kind, self.new.left.now)) result (field byte (only (λ kind. nat_lt kind 4)) KindBad self.old.left.now) }
+    {
+        let field = self.left;
+        let kind = self.byte()?;
+        if kind > BACK_DELETIONS {
+            return Err(bad_field(field, RecordFault::KindBad));
+        }
+        Ok(kind)
+    }
+
+    /// So many characters of four bytes each: the bytes that they stand in.
+    pub(crate) fn text(&mut self, count: u32) -> Result<&'a [u8], Stop>
+        ensures { Gives (λ text. (numbers_in text.now, self.new.left.now)) result (read_text [] count self.old.left.now) }
+    {
+        let bytes = self.left;
+        for _ in 0..count {
+            self.character()?;
+        }
+        Ok(&bytes[..bytes.len() - self.left.len()])
     }
 
     fn mark(&mut self) -> Result<Op, Stop>

@@ -1,18 +1,25 @@
 //! What is read of a content so far.
 
-ghost use Rattle.std.specs.Prelude.{◌≡◌, [], ◌∷◌, ◌++◌, true, false, not, nat_le, cond, get_or, slice_get, Some, None, OnOk, OnErr, IfOk, IfSome, IfNone};
+ghost use Rattle.std.specs.Prelude.{◌≡◌, ◌<◌, ◌≤◌, ◌+◌, ◌^◌, suc, [], ◌∷◌, ◌++◌, true, false, not, nat_le, cond, length, get_or, slice_get, Some, None, OnOk, OnErr, IfOk, IfSome, IfNone};
 ghost use Rattle.ew_model.specs.Ids.{name_eq, ids_ascend};
 ghost use Rattle.ew_model.specs.Ancestors.{ids_of, is_held};
 ghost use Rattle.ew_model.specs.Distinct.{AreDistinct};
 ghost use Rattle.ew_model.specs.Writable.{agents_of};
 ghost use Rattle.file_words.specs.FileFaults.{field, only, number, byte, open_agents, read_parents, read_record, read_end};
 ghost use Rattle.file_words.specs.FileFaults.RecordFault.{AgentNumber, IdTwice, ParentCount, ParentPosition, ParentOrder};
+ghost use Rattle.file_words.specs.FileRuns.{ops_count, are_new, read_run_record};
 ghost use Rattle.event_file.specs.Reading.{Gives};
-ghost use Rattle.event_file.specs.Known.{known_by, id_by};
+ghost use Rattle.event_file.specs.Known.{known_by, id_by, known_run};
 ghost use Rattle.event_file.specs.Progress.{Known, IsOpenAt, IsLast, ReadsOn};
+ghost use Rattle.event_file.specs.OpenRuns.{run_of, IsSoundRun, CanGoOn};
+ghost use Rattle.event_file.specs.Runs.{ops_as, run_as};
 
 use crate::fault::{RecordFault, Stop, bad_field};
+use crate::id_runs::{IdRun, id_at, last_id, put};
 use crate::input::Input;
+use crate::open_run::OpenRun;
+use crate::run_ops::FileRun;
+use crate::run_records::read_run_ops;
 use crate::seen::SeenIds;
 use crate::short_id::ShortId;
 use ew_model::NoMem;
@@ -32,23 +39,25 @@ pub(crate) struct Progress {
     /// How many of the agents have an event.
     used: usize,
     seen: SeenIds,
-    ids: Vec<ShortId>,
+    ids: Vec<IdRun>,
 }
 
 impl Model for Progress {
-    ghost use Rattle.std.specs.Prelude.{◌≡◌, length};
-    ghost use Rattle.std.specs.BTreeSet.{contains};
+    ghost use Rattle.std.specs.Prelude.{◌≡◌, ◌<◌, ◌^◌, length};
+    ghost use Rattle.std.specs.BTreeMap.{get};
     ghost use Rattle.ew_model.specs.Ids.{id_cmp};
     ghost use Rattle.event_file.specs.Known.{known, AreWithin};
+    ghost use Rattle.event_file.specs.IdRuns.{short_ids, AreIdRuns};
     ghost use Rattle.event_file.specs.Progress.{Known, IsIndexed};
-    ghost use Rattle.event_file.specs.SeenIds.{is_seen};
+    ghost use Rattle.event_file.specs.SeenIds.{IsSeen, AreParted};
 
     ghost Value = { Known };
 
-    ghost view = { λ p. record { agents = p.agents.items; events = known p.agents.items p.ids.items } };
+    ghost view = { λ p. record { agents = p.agents.items; events = known p.agents.items (short_ids p.ids.items) } };
 
-    ghost invariant = { λ p. IsIndexed p.agents.items (known p.agents.items p.ids.items) p.used (is_seen p.agents.items p.seen.counts.items (contains id_cmp p.seen.further))
-        × (length p.seen.counts.items ≡ length p.agents.items) × AreWithin (length p.agents.items) p.ids.items };
+    ghost invariant = { λ p. IsIndexed p.agents.items (known p.agents.items (short_ids p.ids.items)) p.used (IsSeen p.agents.items p.seen.counts.items (get id_cmp p.seen.further))
+        × (length p.seen.counts.items ≡ length p.agents.items) × AreWithin (length p.agents.items) (short_ids p.ids.items)
+        × AreParted (get id_cmp p.seen.further) × AreIdRuns 0 p.ids.items × (length (short_ids p.ids.items) < 2 ^ 32) };
 }
 
 impl Progress {
@@ -74,6 +83,7 @@ impl Progress {
     /// Reads a record and keeps its id. Where it can't be read, nothing changes. `room` is room for the parents.
     #[tactic(auto, unfolding(file_words::specs::FileFaults::read_record))]
     pub(crate) fn next(&mut self, room: Vec<Id>, input: &mut Input) -> Result<Event, Stop>
+        requires { length self.old.events + 1 < 2 ^ 32 }
         ensures exact { Gives (λ e. (e, input.new.left.now)) result (read_record self.old.agents self.old.events input.old.left.now) }
         ensures kept { IfOk result (λ e. self.new ≡ record { agents = self.old.agents; events = self.old.events ++ known_by e.id ∷ [] }) }
         ensures err { OnErr result ((self.new ≡ self.old) × (input.new.left.now ≡ input.old.left.now)) }
@@ -85,14 +95,47 @@ impl Progress {
         let parents = self.parents(room, count, &mut ahead)?;
         let op = ahead.operation()?;
         let event = Event { id, parents, op };
-        self.keep(place, event.id)?;
+        self.keep(place, event.id, 0)?;
         input.left = ahead.left;
         Ok(event)
+    }
+
+    /// Reads the record of a run behind another one, where so many events are left, and keeps its ids. Where it can't be read,
+    /// nothing changes. `room` is room for the parents.
+    #[tactic(auto, unfolding(file_words::specs::FileRuns::read_run_record))]
+    pub(crate) fn next_run<'a>(
+        &mut self,
+        room: Vec<Id>,
+        last: &Option<OpenRun<'a>>,
+        left: u32,
+        input: &mut Input<'a>,
+    ) -> Result<FileRun<'a>, Stop>
+        requires some { 0 < left }
+        requires few { length self.old.events + left < 2 ^ 32 }
+        ensures exact { Gives (λ r. (run_as r, input.new.left.now)) result (read_run_record self.old.agents self.old.events (run_of last.now) left input.old.left.now) }
+        ensures kept { IfOk result (λ r. self.new ≡ record { agents = self.old.agents; events = self.old.events ++ known_run r.id (ops_count (ops_as r.ops)) }) }
+        ensures sound { IfOk result (λ r. IsSoundRun (run_as r) left) }
+        ensures go_on { IfOk result (λ r. CanGoOn (ops_as r.ops)) }
+        ensures err { OnErr result ((self.new ≡ self.old) × (input.new.left.now ≡ input.old.left.now)) }
+    {
+        let mut ahead = Input { left: input.left };
+        let place = self.agent(&mut ahead)?;
+        let id = self.id(place, &mut ahead)?;
+        let count = parent_count(&mut ahead)?;
+        let parents = self.parents(room, count, &mut ahead)?;
+        let ops = match read_run_ops(self, last, left, place, &id, parents.as_slice(), &mut ahead) {
+            Ok(ops) => ops,
+            Err(stop) => return Err(stop),
+        };
+        self.keep(place, id, ops.count() as u32 - 1)?;
+        input.left = ahead.left;
+        Ok(FileRun { id, parents, ops })
     }
 
     /// The operation of a record whose event goes on from the last one. Then its id is kept. None where the record says something
     /// else or can't be read, where the counts don't tell that the id is new, or where memory is wanting: then nothing changes.
     pub(crate) fn go_on(&mut self, input: &mut Input) -> Option<Op>
+        requires { length self.old.events + 1 < 2 ^ 32 }
         ensures some { IfSome result (λ op. ReadsOn op self.old self.new input.old.left.now input.new.left.now) }
         ensures none { IfNone result ((self.new ≡ self.old) × (input.new.left.now ≡ input.old.left.now)) }
     {
@@ -102,7 +145,7 @@ impl Progress {
             seq: last.seq.checked_add(1)?,
         };
         let mut ahead = Input { left: input.left };
-        if !ahead.begins(next, position) {
+        if !ahead.begins(next, position as usize) {
             return None;
         }
         let op = ahead.insertion_or_deletion()?;
@@ -127,19 +170,22 @@ impl Progress {
         Ok(())
     }
 
-    /// Keeps the id of an event of one of the open agents.
-    fn keep(&mut self, place: u32, id: Id) -> Result<(), NoMem>
-        requires { IsOpenAt self.old.agents self.old.events place id.agent }
-        ensures ok { OnOk result (self.new ≡ record { agents = self.old.agents; events = self.old.events ++ known_by id ∷ [] }) }
+    /// Keeps a new id of one of the open agents, and so many behind it.
+    fn keep(&mut self, place: u32, id: Id, more: u32) -> Result<(), NoMem>
+        requires open { IsOpenAt self.old.agents self.old.events place id.agent }
+        requires fits { id.seq + more < 2 ^ 32 }
+        requires new { are_new self.old.events id (suc more) ≡ true }
+        requires few { length self.old.events + suc more < 2 ^ 32 }
+        ensures ok { OnOk result (self.new ≡ record { agents = self.old.agents; events = self.old.events ++ known_run id (suc more) }) }
         ensures err { OnErr result (self.new ≡ self.old) }
     {
-        let short = ShortId {
+        let first = ShortId {
             agent: place,
             seq: id.seq,
         };
         self.ids.reserve(1)?;
-        self.seen.insert(place as usize, id)?;
-        self.ids.push_reserved(short);
+        self.seen.insert(place as usize, id, more)?;
+        put(&mut self.ids, first, more);
         if place as usize == self.used {
             self.used += 1;
         }
@@ -148,7 +194,8 @@ impl Progress {
 
     /// Keeps an id of an agent that has an event, where the counts tell that it is new, and memory isn't wanting. Else nothing changes.
     fn keep_next(&mut self, next: ShortId) -> bool
-        requires { slice_get (agents_of self.old.events) next.agent ≡ Some (get_or self.old.agents next.agent []) }
+        requires used { slice_get (agents_of self.old.events) next.agent ≡ Some (get_or self.old.agents next.agent []) }
+        requires few { length self.old.events + 1 < 2 ^ 32 }
         ensures new { result ≡ true → is_held self.old.events (id_by self.old.agents next) ≡ false }
         ensures yes { result ≡ true → self.new ≡ record { agents = self.old.agents; events = self.old.events ++ known_by (id_by self.old.agents next) ∷ [] } }
         ensures no { result ≡ false → self.new ≡ self.old }
@@ -159,16 +206,15 @@ impl Progress {
         if !self.seen.insert_next(next.agent as usize, next.seq) {
             return false;
         }
-        self.ids.push_reserved(next);
+        put(&mut self.ids, next, 0);
         true
     }
 
     /// The last id and its position, if there is one. Its agent has an event, and stands among the agents that do.
-    fn last(&self) -> Option<(usize, ShortId)>
+    fn last(&self) -> Option<(u32, ShortId)>
         ensures { IfSome result (λ found. IsLast self.now found.0 found.1) }
     {
-        let position = self.ids.len().checked_sub(1)?;
-        let last = self.ids[position];
+        let (position, last) = last_id(&self.ids)?;
         if last.agent as usize >= self.used {
             return None;
         }
@@ -204,6 +250,7 @@ impl Progress {
         ensures id { Gives (λ id. (id, input.new.left.now)) result
             (field number (λ seq. only (λ x. not (is_held self.now.events x)) (record { agent = get_or self.now.agents place []; seq = seq })) IdTwice input.old.left.now) }
         ensures agent { IfOk result (λ id. id.agent ≡ get_or self.now.agents place []) }
+        ensures new { IfOk result (λ id. is_held self.now.events id ≡ false) }
     {
         let field = input.left;
         let seq = input.number()?;
@@ -222,7 +269,18 @@ impl Progress {
         requires { slice_get self.now.agents place ≡ Some id.now.agent }
         ensures { result ≡ is_held self.now.events id.now }
     {
-        self.seen.contains(place, id)
+        let _number = id.seq;
+        self.seen.has_one_of(place, id, 0)
+    }
+
+    /// Whether no event has one of so many ids of the agent at this place, from this one on.
+    pub(crate) fn are_new(&self, place: u32, id: &Id, count: u32) -> bool
+        requires place { slice_get self.now.agents place ≡ Some id.now.agent }
+        requires some { 0 < count }
+        requires fits { id.now.seq + count ≤ 2 ^ 32 }
+        ensures { result ≡ are_new self.now.events id.now count }
+    {
+        !self.seen.has_one_of(place as usize, id, count - 1)
     }
 
     /// So many parents, ascending. They are put into the room.
@@ -247,7 +305,7 @@ impl Progress {
     {
         let field = input.left;
         let place = input.number()?;
-        let Some(id) = self.id_at(place as usize) else {
+        let Some(id) = self.id_at(place) else {
             return Err(bad_field(field, RecordFault::ParentPosition));
         };
         if !is_above(parents, &id) {
@@ -256,10 +314,10 @@ impl Progress {
         Ok(id)
     }
 
-    fn id_at(&self, place: usize) -> Option<Id>
-        ensures { result ≡ slice_get (ids_of self.now.events) place }
+    fn id_at(&self, position: u32) -> Option<Id>
+        ensures { result ≡ slice_get (ids_of self.now.events) position }
     {
-        match self.ids.get(place) {
+        match id_at(&self.ids, position) {
             Some(id) => Some(Id {
                 agent: self.agents[id.agent as usize],
                 seq: id.seq,

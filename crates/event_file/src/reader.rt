@@ -1,50 +1,61 @@
 //! Reading an event file one event at a time.
 
-ghost use Rattle.std.specs.Prelude.{◌≡◌, ◌≤◌, length, drop, None, IfOk, IfSome, IfNone, MatchResult};
-ghost use Rattle.file_words.specs.FileFaults.{read_events, finding_of, content_finding, file_finding};
+ghost use Rattle.std.specs.Prelude.{◌≡◌, ◌≤◌, [], true, length, drop, None, IfOk, IfSome, IfNone, MatchResult};
+ghost use Rattle.ew_model.specs.Ids.{name_eq};
+ghost use Rattle.ew_model.specs.Distinct.{AreDistinct};
+ghost use Rattle.file_words.specs.FileFaults.{finding_of};
+ghost use Rattle.file_words.specs.FileVersions.{version_of, is_version, read_of_version, content_found, file_found};
 ghost use Rattle.event_file.specs.Faults.{IsFault};
-ghost use Rattle.event_file.specs.Reading.{Stops, IsStop};
+ghost use Rattle.event_file.specs.Reading.{Gives, Stops};
 ghost use Rattle.event_file.specs.Rest.{IsNext, GoesOnBy};
+ghost use Rattle.event_file.specs.Versions.{rest_of, read_start, records_of};
 
-use crate::fault::{FileFault, Stop};
-use crate::format::{DIGEST_LEN, MAGIC, SHORTEST, VERSION};
+use crate::event_records::EventRecords;
+use crate::fault::{FileFault, Stop, fault_of};
+use crate::format::{DIGEST_LEN, MAGIC, RUNS_VERSION, SHORTEST, VERSION};
 use crate::input::Input;
 use crate::names::read_names;
 use crate::progress::Progress;
+use crate::run_reader::RunReader;
 use ew_model::event::{Event, Op};
 use ew_model::id::Id;
+use ew_model::name::Name;
 use sha2::{Digest, Sha256};
 use std::alloc::Global;
 use std::marker::Model;
 
-/// The events of a file's bytes, one at a time. Of those that were handed out only the ids are kept, in eight bytes each.
-/// Contracts see how many records are still to come, what is found of them, and the id that was handed out last.
+/// The events of a file's bytes, one at a time, whichever version the file is of. Of those that were handed out only the ids
+/// are kept, in sixteen bytes for each run of neighbours.
+/// Contracts see how many events are still to come, what is found of them, and the id that was handed out last.
 #[derive(Drop)]
 pub struct EventReader<'a> {
-    progress: Progress,
-    input: Input<'a>,
-    /// How many records aren't read yet.
-    left: u32,
-    /// How many bytes stand before the digest.
-    len: usize,
+    records: Records<'a>,
+}
+
+/// The records of a version.
+#[derive(Drop)]
+enum Records<'a> {
+    Events(EventRecords<'a>),
+    Runs(RunReader<'a>),
 }
 
 impl<'a> Model for EventReader<'a> {
-    ghost use Rattle.history_definitions.specs.Chains.{last_id};
-    ghost use Rattle.event_file.specs.Rest.{Rest, rest_found};
+    ghost use Rattle.event_file.specs.Rest.{Rest};
 
     ghost Value = { Rest };
 
-    ghost view = { λ r. record { records = r.left; found = rest_found r.progress.agents r.progress.events r.left r.len r.input.left.now; last = last_id r.progress.events } };
+    ghost use Rattle.event_file.specs.Versions.{rest_of};
+
+    ghost view = { λ r. rest_of r.records };
 }
 
 impl<'a> EventReader<'a> {
     /// A reader of a file of at most `max_events` events. All but the records is looked at first: the length, the mark, the
     /// version, the digest, the agents and the number of events.
-    #[tactic(auto, unfolding(file_words::specs::FileFaults::file_finding))]
+    #[tactic(auto, unfolding(file_words::specs::FileVersions::file_found))]
     pub fn new(alloc: Global, b: &'a [u8], max_events: u32) -> Result<EventReader<'a>, FileFault>
         // What is still to come is what is found of the file; a fault is the file's.
-        ensures found { MatchResult result (λ r. r.found ≡ file_finding max_events b.now) (λ fault. IsFault fault (file_finding max_events b.now)) }
+        ensures found { MatchResult result (λ r. r.found ≡ file_found max_events b.now) (λ fault. IsFault fault (file_found max_events b.now)) }
         ensures few { IfOk result (λ r. r.records ≤ max_events) }
         ensures first { IfOk result (λ r. r.last ≡ None) }
     {
@@ -56,11 +67,12 @@ impl<'a> EventReader<'a> {
         if &b[..7] != MAGIC {
             return Err(FileFault::BadMagic);
         }
-        if b[7] != VERSION {
-            return Err(FileFault::BadVersion(b[7]));
+        let version = b[7];
+        if version != VERSION && version != RUNS_VERSION {
+            return Err(FileFault::BadVersion(version));
         }
         let (content, digest) = b.split_at(b.len() - DIGEST_LEN);
-        open_content(alloc, content, digest, max_events)
+        open_content(alloc, version, content, digest, max_events)
     }
 
     /// The next event; None behind the last one, where no bytes are left and each agent has an event. After a fault nothing has
@@ -68,26 +80,25 @@ impl<'a> EventReader<'a> {
     pub fn next(&mut self) -> Result<Option<Event>, FileFault>
         ensures { IsNext result self.old self.new }
     {
-        let room = Vec::new(self.progress.allocator());
+        let room = Vec::new(self.allocator());
         self.next_in(room)
+    }
+
+    /// Where its memory is taken from.
+    fn allocator(&self) -> Global {
+        match &self.records {
+            Records::Events(records) => records.allocator(),
+            Records::Runs(records) => records.allocator(),
+        }
     }
 
     /// The next event as `next` hands it out, with its parents in this room. What stands in the room is let go of.
     pub fn next_in(&mut self, room: Vec<Id>) -> Result<Option<Event>, FileFault>
         ensures { IsNext result self.old self.new }
     {
-        if self.left == 0 {
-            if let Err(stop) = self.progress.end(&self.input) {
-                return Err(fault_of(stop, self.len));
-            }
-            return Ok(None);
-        }
-        match self.progress.next(room, &mut self.input) {
-            Ok(event) => {
-                self.left -= 1;
-                Ok(Some(event))
-            }
-            Err(stop) => Err(fault_of(stop, self.len)),
+        match &mut self.records {
+            Records::Events(records) => records.next_in(room),
+            Records::Runs(records) => records.next_in(room),
         }
     }
 
@@ -99,28 +110,35 @@ impl<'a> EventReader<'a> {
         ensures some { IfSome result (λ op. GoesOnBy op self.old self.new) }
         ensures none { IfNone result (self.new ≡ self.old) }
     {
-        if self.left == 0 {
-            return None;
+        match &mut self.records {
+            Records::Events(records) => records.go_on(),
+            Records::Runs(records) => records.go_on(),
         }
-        let op = self.progress.go_on(&mut self.input)?;
-        self.left -= 1;
-        Some(op)
     }
 }
 
+/// The version that the bytes name, if they reach so far.
+pub fn version_of(b: &[u8]) -> Option<u8>
+    ensures { result ≡ version_of b.now }
+{
+    b.get(7).copied()
+}
+
 /// A reader of what stands before the digest, the version included.
-#[tactic(auto, unfolding(file_words::specs::FileFaults::content_finding))]
+#[tactic(auto, unfolding(file_words::specs::FileVersions::content_found))]
 fn open_content<'a>(
     alloc: Global,
+    version: u8,
     content: &'a [u8],
     digest: &[u8],
     max_events: u32,
 ) -> Result<EventReader<'a>, FileFault>
+    requires version { is_version version ≡ true }
     requires content { 8 ≤ length content.now }
     requires digest { length digest.now ≡ 32 }
     ensures found { MatchResult result
-        (λ r. r.found ≡ content_finding max_events content.now digest.now)
-        (λ fault. IsFault fault (content_finding max_events content.now digest.now)) }
+        (λ r. r.found ≡ content_found version max_events content.now digest.now)
+        (λ fault. IsFault fault (content_found version max_events content.now digest.now)) }
     ensures few { IfOk result (λ r. r.records ≤ max_events) }
     ensures first { IfOk result (λ r. r.last ≡ None) }
 {
@@ -130,50 +148,66 @@ fn open_content<'a>(
         stored.copy_from_slice(digest);
         return Err(FileFault::BadDigest { stored, found });
     }
-    match open_records(alloc, content, max_events) {
-        Ok(reader) => Ok(reader),
+    match open_records(alloc, version, content, max_events) {
+        Ok(records) => Ok(EventReader { records }),
         Err(stop) => Err(fault_of(stop, content.len())),
     }
 }
 
-/// Reads the agents and the number of records, behind the version.
-#[tactic(auto, unfolding(file_words::specs::FileFaults::read_events))]
-fn open_records(alloc: Global, content: &[u8], max_events: u32) -> Result<EventReader, Stop>
-    requires { 8 ≤ length content.now }
+/// The records of a version, behind the version.
+fn open_records<'a>(
+    alloc: Global,
+    version: u8,
+    content: &'a [u8],
+    max_events: u32,
+) -> Result<Records<'a>, Stop>
+    requires version { is_version version ≡ true }
+    requires content { 8 ≤ length content.now }
     ensures found { MatchResult result
-        (λ r. r.found ≡ finding_of (length content.now) (read_events max_events (drop 8 content.now)))
-        (λ stop. Stops stop (read_events max_events (drop 8 content.now))) }
-    ensures few { IfOk result (λ r. r.records ≤ max_events) }
-    ensures first { IfOk result (λ r. r.last ≡ None) }
+        (λ r. (rest_of r).found ≡ finding_of (length content.now) (read_of_version version max_events (drop 8 content.now)))
+        (λ stop. Stops stop (read_of_version version max_events (drop 8 content.now))) }
+    ensures few { IfOk result (λ r. (rest_of r).records ≤ max_events) }
+    ensures first { IfOk result (λ r. (rest_of r).last ≡ None) }
 {
     let mut input = Input {
         left: &content[8..],
     };
+    let (agents, left) = read_start(alloc, &mut input, max_events)?;
+    let progress = Progress::new(alloc, agents)?;
+    Ok(begin(version, progress, input, left, content.len()))
+}
+
+/// So many records of a version.
+fn begin<'a>(
+    version: u8,
+    progress: Progress,
+    input: Input<'a>,
+    left: u32,
+    len: usize,
+) -> Records<'a>
+    requires { progress.events ≡ [] }
+    ensures found { (rest_of result).found ≡ finding_of len (records_of version progress.agents left input.entry.left.now) }
+    ensures records { (rest_of result).records ≡ left }
+    ensures last { (rest_of result).last ≡ None }
+{
+    if version == VERSION {
+        Records::Events(EventRecords::new(progress, input, left, len))
+    } else {
+        Records::Runs(RunReader::new(progress, input, left, len))
+    }
+}
+
+/// Reads the agents and the number of events.
+fn read_start(alloc: Global, input: &mut Input, max_events: u32) -> Result<(Vec<Name>, u32), Stop>
+    ensures exact { Gives (λ start. ((start.0.items, start.1), input.new.left.now)) result (read_start max_events input.old.left.now) }
+    ensures distinct { IfOk result (λ start. AreDistinct name_eq start.0.items) }
+    ensures few { IfOk result (λ start. start.1 ≤ max_events) }
+{
     let agents = input.number()?;
-    let agents = read_names(alloc, agents, &mut input)?;
+    let agents = read_names(alloc, agents, input)?;
     let left = input.number()?;
     if left > max_events {
         return Err(Stop::OverLimit { count: left });
     }
-    let progress = Progress::new(alloc, agents)?;
-    Ok(EventReader {
-        progress,
-        input,
-        left,
-        len: content.len(),
-    })
-}
-
-/// The fault of a content of this length.
-fn fault_of(stop: Stop, len: usize) -> FileFault
-    ensures { IsStop stop len result }
-{
-    match stop {
-        Stop::Field { left, kind } => FileFault::BadRecord {
-            offset: len.saturating_sub(left) as u64,
-            kind,
-        },
-        Stop::OverLimit { count } => FileFault::TooMany { count },
-        Stop::OutOfMemory => FileFault::OutOfMemory,
-    }
+    Ok((agents, left))
 }

@@ -5,16 +5,21 @@ ghost use Rattle.std.specs.BTreeMap.{get};
 ghost use Rattle.ew_model.specs.Ids.{id_cmp};
 ghost use Rattle.ew_model.specs.Bytes.{four_bytes, name_bytes, op_bytes};
 ghost use Rattle.ew_model.specs.Writable.{agents_of, IsWritable};
-ghost use Rattle.file_words.specs.File.{record_bytes, file_of};
+ghost use Rattle.file_words.specs.File.{record_bytes, with_digest, file_of};
+ghost use Rattle.file_words.specs.FileRuns.{file_runs, run_record, file2_of};
+ghost use Rattle.event_file.specs.RunWriting.{none_put, all_put};
 ghost use Rattle.event_file.specs.Writing.{start_of, fields_of};
 
 use crate::agents::Agents;
-use crate::format::{DELETION, INSERTION, MAGIC, MARK, VERSION};
-use crate::writer::FileWriter;
+use crate::format::{
+    DELETION, INSERTION, MAGIC, MARK, NAME_BYTES, RECORD_BYTES, SHORTEST, VERSION,
+};
+use crate::run_writer::RunWriter;
 use ew_model::NoMem;
 use ew_model::event::{Event, Op};
 use ew_model::id::Id;
 use ew_model::name::Name;
+use sha2::{Digest, Sha256};
 use std::alloc::Global;
 use std::collections::BTreeMap;
 
@@ -25,18 +30,50 @@ pub fn encode(alloc: Global, events: &[Event]) -> Result<Vec<u8>, NoMem>
     ensures { IfOk result (λ bytes. bytes.items ≡ file_of events.now) }
 {
     let agents = Agents::of(alloc, events)?;
-    let mut writer = FileWriter::new(alloc, agents.as_slice(), events.len() as u32)?;
-    put_records(alloc, &mut writer, &agents, events)?;
+    let count = events.len() as u32;
+    let size = usual_size(agents.as_slice(), count, RECORD_BYTES);
+    let mut out = Vec::with_capacity(alloc, size)?;
+    put_start(&mut out, VERSION, agents.as_slice(), count)?;
+    put_records(alloc, &mut out, &agents, events)?;
+    close(out)
+}
+
+/// The event file in runs of the events.
+#[tactic(auto, unfolding(file_words::specs::FileRuns::file2_of, file_words::specs::FileRuns::file2_content))]
+pub fn encode_runs(alloc: Global, events: &[Event]) -> Result<Vec<u8>, NoMem>
+    requires { IsWritable events.now }
+    ensures { IfOk result (λ bytes. bytes.items ≡ file2_of events.now) }
+{
+    let agents = Agents::of(alloc, events)?;
+    let mut writer = RunWriter::new(alloc, agents.as_slice(), events.len() as u32)?;
+    put_runs(alloc, &mut writer, &agents, events)?;
     writer.finish()
 }
 
-fn put_number(out: &mut Vec<u8>, n: u32) -> Result<(), NoMem>
+/// The bytes, closed by their digest.
+pub(crate) fn close(mut out: Vec<u8>) -> Result<Vec<u8>, NoMem>
+    ensures { IfOk result (λ bytes. bytes.items ≡ with_digest out.items) }
+{
+    let digest = Sha256::digest(out.as_slice());
+    out.extend_from_slice(&digest)?;
+    Ok(out)
+}
+
+/// How many bytes a file of so many agents and events mostly has at most, where an event mostly takes so many.
+pub(crate) fn usual_size(agents: &[Name], count: u32, each: usize) -> usize
+    requires agents { length agents.now < 2 ^ 32 }
+    requires each { each < 2 ^ 16 }
+{
+    SHORTEST + NAME_BYTES * agents.len() + each * count as usize
+}
+
+pub(crate) fn put_number(out: &mut Vec<u8>, n: u32) -> Result<(), NoMem>
     ensures { OnOk result (out.new.items ≡ out.old.items ++ four_bytes n) }
 {
     out.extend_from_slice(&n.to_le_bytes())
 }
 
-fn put_name(out: &mut Vec<u8>, name: &Name) -> Result<(), NoMem>
+pub(crate) fn put_name(out: &mut Vec<u8>, name: &Name) -> Result<(), NoMem>
     ensures { OnOk result (out.new.items ≡ out.old.items ++ name_bytes name.now) }
 {
     let bytes = name.as_slice();
@@ -45,12 +82,17 @@ fn put_name(out: &mut Vec<u8>, name: &Name) -> Result<(), NoMem>
 }
 
 /// What stands before the records.
-pub(crate) fn put_start(out: &mut Vec<u8>, agents: &[Name], count: u32) -> Result<(), NoMem>
+pub(crate) fn put_start(
+    out: &mut Vec<u8>,
+    version: u8,
+    agents: &[Name],
+    count: u32,
+) -> Result<(), NoMem>
     requires { length agents.now < 2 ^ 32 }
-    ensures { OnOk result (out.new.items ≡ out.old.items ++ start_of agents.now count) }
+    ensures { OnOk result (out.new.items ≡ out.old.items ++ start_of version agents.now count) }
 {
     out.extend_from_slice(MAGIC)?;
-    out.push(VERSION)?;
+    out.push(version)?;
     put_agents(out, agents)?;
     put_number(out, count)
 }
@@ -69,13 +111,36 @@ fn put_agents(out: &mut Vec<u8>, agents: &[Name]) -> Result<(), NoMem>
 
 fn put_records(
     alloc: Global,
-    writer: &mut FileWriter,
+    out: &mut Vec<u8>,
     agents: &Agents,
     events: &[Event],
 ) -> Result<(), NoMem>
     requires writable { IsWritable events.now }
     requires agents { agents.now ≡ agents_of events.now }
-    ensures { OnOk result (writer.new ≡ writer.old ++ flat_map (record_bytes events.now) events.now) }
+    ensures { OnOk result (out.new.items ≡ out.old.items ++ flat_map (record_bytes events.now) events.now) }
+{
+    let mut positions = BTreeMap::new(alloc);
+    let mut parents = Vec::new(alloc);
+    for (i, event) in events.iter().enumerate() {
+        find_all(&positions, event.parents.as_slice(), &mut parents)?;
+        let agent = agents.number_of(&event.id.agent);
+        put_record(out, agent, event.id.seq, &parents, &event.op)?;
+        positions.insert(event.id, i as u32)?;
+    }
+    Ok(())
+}
+
+/// Puts the records of the events' runs behind the start of the file, up to the end of the last one.
+fn put_runs(
+    alloc: Global,
+    writer: &mut RunWriter,
+    agents: &Agents,
+    events: &[Event],
+) -> Result<(), NoMem>
+    requires writable { IsWritable events.now }
+    requires agents { agents.now ≡ agents_of events.now }
+    requires none { writer.old ≡ none_put writer.old.bytes }
+    ensures { OnOk result (all_put writer.new ≡ writer.old.bytes ++ flat_map (run_record events.now) (file_runs events.now)) }
 {
     let mut positions = BTreeMap::new(alloc);
     let mut parents = Vec::new(alloc);
@@ -111,7 +176,7 @@ fn position_of(positions: &BTreeMap<Id, u32>, id: &Id) -> u32
 }
 
 /// A record: the places of the agent and of the parents, and what is the event's own.
-pub(crate) fn put_record(
+fn put_record(
     out: &mut Vec<u8>,
     agent: u32,
     seq: u32,
@@ -127,7 +192,7 @@ pub(crate) fn put_record(
     put_operation(out, op)
 }
 
-fn put_parents(out: &mut Vec<u8>, parents: &[u32]) -> Result<(), NoMem>
+pub(crate) fn put_parents(out: &mut Vec<u8>, parents: &[u32]) -> Result<(), NoMem>
     requires { length parents.now ≤ 16 }
     ensures { OnOk result (out.new.items ≡ out.old.items ++ (length parents.now ∷ flat_map four_bytes parents.now)) }
 {

@@ -2,7 +2,7 @@
 
 ghost use Rattle.std.specs.Prelude.{◌<◌};
 
-use event_file::{EventReader, FileFault, decode, encode};
+use event_file::{EventReader, FileFault, decode, encode, encode_runs, version_of};
 use ew_model::NoMem;
 use ew_model::event::Event;
 use sha2::{Digest, Sha256};
@@ -47,7 +47,11 @@ fn read(alloc: Global, content: &[u8], rest: &str) -> Result<String, Fault> {
 fn tell_read(alloc: Global, file: &[u8], most: u32) -> Result<String, Fault> {
     match decode(alloc, file, most) {
         Ok(events) => {
-            let again = encode(alloc, &events)?;
+            let again = if version_of(file) == Some(2) {
+                encode_runs(alloc, &events)?
+            } else {
+                encode(alloc, &events)?
+            };
             let same = again.as_slice() == file;
             let len = file.len();
             Ok(format!(in alloc; "{len} same {same}")?)

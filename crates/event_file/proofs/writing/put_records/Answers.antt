@@ -25,8 +25,8 @@ find_all-requires c =
     subst (All (λ (x : Id). IsSome (get id_cmp c.loop-i.positions x))) (sym c.as_slice.ensures)
     (all_have (ids_of (take c.loop-i.i c.args.events.now)) (get id_cmp c.loop-i.positions) e.parents c.loop-i.invariant.places f.held)
 
-pub put-requires : goal.put-requires
-put-requires c =
+pub put_record-requires : goal.put_record-requires
+put_record-requires c =
     let e = c.index-events-i.result in
     let number = λ (x : Id). unwrap_or (get id_cmp c.loop-i.positions x) 0 in
     let same : c.deref.result.now ≡ map number e.parents = c.deref.ensures.value ∙ c.in_ok-find_all.ensures ∙ ap (map number) c.as_slice.ensures in
@@ -50,7 +50,7 @@ loop-i-preserved c =
     let record_text = fields ∙ record_is events c.loop-i.i e table c.requires.writable c.loop-i-test.true c.index-events-i.is c.loop-i.invariant.places in
     let more = take_more events c.loop-i.i e c.loop-i-test.true ∙ ap (λ x. take c.loop-i.i events ++ x ∷ []) (sym c.index-events-i.is) in
     record {
-      so_far = c.in_ok-put.ensures.ok ∙ ap (λ t. t ++ put) c.loop-i.invariant.so_far ∙ ap (λ t. (c.args.writer.now ++ flat_map (record_bytes events) (take c.loop-i.i events)) ++ t) record_text
-          ∙ flat_map_more (record_bytes events) c.args.writer.now (take c.loop-i.i events) e ∙ ap (λ xs. c.args.writer.now ++ flat_map (record_bytes events) xs) (sym more);
+      so_far = c.in_ok-put_record.ensures ∙ ap (λ t. t ++ put) c.loop-i.invariant.so_far ∙ ap (λ t. (c.args.out.now.items ++ flat_map (record_bytes events) (take c.loop-i.i events)) ++ t) record_text
+          ∙ flat_map_more (record_bytes events) c.args.out.now.items (take c.loop-i.i events) e ∙ ap (λ xs. c.args.out.now.items ++ flat_map (record_bytes events) xs) (sym more);
       places = places_more events c.loop-i.i e table (get id_cmp c.insert.new.self) c.requires.writable c.loop-i-test.true c.index-events-i.is c.loop-i.invariant.places c.in_ok-insert.ensures.updates.0;
     }

@@ -8,6 +8,6 @@ use Rattle.event_file.proofs.writing.put_records.Given as goal
 
 abbrev pub invariant-loop-i : goal.invariant-loop-i
 invariant-loop-i l = record {
-  so_far : l.writer ≡ l.initial.writer ++ flat_map (record_bytes l.events) (take l.i l.events);
+  so_far : l.out.items ≡ l.initial.out.items ++ flat_map (record_bytes l.events) (take l.i l.events);
   places : HasPlaces id_eq (get id_cmp l.positions) (ids_of (take l.i l.events));
 }

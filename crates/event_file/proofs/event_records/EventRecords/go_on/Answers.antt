@@ -5,7 +5,7 @@ use Rattle.event_file.specs.Progress.{Known}
 use Rattle.event_file.specs.Rest.{Rest, in_front, rest_found}
 use Rattle.event_file.proofs.Known.{last_more}
 use Rattle.event_file.proofs.Rest.{goes_on}
-use Rattle.event_file.proofs.reader.EventReader.go_on.Goals as goal
+use Rattle.event_file.proofs.event_records.EventRecords.go_on.Goals as goal
 
 pub returns-clause-some : goal.returns-clause-some
 returns-clause-some c =

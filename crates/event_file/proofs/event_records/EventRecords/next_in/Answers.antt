@@ -6,7 +6,7 @@ use Rattle.event_file.specs.Progress.{Known}
 use Rattle.event_file.specs.Rest.{Rest, in_front, rest_found}
 use Rattle.event_file.proofs.Known.{last_more}
 use Rattle.event_file.proofs.Rest.{goes_on, faults, ends, end_faults}
-use Rattle.event_file.proofs.reader.EventReader.next_in.Goals as goal
+use Rattle.event_file.proofs.event_records.EventRecords.next_in.Goals as goal
 
 pub returns-in-Ok : goal.returns-in-Ok
 returns-in-Ok c =

@@ -1,0 +1,103 @@
+//! The events of a file in runs.
+
+ghost use Rattle.std.specs.Prelude.{◌≡◌, [], None, IfSome, IfNone};
+ghost use Rattle.event_file.specs.Rest.{run_rest, IsNext, GoesOnBy};
+
+use crate::fault::{FileFault, fault_of};
+use crate::input::Input;
+use crate::open_run::{OpenRun, go_on_in, is_done, next_of};
+use crate::progress::Progress;
+use ew_model::event::{Event, Op};
+use ew_model::id::Id;
+use std::alloc::Global;
+use std::marker::Model;
+
+/// The events of runs, one at a time. A record is read whole before its first event is handed out. Contracts see what is
+/// still to come.
+#[derive(Drop)]
+pub(crate) struct RunReader<'a> {
+    progress: Progress,
+    input: Input<'a>,
+    /// How many events are in records that aren't read yet.
+    left: u32,
+    /// How many bytes stand before the digest.
+    len: usize,
+    /// The run that was read last.
+    open: Option<OpenRun<'a>>,
+}
+
+impl<'a> Model for RunReader<'a> {
+    ghost use Rattle.std.specs.Prelude.{◌+◌, ◌<◌, ◌^◌, length};
+    ghost use Rattle.event_file.specs.Rest.{Rest, run_rest};
+
+    ghost Value = { Rest };
+
+    ghost view = { λ r. run_rest r.progress r.open r.left r.len r.input.left.now };
+
+    ghost invariant = { λ r. length r.progress.events + r.left < 2 ^ 32 };
+}
+
+impl<'a> RunReader<'a> {
+    /// Records of so many events, of a content that has so many bytes.
+    pub(crate) fn new(progress: Progress, input: Input<'a>, left: u32, len: usize) -> RunReader<'a>
+        requires { progress.events ≡ [] }
+        ensures { result ≡ run_rest progress None left len input.entry.left.now }
+    {
+        RunReader {
+            progress,
+            input,
+            left,
+            len,
+            open: None,
+        }
+    }
+
+    /// Where its memory is taken from.
+    pub(crate) fn allocator(&self) -> Global {
+        self.progress.allocator()
+    }
+
+    /// The next event as `EventReader::next_in` hands it out.
+    #[tactic(auto, using(crate::proofs::RunRest::count_step, crate::proofs::RunRest::count_none))]
+    pub(crate) fn next_in(&mut self, room: Vec<Id>) -> Result<Option<Event>, FileFault>
+        ensures { IsNext result self.old self.new }
+    {
+        if !is_done(&self.open) {
+            let event = next_of(&mut self.open, room)?;
+            return Ok(Some(event));
+        }
+        if self.left == 0 {
+            if let Err(stop) = self.progress.end(&self.input) {
+                return Err(fault_of(stop, self.len));
+            }
+            return Ok(None);
+        }
+        match self
+            .progress
+            .next_run(room, &self.open, self.left, &mut self.input)
+        {
+            Ok(run) => {
+                self.left -= run.ops.count() as u32;
+                let mut rest = run.ops.again();
+                let Some(op) = rest.take_first() else {
+                    unreachable!()
+                };
+                self.open = Some(OpenRun::new(run.id, &run.ops, &rest));
+                Ok(Some(Event {
+                    id: run.id,
+                    parents: run.parents,
+                    op,
+                }))
+            }
+            Err(stop) => Err(fault_of(stop, self.len)),
+        }
+    }
+
+    /// The next operation as `EventReader::go_on` hands it out: that of the next event of the run.
+    pub(crate) fn go_on(&mut self) -> Option<Op>
+        ensures some { IfSome result (λ op. GoesOnBy op self.old self.new) }
+        ensures none { IfNone result (self.new ≡ self.old) }
+    {
+        go_on_in(&mut self.open)
+    }
+}
