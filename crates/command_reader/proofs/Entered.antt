@@ -3,13 +3,11 @@ use Rattle.std.proofs.Common.{◌≡◌, List, Bool, Option, None, Some, codes, 
 use Rattle.std.specs.Option.{option_map}
 use Rattle.std.specs.Str.{bytes_eq}
 use Rattle.clap.specs.Words.{Row, first_of}
+use Rattle.ew_model.proofs.ListPlaces.{some_is}
 use Rattle.command_table.specs.Table.{Text, command_in, does, line_in, serves}
 
 none_is_some : {A : Type 0} (x : A) → Some x ≡ None → ⊥
 none_is_some x same = cc
-
-some_is : {A : Type 0} (x y : A) → Some x ≡ Some y → x ≡ y
-some_is x y same = cc
 
 -- what has this name and these rows is the two of them
 both : {S : Type 0} (name_of : S → Text) (rows_of : S → List Row) (found : Option S) (name : Text) (rows : List Row) → Some name ≡ option_map name_of found

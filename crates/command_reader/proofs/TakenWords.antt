@@ -5,7 +5,7 @@ use Rattle.clap.specs.Words.{Row, Kinds, IsAmong, fault_of, subcommand_of, is_si
 use Rattle.clap.specs.declared.error.kind.ErrorKind.{ErrorKind}
 use Rattle.clap.specs.declared.error.kind.ErrorKind.TheVariants.{OutOfMemory}
 use Rattle.clap.proofs.OnLiterals.{clap_on_literals}
-use Rattle.command_table.specs.Table.{Text, content, past, log, replay, numbers, question, marks, Line, does, serves, edit, show, merge, make, net, line_in, where_none, line_of}
+use Rattle.command_table.specs.Table.{Text, content, past, log, replay, numbers, question, marks, Line, does, serves, edit, show, merge, upgrade, make, net, line_in, where_none, line_of}
 use Rattle.command_table.specs.Cli.{cat_app, edit_app, egw_app, make_app, merge_app}
 use Rattle.command_table.specs.VersionWords.{version_in}
 
@@ -115,6 +115,14 @@ a_question = refl
 the_marks : line_of (codes "marks" ∷ codes "F" ∷ []) ≡ Some (does (show marks (codes "F")))
 unfolding line_of egw_app edit_app cat_app merge_app make_app clap_on_literals
 the_marks = refl
+
+an_upgrade : line_of (codes "upgrade" ∷ codes "F" ∷ []) ≡ Some (does (upgrade (codes "F")))
+unfolding line_of egw_app edit_app cat_app merge_app make_app clap_on_literals
+an_upgrade = refl
+
+an_upgrade_of_two : line_of (codes "upgrade" ∷ codes "F" ∷ codes "G" ∷ []) ≡ None
+unfolding line_of egw_app edit_app cat_app merge_app make_app clap_on_literals
+an_upgrade_of_two = refl
 
 a_session : line_of (codes "serve" ∷ codes "F" ∷ []) ≡ Some (serves (codes "F"))
 unfolding line_of egw_app edit_app cat_app merge_app make_app clap_on_literals

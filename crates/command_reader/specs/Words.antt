@@ -1,5 +1,5 @@
 -- What the words of a command line were read as.
-use Rattle.command_table.specs.Table.{Listing, content, past, head_ids, log, replay, numbers, question, marks, Command, create, edit, show, merge, make, net, Line, does, serves}
+use Rattle.command_table.specs.Table.{Listing, content, past, head_ids, log, replay, numbers, question, marks, Command, create, edit, show, merge, upgrade, make, net, Line, does, serves}
 use Rattle.command_reader.specs.declared.words as words
 use Rattle.command_reader.specs.declared.words.Listing.TheVariants as shown
 use Rattle.command_reader.specs.declared.words.Line.TheVariants as line
@@ -23,6 +23,7 @@ command_view (taken.New name) = create name.now
 command_view (taken.Edit name agent) = edit name.now agent
 command_view (taken.Show listing name) = show (listing_view listing) name.now
 command_view (taken.Merge name other) = merge name.now other.now
+command_view (taken.Upgrade name) = upgrade name.now
 command_view (taken.Make seed count) = make seed count
 command_view taken.Net = net
 

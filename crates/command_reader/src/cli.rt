@@ -6,10 +6,11 @@ ghost use Rattle.command_table.specs.Cli.{bare_app, cat_app, edit_app, egw_app, 
 
 use clap::builder::ValueParser;
 use clap::{Arg, Command};
-use std::alloc::{AllocError, Global};
+use ew_model::NoMem;
+use std::alloc::Global;
 
 /// A command of one file.
-fn file_command<'a>(alloc: Global, name: &'static str) -> Result<Command<'a>, AllocError>
+fn file_command<'a>(alloc: Global, name: &'static str) -> Result<Command<'a>, NoMem>
     ensures app { IfOk result (λ c. app_of c ≡ file_app name.now) }
     ensures local { IfOk result (λ c. (out-Command c).has_globals ≡ false) }
 {
@@ -17,7 +18,7 @@ fn file_command<'a>(alloc: Global, name: &'static str) -> Result<Command<'a>, Al
     Command::new(alloc, name).arg(file)
 }
 
-fn edit_command<'a>(alloc: Global) -> Result<Command<'a>, AllocError>
+fn edit_command<'a>(alloc: Global) -> Result<Command<'a>, NoMem>
     ensures app { IfOk result (λ c. app_of c ≡ edit_app) }
     ensures local { IfOk result (λ c. (out-Command c).has_globals ≡ false) }
 {
@@ -27,7 +28,7 @@ fn edit_command<'a>(alloc: Global) -> Result<Command<'a>, AllocError>
 }
 
 /// The command that shows a text, as a whole or at a version.
-fn cat_command<'a>(alloc: Global) -> Result<Command<'a>, AllocError>
+fn cat_command<'a>(alloc: Global) -> Result<Command<'a>, NoMem>
     ensures app { IfOk result (λ c. app_of c ≡ cat_app) }
     ensures local { IfOk result (λ c. (out-Command c).has_globals ≡ false) }
 {
@@ -37,7 +38,7 @@ fn cat_command<'a>(alloc: Global) -> Result<Command<'a>, AllocError>
 }
 
 /// The command of two files.
-fn merge_command<'a>(alloc: Global) -> Result<Command<'a>, AllocError>
+fn merge_command<'a>(alloc: Global) -> Result<Command<'a>, NoMem>
     ensures app { IfOk result (λ c. app_of c ≡ merge_app) }
     ensures local { IfOk result (λ c. (out-Command c).has_globals ≡ false) }
 {
@@ -72,7 +73,7 @@ fn number_arg<'a>(alloc: Global, name: &'static str, most: u32) -> Arg<'a>
 }
 
 /// The command that makes a history.
-fn make_command<'a>(alloc: Global) -> Result<Command<'a>, AllocError>
+fn make_command<'a>(alloc: Global) -> Result<Command<'a>, NoMem>
     ensures app { IfOk result (λ c. app_of c ≡ make_app) }
     ensures local { IfOk result (λ c. (out-Command c).has_globals ≡ false) }
 {
@@ -95,7 +96,7 @@ fn with_file_command<'a>(
     alloc: Global,
     command: Command<'a>,
     name: &'static str,
-) -> Result<Command<'a>, AllocError>
+) -> Result<Command<'a>, NoMem>
     ensures { IfOk result (λ c. app_of c ≡ then_app (app_of command.entry) (file_app name.now)) }
 {
     let file = file_command(alloc, name)?;
@@ -103,12 +104,12 @@ fn with_file_command<'a>(
 }
 
 /// The commands of one file that have no options.
-const FILE_COMMANDS: [&str; 8] = [
-    "new", "heads", "log", "replay", "check", "ask", "serve", "marks",
+const FILE_COMMANDS: [&str; 9] = [
+    "new", "heads", "log", "replay", "check", "ask", "serve", "marks", "upgrade",
 ];
 
 /// Adds the commands of one file that have no options.
-fn with_file_commands<'a>(alloc: Global, command: Command<'a>) -> Result<Command<'a>, AllocError>
+fn with_file_commands<'a>(alloc: Global, command: Command<'a>) -> Result<Command<'a>, NoMem>
     ensures { IfOk result (λ c. app_of c ≡ with_file_apps (app_of command.entry) file_commands) }
 {
     let mut command = command;
@@ -119,7 +120,7 @@ fn with_file_commands<'a>(alloc: Global, command: Command<'a>) -> Result<Command
 }
 
 /// Adds the command that shows a text.
-fn with_cat<'a>(alloc: Global, command: Command<'a>) -> Result<Command<'a>, AllocError>
+fn with_cat<'a>(alloc: Global, command: Command<'a>) -> Result<Command<'a>, NoMem>
     ensures { IfOk result (λ c. app_of c ≡ then_app (app_of command.entry) cat_app) }
 {
     let cat = cat_command(alloc)?;
@@ -127,7 +128,7 @@ fn with_cat<'a>(alloc: Global, command: Command<'a>) -> Result<Command<'a>, Allo
 }
 
 /// Adds the command that edits a file.
-fn with_edit<'a>(alloc: Global, command: Command<'a>) -> Result<Command<'a>, AllocError>
+fn with_edit<'a>(alloc: Global, command: Command<'a>) -> Result<Command<'a>, NoMem>
     ensures { IfOk result (λ c. app_of c ≡ then_app (app_of command.entry) edit_app) }
 {
     let edit = edit_command(alloc)?;
@@ -135,7 +136,7 @@ fn with_edit<'a>(alloc: Global, command: Command<'a>) -> Result<Command<'a>, All
 }
 
 /// Adds the command of two files.
-fn with_merge<'a>(alloc: Global, command: Command<'a>) -> Result<Command<'a>, AllocError>
+fn with_merge<'a>(alloc: Global, command: Command<'a>) -> Result<Command<'a>, NoMem>
     ensures { IfOk result (λ c. app_of c ≡ then_app (app_of command.entry) merge_app) }
 {
     let merge = merge_command(alloc)?;
@@ -143,7 +144,7 @@ fn with_merge<'a>(alloc: Global, command: Command<'a>) -> Result<Command<'a>, Al
 }
 
 /// Adds the command that makes a history.
-fn with_make<'a>(alloc: Global, command: Command<'a>) -> Result<Command<'a>, AllocError>
+fn with_make<'a>(alloc: Global, command: Command<'a>) -> Result<Command<'a>, NoMem>
     ensures { IfOk result (λ c. app_of c ≡ then_app (app_of command.entry) make_app) }
 {
     let make = make_command(alloc)?;
@@ -151,14 +152,14 @@ fn with_make<'a>(alloc: Global, command: Command<'a>) -> Result<Command<'a>, All
 }
 
 /// Adds the command of a net.
-fn with_net<'a>(alloc: Global, command: Command<'a>) -> Result<Command<'a>, AllocError>
+fn with_net<'a>(alloc: Global, command: Command<'a>) -> Result<Command<'a>, NoMem>
     ensures { IfOk result (λ c. app_of c ≡ then_app (app_of command.entry) net_app) }
 {
     command.subcommand(Command::new(alloc, "net"))
 }
 
 /// The whole command.
-pub fn egw_command<'a>(alloc: Global) -> Result<Command<'a>, AllocError>
+pub fn egw_command<'a>(alloc: Global) -> Result<Command<'a>, NoMem>
     ensures { IfOk result (λ c. app_of c ≡ egw_app) }
 {
     let command = with_file_commands(alloc, bare_command(alloc))?;

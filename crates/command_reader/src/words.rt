@@ -2,17 +2,18 @@
 ghost use Rattle.std.specs.Prelude.{◌≡◌, IfOk, codes, map, string_bytes};
 ghost use Rattle.std.specs.Option.{option_map};
 ghost use Rattle.clap.specs.Words.{first_of, found_of, rows_of, subcommand_rows_of};
-ghost use Rattle.command_table.specs.Table.{cat_line, command_in, create, edit_line, file_line, line_in, line_of, make_line, merge_line, number_up_to, seed_in, show};
+ghost use Rattle.command_table.specs.Table.{cat_line, command_in, create, edit_line, file_line, line_in, line_of, make_line, merge_line, number_up_to, seed_in, show, upgrade};
 ghost use Rattle.command_table.specs.Table as table;
 ghost use Rattle.command_reader.specs.Words.{command_view, line_view, listing_view};
 
 use crate::cli::{MOST_MADE, egw_command};
 use clap::ArgMatches;
 use clap::error::ErrorKind;
+use ew_model::NoMem;
 use ew_model::id::Id;
 use ew_model::name::Name;
 use script_reader::version::{VersionTextFault, read_version};
-use std::alloc::{AllocError, Global};
+use std::alloc::Global;
 
 /// What is shown of a file.
 #[derive(Debug, Drop)]
@@ -42,6 +43,7 @@ pub enum Taken<'a> {
     Edit { file: &'a str, agent: Name },
     Show { listing: Listing, file: &'a str },
     Merge { file: &'a str, other: &'a str },
+    Upgrade(&'a str),
     Make { seed: u64, count: u32 },
     Net,
 }
@@ -78,7 +80,7 @@ fn read_edit<'a>(values: &ArgMatches<'a>) -> Option<Taken<'a>>
 }
 
 /// The text as a whole, or that of a version, where the word is one.
-fn content_at(alloc: Global, word: Option<&str>) -> Result<Option<Listing>, AllocError>
+fn content_at(alloc: Global, word: Option<&str>) -> Result<Option<Listing>, NoMem>
     ensures { IfOk result (λ listing. option_map listing_view listing ≡ table.content_at (option_map (λ w. w.now) word.entry)) }
 {
     let Some(word) = word else {
@@ -87,11 +89,11 @@ fn content_at(alloc: Global, word: Option<&str>) -> Result<Option<Listing>, Allo
     match read_version(alloc, word.as_bytes()) {
         Ok(version) => Ok(Some(Listing::Past(version))),
         Err(VersionTextFault::Unreadable) => Ok(None),
-        Err(VersionTextFault::OutOfMemory) => Err(AllocError),
+        Err(VersionTextFault::OutOfMemory) => Err(NoMem),
     }
 }
 
-fn read_cat<'a>(alloc: Global, values: &ArgMatches<'a>) -> Result<Option<Taken<'a>>, AllocError>
+fn read_cat<'a>(alloc: Global, values: &ArgMatches<'a>) -> Result<Option<Taken<'a>>, NoMem>
     ensures { IfOk result (λ l. option_map command_view l ≡ cat_line (rows_of (found_of values.now))) }
 {
     let Some(file) = value(values, "file") else {
@@ -116,6 +118,13 @@ fn read_merge<'a>(values: &ArgMatches<'a>) -> Option<Taken<'a>>
     let file = value(values, "file")?;
     let other = value(values, "other")?;
     Some(Taken::Merge { file, other })
+}
+
+fn read_upgrade<'a>(values: &ArgMatches<'a>) -> Option<Taken<'a>>
+    ensures { option_map command_view result ≡ file_line upgrade (rows_of (found_of values.now)) }
+{
+    let file = value(values, "file")?;
+    Some(Taken::Upgrade(file))
 }
 
 /// The seed that a word spells.
@@ -149,7 +158,7 @@ fn read_command<'a>(
     alloc: Global,
     name: &str,
     values: &ArgMatches<'a>,
-) -> Result<Option<Taken<'a>>, AllocError>
+) -> Result<Option<Taken<'a>>, NoMem>
     ensures command { IfOk result (λ c. option_map command_view c ≡ command_in name.now (rows_of (found_of values.now))) }
 {
     match name {
@@ -165,6 +174,7 @@ fn read_command<'a>(
         "make" => Ok(read_make(values)),
         "net" => Ok(Some(Taken::Net)),
         "marks" => Ok(read_show(Listing::Marks, values)),
+        "upgrade" => Ok(read_upgrade(values)),
         _ => Ok(None),
     }
 }
@@ -176,7 +186,7 @@ fn read_serve<'a>(values: &ArgMatches<'a>) -> Option<Line<'a>>
     Some(Line::Serves(file))
 }
 
-fn read_matches<'a>(alloc: Global, matches: &ArgMatches<'a>) -> Result<Option<Line<'a>>, AllocError>
+fn read_matches<'a>(alloc: Global, matches: &ArgMatches<'a>) -> Result<Option<Line<'a>>, NoMem>
     ensures { IfOk result (λ l. option_map line_view l ≡ line_in (subcommand_rows_of matches.now)) }
 {
     let Some((name, values)) = matches.subcommand() else {
@@ -192,14 +202,14 @@ fn read_matches<'a>(alloc: Global, matches: &ArgMatches<'a>) -> Result<Option<Li
 }
 
 /// Takes the words, or `None` where `clap` doesn't, the agent is no name or the version isn't in its grammar.
-pub fn read_words<'a>(alloc: Global, words: &'a [String]) -> Result<Option<Line<'a>>, AllocError>
+pub fn read_words<'a>(alloc: Global, words: &'a [String]) -> Result<Option<Line<'a>>, NoMem>
     ensures { IfOk result (λ l. option_map line_view l ≡ line_of (map string_bytes words.now)) }
 {
     let command = egw_command(alloc)?;
     match command.try_get_matches_from(words) {
         Ok(matches) => read_matches(alloc, &matches),
         Err(error) => match error.kind() {
-            ErrorKind::OutOfMemory => Err(AllocError),
+            ErrorKind::OutOfMemory => Err(NoMem),
             _ => Ok(None),
         },
     }

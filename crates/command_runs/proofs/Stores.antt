@@ -17,7 +17,7 @@ use Rattle.command_table.specs.Possible.{MayComeTo, MayNet, MayReplyTo}
 use Rattle.command_table.specs.Reads.{may_store}
 use Rattle.command_table.specs.Scripts.{NetReading, bad_net_line, net_script}
 use Rattle.command_table.specs.Sessions.{Session}
-use Rattle.command_table.specs.Table.{Command, create, edit, show, merge, make, net, Line, does, serves, Listing, Reply, prints, Opened, opened, refused, line_refusal, make_reply, net_refusal, net_run_reply, net_script_reply, opened_as, over_events, show_reply, unknown_in, unless_unknown, listing_text}
+use Rattle.command_table.specs.Table.{Command, create, edit, show, merge, upgrade, make, net, Line, does, serves, Listing, Reply, prints, Opened, opened, refused, line_refusal, make_reply, net_refusal, net_run_reply, net_script_reply, opened_as, over_events, show_reply, unknown_in, unless_unknown, listing_text}
 
 module _ (limits : LimitNumbers) (n : ℕ) where
   unless_stores : (o : Option Id) (out : List ℕ) → stored_by (unless_unknown o (prints out)) n ≡ n
@@ -62,6 +62,7 @@ module _ (limits : LimitNumbers) (n : ℕ) where
   command_stores (edit name agent) reply only may = absurd (false≢true (sym only))
   command_stores (show listing name) reply only may = ap (λ r. stored_by r n) may.1 ∙ show_stores listing (opened_as name limits may.0)
   command_stores (merge name other) reply only may = absurd (false≢true (sym only))
+  command_stores (upgrade name) reply only may = absurd (false≢true (sym only))
   command_stores (make seed count) reply only may = ap (λ r. stored_by r n) may ∙ make_stores (made limits seed count)
   command_stores net reply only may = net_stores reply may
 

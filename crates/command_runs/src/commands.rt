@@ -16,7 +16,7 @@ ghost use Rattle.command_runs.specs.Listings.{Shows};
 
 use command_reader::words::Listing;
 use command_texts::refusal::Refusal;
-use event_file::encode;
+use event_file::encode_runs;
 use ew_model::NoMem;
 use ew_model::id::Id;
 use ew_model::limits::Limits;
@@ -27,7 +27,7 @@ use opened_files::load::{Loaded, load_whole};
 use opened_files::open::{Found, open};
 use opened_files::reply::Reply;
 use peer_exchange::ask;
-use peer_frames::encode as encode_frame;
+use peer_frames::encode;
 use replica::{Replica, VersionFault};
 use std::alloc::Global;
 use std::sync::ledger::Ledger;
@@ -49,7 +49,7 @@ fn question_bytes(alloc: Global, replica: &Replica) -> Result<Vec<u8>, NoMem>
     ensures { IfOk result (λ bytes. bytes.items ≡ listing_text question replica.now.held) }
 {
     let question = ask(replica)?;
-    encode_frame(alloc, &question)
+    encode(alloc, &question)
 }
 
 /// What is shown of a replica, or the first id of a version that isn't held.
@@ -153,7 +153,7 @@ pub fn create<H: Shelf>(alloc: Global, name: &str, shelf: &mut H) -> Result<Repl
         Loaded::Missing => Ok(Reply::Stores {
             out: Vec::new(alloc),
             name: String::from_str(alloc, name)?,
-            bytes: encode(alloc, &[])?,
+            bytes: encode_runs(alloc, &[])?,
         }),
         _ => Ok(Reply::Refuses(Refusal::FileThere(String::from_str(alloc, name)?))),
     }

@@ -6,9 +6,10 @@ ghost use Rattle.ew_outside.specs.Counts.{IsQuiet};
 ghost use Rattle.ew_outside.specs.Outputs.{Tells};
 
 use command_texts::refusal::Refusal;
+use ew_model::NoMem;
 use ew_outside::{Failed, Fault, Shelf, Sink, write_and_flush};
 use opened_files::reply::Reply;
-use std::alloc::{AllocError, Global};
+use std::alloc::Global;
 
 /// A refused line, as it is told.
 #[derive(Debug, Drop)]
@@ -39,7 +40,7 @@ fn refuse(alloc: Global, why: &Refusal) -> Ending
             status: why.status(),
             text,
         })),
-        Err(AllocError) => Err(Fault::OutOfMemory),
+        Err(NoMem) => Err(Fault::OutOfMemory),
     }
 }
 

@@ -23,6 +23,7 @@ use ew_outside::{Fault, Shelf, Sink, Source};
 use line_plans::edit::edit;
 use line_plans::merge::merge;
 use line_plans::net::net;
+use line_plans::upgrade::upgrade;
 use opened_files::reply::Reply;
 use serve_plans::serve::serve;
 use std::alloc::Global;
@@ -137,6 +138,7 @@ fn plan_unread<H: Shelf, L: Ledger>(
         Taken::New(name) => create(alloc, name, shelf),
         Taken::Show { listing, file } => show(alloc, listing, file, limits, shelf, steps),
         Taken::Merge { file, other } => merge(alloc, file, other, limits, shelf, steps),
+        Taken::Upgrade(file) => upgrade(alloc, file, limits, shelf, steps),
         Taken::Make { seed, count } => make_history(alloc, limits, seed, count, steps),
         Taken::Edit { .. } | Taken::Net => unreachable!(),
     }

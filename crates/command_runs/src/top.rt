@@ -10,10 +10,11 @@ ghost use Rattle.command_runs.specs.LineTouches.{LineTakes};
 use crate::ending::{carry_out, tell};
 use crate::plan::plan;
 use command_reader::words::{Line, read_words};
+use ew_model::NoMem;
 use ew_model::limits::Limits;
 use ew_model::steps::Steps;
 use ew_outside::{Fault, Shelf, Sink, Source};
-use std::alloc::{AllocError, Global};
+use std::alloc::Global;
 use std::sync::ledger::Ledger;
 
 /// Runs a line, or answers the usage where there is none.
@@ -53,7 +54,7 @@ pub fn run<H: Shelf, S: Source, K: Sink, E: Sink, L: Ledger>(
     ensures most { LineTakes (line_of (map string_bytes words.now)) limits.now (H.seen shelf.old).files (S.seen input.old).left steps.old steps.new }
 {
     match read_words(alloc, words) {
-        Err(AllocError) => tell(Err(Fault::OutOfMemory), err),
+        Err(NoMem) => tell(Err(Fault::OutOfMemory), err),
         Ok(line) => run_line(alloc, line, limits, shelf, input, out, err, steps),
     }
 }

@@ -70,7 +70,7 @@ then_app app more = with_subcommand app more.top
 
 -- the commands of one file that have no options
 abbrev pub file_commands : List (List ℕ)
-file_commands = codes "new" ∷ codes "heads" ∷ codes "log" ∷ codes "replay" ∷ codes "check" ∷ codes "ask" ∷ codes "serve" ∷ codes "marks" ∷ []
+file_commands = codes "new" ∷ codes "heads" ∷ codes "log" ∷ codes "replay" ∷ codes "check" ∷ codes "ask" ∷ codes "serve" ∷ codes "marks" ∷ codes "upgrade" ∷ []
 
 -- the program with a command of one file for each name
 abbrev pub with_file_apps : App → List (List ℕ) → App
@@ -83,4 +83,4 @@ egw_app = then_app (then_app (then_app (then_app (then_app (with_file_apps bare_
 
 -- the usage: a line for each command
 abbrev pub usage : List ℕ
-usage = codes "usage: egw new FILE\n       egw edit FILE --agent NAME\n       egw cat FILE [--at VERSION]\n       egw heads FILE\n       egw log FILE\n       egw replay FILE\n       egw check FILE\n       egw merge FILE OTHER\n       egw ask FILE\n       egw serve FILE\n       egw net\n       egw make --seed N --count N\n       egw marks FILE\n"
+usage = codes "usage: egw new FILE\n       egw edit FILE --agent NAME\n       egw cat FILE [--at VERSION]\n       egw heads FILE\n       egw log FILE\n       egw replay FILE\n       egw check FILE\n       egw merge FILE OTHER\n       egw ask FILE\n       egw serve FILE\n       egw net\n       egw make --seed N --count N\n       egw marks FILE\n       egw upgrade FILE\n"

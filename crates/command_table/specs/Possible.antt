@@ -8,7 +8,7 @@ use Rattle.command_table.specs.Scripts.{Reading, Means, NetReading, MeansNet}
 use Rattle.command_table.specs.Refusals.{not_taken, input_too_long}
 use Rattle.command_table.specs.Framings.{Framing, IsFramingOf}
 use Rattle.command_table.specs.Sessions.{Session, closed_by, served_as}
-use Rattle.command_table.specs.Table.{Text, Line, does, serves, Command, create, edit, show, merge, make, net, Reply, refuses, Opened, opened, refused, opened_as, create_reply, show_reply, merge_reply, make_reply, over_events, over_both, script_reply, net_script_reply}
+use Rattle.command_table.specs.Table.{Text, Line, does, serves, Command, create, edit, show, merge, upgrade, make, net, Reply, refuses, Opened, opened, refused, opened_as, create_reply, show_reply, merge_reply, upgrade_reply, make_reply, over_events, over_both, script_reply, net_script_reply}
 
 -- a file that was loaded whole is of bytes, at most so many; one that is missing or too long is any
 abbrev pub KeepsTo : ℕ → File → Type 0
@@ -40,6 +40,7 @@ MayReplyTo (show listing name) limits reply = (file : File) × (reply ≡ over_e
 MayReplyTo (merge name other) limits reply =
     (file : File) × (second : File) × (reply ≡ over_both (merge_reply name limits) (opened_as name limits file) (opened_as other limits second))
     × KeepsTo (most_file_bytes limits.events) file × KeepsTo (most_file_bytes limits.events) second
+MayReplyTo (upgrade name) limits reply = (file : File) × (reply ≡ upgrade_reply name limits file) × KeepsTo (most_file_bytes limits.events) file
 MayReplyTo (make seed count) limits reply = reply ≡ make_reply limits (made limits seed count)
 MayReplyTo net limits reply = MayNet limits reply
 

@@ -2,7 +2,7 @@
 use Rattle.std.specs.Prelude.{◌≡◌, ◌≤◌, ◌+◌, ℕ, Bool, true, false, suc, List, [], ◌∷◌, ◌++◌, length, take, drop, flat_map, nat_lt, Option, None, Some, if◌then◌else◌}
 use Rattle.std.specs.Io.KnownBytes.{Appends}
 use Rattle.ew_model.specs.declared.event.Event.{Event}
-use Rattle.file_words.specs.File.{file_of}
+use Rattle.file_words.specs.FileRuns.{file2_of}
 use Rattle.ew_model.specs.Kept.{ReplicaState}
 use Rattle.ew_model.specs.Limits.{LimitNumbers}
 use Rattle.ew_outside.specs.Files.{Files}
@@ -52,7 +52,7 @@ closed_by reply = record { sent = []; closing = reply }
 
 -- a history with more events than were held before is stored, and then these bytes are printed; else they are printed alone
 abbrev pub closed_reply : Text → ℕ → List ℕ → List Event → Reply
-closed_reply name held_before out events = if nat_lt held_before (length events) then stores out name (file_of events) else prints out
+closed_reply name held_before out events = if nat_lt held_before (length events) then stores out name (file2_of events) else prints out
 
 -- no bytes are left, or the next frame is cut
 abbrev pub refusal_at_end : List ℕ → ℕ → Option Reply

@@ -1,5 +1,5 @@
 -- The command table: what a command line answers over a map of files and an input.
-use Rattle.std.specs.Prelude.{ℕ, pos, ◌-◌, Bool, true, false, List, [], ◌∷◌, length, find, Option, None, Some, option_and_then, if◌then◌else◌, nat_lt, codes, encode_utf8_all}
+use Rattle.std.specs.Prelude.{ℕ, pos, ◌-◌, Bool, true, false, List, [], ◌∷◌, length, find, Option, None, Some, option_and_then, if◌then◌else◌, nat_lt, ◌==◌, codes, encode_utf8_all}
 use Rattle.std.specs.List.{list_any}
 use Rattle.std.specs.Option.{option_map}
 use Rattle.std.specs.Str.{bytes_eq}
@@ -19,9 +19,10 @@ use Rattle.ew_model.specs.Edits.EditRefusal.{OutOfRange, TooManyHeads, Full}
 use Rattle.ew_model.specs.Verdicts.{BadEvent, first_bad, first_unknown}
 use Rattle.ew_model.specs.Arrival.{Outcome, arrive}
 use Rattle.ew_model.specs.Cuts.{latest_cut}
-use Rattle.file_words.specs.File.{file_of}
-use Rattle.file_words.specs.FileFaults.{FileFinding, file_finding}
+use Rattle.file_words.specs.FileFaults.{FileFinding}
 use Rattle.file_words.specs.FileFaults.FileFinding.{IsFile, Short, BadMagic, BadVersion, BadDigest, BadRecord, TooMany}
+use Rattle.file_words.specs.FileRuns.{file2_of}
+use Rattle.file_words.specs.FileVersions.{file_found, version_of}
 use Rattle.ew_outside.specs.Files.{Files}
 use Rattle.history_definitions.specs.Summary.{summary_of}
 use Rattle.peer_definitions.specs.declared.frame.Frame.TheVariants.{Have}
@@ -41,7 +42,7 @@ use Rattle.command_table.specs.Cli.{egw_app, most_made, most_seed}
 use Rattle.command_table.specs.Loads.{File, missing, too_long, whole, whole_of}
 use Rattle.command_table.specs.VersionWords.{version_in}
 use Rattle.command_table.specs.Scripts.{Reading, Means, script, bad_line, NetReading, MeansNet, net_script, bad_net_line, Edited, ran, stopped_at, edited_by}
-use Rattle.command_table.specs.Text.{made_text, received_text}
+use Rattle.command_table.specs.Text.{made_text, received_text, upgraded_text}
 use Rattle.command_table.specs.Refusals.{Refusal, refusal_status, refusal_text, not_taken, no_file, file_there, short_file, no_event_file, unknown_version, bad_digest, bad_field, bad_event, unreadable, line_out_of_range, out_of_range, no_peer, peer_there, no_packet, unknown, clash, file_too_long, file_too_many, input_too_long, too_many_events, too_many_heads}
 
 -- a word of a command line, in bytes
@@ -65,6 +66,7 @@ pub data Command : Type 0 where
   edit : (file agent : Text) → Command
   show : (listing : Listing) (file : Text) → Command
   merge : (file other : Text) → Command
+  upgrade : (file : Text) → Command
   make : (seed count : ℕ) → Command
   net : Command
 
@@ -128,7 +130,8 @@ command_in name rows =
     else (if bytes_eq name (codes "ask") then file_line (show question) rows
     else (if bytes_eq name (codes "make") then make_line rows
     else (if bytes_eq name (codes "net") then Some net
-    else (if bytes_eq name (codes "marks") then file_line (show marks) rows else None)))))))))))
+    else (if bytes_eq name (codes "marks") then file_line (show marks) rows
+    else (if bytes_eq name (codes "upgrade") then file_line upgrade rows else None))))))))))))
 
 -- the line of what `clap` finds in the words
 abbrev pub line_in : Option (Text × List Row) → Option Line
@@ -175,7 +178,7 @@ read_as name limits (TooMany count) = refused (file_too_many name limits.events)
 abbrev pub opened_as : Text → LimitNumbers → File → Opened
 opened_as name limits missing = refused (no_file name)
 opened_as name limits too_long = refused (file_too_long name (most_file_bytes limits.events))
-opened_as name limits (whole bytes) = read_as name limits (file_finding limits.events bytes)
+opened_as name limits (whole bytes) = read_as name limits (file_found limits.events bytes)
 
 -- the file of a name, opened
 abbrev pub open_file : Text → LimitNumbers → Files → Opened
@@ -213,13 +216,13 @@ show_reply listing events = unless_unknown (unknown_in listing events) (prints (
 
 -- an empty history is stored, unless the file is there
 abbrev pub create_reply : Text → File → Reply
-create_reply name missing = stores [] name (file_of [])
+create_reply name missing = stores [] name (file2_of [])
 create_reply name found = refuses (file_there name)
 
 -- a history with more events is stored, and their number printed
 abbrev pub made_reply : Text → ℕ → List Event → Reply
 made_reply name old events =
-    if nat_lt old (length events) then stores (made_text (length events - old)) name (file_of events) else prints (made_text 0)
+    if nat_lt old (length events) then stores (made_text (length events - old)) name (file2_of events) else prints (made_text 0)
 
 -- why a line of a script is refused
 abbrev pub line_refusal : LimitNumbers → ℕ → EditRefusal → Reply
@@ -261,7 +264,7 @@ unless_refused limits refusals reply =
 
 -- a history to which events were appended is stored
 abbrev pub received_reply : Text → List Event → ℕ → List ℕ → Reply
-received_reply name events accepted text = if nat_lt 0 accepted then stores text name (file_of events) else prints text
+received_reply name events accepted text = if nat_lt 0 accepted then stores text name (file2_of events) else prints text
 
 -- what receiving came to, told by the answers
 abbrev pub outcome_text : ℕ → Outcome → List ℕ
@@ -280,6 +283,22 @@ merge_reply name limits events others = outcome_reply name limits (length events
 -- a command over the events of two files, of which the first is opened first
 abbrev pub over_both : (List Event → List Event → Reply) → Opened → Opened → Reply
 over_both reply file other = over_events (λ events. over_events (reply events) other) file
+
+-- the version that the bytes of a file name; bytes that aren't loaded name none
+abbrev pub named_version : File → Option ℕ
+named_version (whole bytes) = version_of bytes
+named_version file = None
+
+-- the version that events were read of is told with their number, and where it is 1, their file of version 2 is stored; bytes that
+-- name no version are no event file
+abbrev pub upgraded_reply : Text → List Event → Option ℕ → Reply
+upgraded_reply name events (Some version) =
+    if version == 1 then stores (upgraded_text version (length events)) name (file2_of events) else prints (upgraded_text version (length events))
+upgraded_reply name events None = refuses (no_event_file name)
+
+-- a file is upgraded from the version that its bytes name
+abbrev pub upgrade_reply : Text → LimitNumbers → File → Reply
+upgrade_reply name limits file = over_events (λ events. upgraded_reply name events (named_version file)) (opened_as name limits file)
 
 -- why the making of a history stopped
 abbrev pub stop_reply : LimitNumbers → EditRefusal → Reply
@@ -325,6 +344,7 @@ MeansTo (create name) input reading = Means input reading
 MeansTo (edit name agent) input reading = Means input reading
 MeansTo (show listing name) input reading = Means input reading
 MeansTo (merge name other) input reading = Means input reading
+MeansTo (upgrade name) input reading = Means input reading
 MeansTo (make seed count) input reading = Means input reading
 
 -- what a command does over files and an input, and what the input means
@@ -333,6 +353,7 @@ reply_to (create name) limits files input reading = create_reply name (whole_of 
 reply_to (edit name agent) limits files input reading = over_events (input_reply name agent limits input reading) (open_file name limits files)
 reply_to (show listing name) limits files input reading = over_events (show_reply listing) (open_file name limits files)
 reply_to (merge name other) limits files input reading = over_both (merge_reply name limits) (open_file name limits files) (open_file other limits files)
+reply_to (upgrade name) limits files input reading = upgrade_reply name limits (whole_of (most_file_bytes limits.events) (get files name))
 reply_to (make seed count) limits files input reading = make_reply limits (made limits seed count)
 reply_to net limits files input reading = net_reply limits input reading
 

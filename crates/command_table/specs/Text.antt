@@ -1,10 +1,10 @@
--- Words in refusals, the two lines that tell of success, and what is told where an object failed or memory ran out.
+-- Words in refusals, the three lines that tell of success, and what is told where an object failed or memory ran out.
 use Rattle.std.specs.Prelude.{ℕ, List, ◌++◌, codes}
 use Rattle.std.specs.Fmt.{decimal}
 use Rattle.ew_model.specs.Verdicts.{Ruling}
 use Rattle.ew_model.specs.Verdicts.Ruling.{Repeat, Clash, SelfParent, TooManyParents, ParentsUnsorted, Unknown, PoolFull, NotReduced, Skipped, GraphFull, OutOfRange, Good}
 use Rattle.file_words.specs.FileFaults.{RecordFault}
-use Rattle.file_words.specs.FileFaults.RecordFault.{Cut, NameBad, NameTwice, AgentNumber, IdTwice, ParentCount, ParentPosition, ParentOrder, KindBad, Scalar, Trailing, UnusedAgent}
+use Rattle.file_words.specs.FileFaults.RecordFault.{Cut, NameBad, NameTwice, AgentNumber, IdTwice, ParentCount, ParentPosition, ParentOrder, KindBad, RunJoin, RunLength, Scalar, Trailing, UnusedAgent}
 
 -- what is wrong with a field, in words
 abbrev pub field_words : RecordFault → List ℕ
@@ -17,6 +17,8 @@ field_words ParentCount = codes "parent count"
 field_words ParentPosition = codes "parent position"
 field_words ParentOrder = codes "parent order"
 field_words KindBad = codes "kind"
+field_words RunJoin = codes "run join"
+field_words RunLength = codes "run length"
 field_words Scalar = codes "scalar"
 field_words Trailing = codes "trailing bytes"
 field_words UnusedAgent = codes "unused agent"
@@ -46,6 +48,10 @@ abbrev pub received_text : ℕ → ℕ → ℕ → ℕ → ℕ → List ℕ
 received_text accepted waiting repeats refused cut =
     codes "accepted "
     ++ (decimal accepted ++ (codes " waiting " ++ (decimal waiting ++ (codes " repeats " ++ (decimal repeats ++ (codes " refused " ++ (decimal refused ++ (codes " cut " ++ (decimal cut ++ codes "\n")))))))))
+
+-- which version of the event file was read, and of how many events
+abbrev pub upgraded_text : ℕ → ℕ → List ℕ
+upgraded_text version count = codes "version " ++ (decimal version ++ (codes " events " ++ (decimal count ++ codes "\n")))
 
 -- told where the shelf failed
 abbrev pub shelf_failed : List ℕ

@@ -7,14 +7,15 @@ ghost use Rattle.command_table.specs.Text.{field_words, verdict_words};
 ghost use Rattle.command_texts.specs.Reasons.{refusal_view};
 
 use event_file::RecordFault;
+use ew_model::NoMem;
 use ew_model::id::Id;
 use ew_model::name::Name;
 use ew_model::verdict::Verdict;
-use std::alloc::{AllocError, Global};
+use std::alloc::Global;
 
 // A line for each command.
 const USAGE: &str =
-    "usage: egw new FILE\n       egw edit FILE --agent NAME\n       egw cat FILE [--at VERSION]\n       egw heads FILE\n       egw log FILE\n       egw replay FILE\n       egw check FILE\n       egw merge FILE OTHER\n       egw ask FILE\n       egw serve FILE\n       egw net\n       egw make --seed N --count N\n       egw marks FILE\n";
+    "usage: egw new FILE\n       egw edit FILE --agent NAME\n       egw cat FILE [--at VERSION]\n       egw heads FILE\n       egw log FILE\n       egw replay FILE\n       egw check FILE\n       egw merge FILE OTHER\n       egw ask FILE\n       egw serve FILE\n       egw net\n       egw make --seed N --count N\n       egw marks FILE\n       egw upgrade FILE\n";
 
 /// Why a line is refused. Lines and frames are counted from 1; a name is told as it was given.
 #[derive(Debug, Drop)]
@@ -162,14 +163,14 @@ impl Refusal {
     }
 
     /// What is told of it: one line, or the usage.
-    pub fn text(&self, alloc: Global) -> Result<Vec<u8>, AllocError>
+    pub fn text(&self, alloc: Global) -> Result<Vec<u8>, NoMem>
         ensures { IfOk result (λ t. t.items ≡ refusal_text (refusal_view self.now)) }
     {
         let text = self.line(alloc)?;
         Ok(text.into_bytes())
     }
 
-    fn line(&self, alloc: Global) -> Result<String, AllocError>
+    fn line(&self, alloc: Global) -> Result<String, NoMem>
         ensures { IfOk result (λ t. string_bytes t ≡ refusal_text (refusal_view self.now)) }
     {
         match self {
@@ -238,7 +239,7 @@ impl Refusal {
     }
 }
 
-fn digest_line(alloc: Global, name: &str, stored: &[u8], found: &[u8]) -> Result<String, AllocError>
+fn digest_line(alloc: Global, name: &str, stored: &[u8], found: &[u8]) -> Result<String, NoMem>
     ensures { IfOk result (λ t. string_bytes t ≡ refusal_text (bad_digest name.now stored.now found.now)) }
 {
     let stored = hex::encode(alloc, stored)?;
@@ -246,26 +247,21 @@ fn digest_line(alloc: Global, name: &str, stored: &[u8], found: &[u8]) -> Result
     format!(in alloc; "egw: {name}: digest {stored}, found {found}\n")
 }
 
-fn event_line(
-    alloc: Global,
-    name: &str,
-    position: u32,
-    verdict: Verdict,
-) -> Result<String, AllocError>
+fn event_line(alloc: Global, name: &str, position: u32, verdict: Verdict) -> Result<String, NoMem>
     ensures { IfOk result (λ t. string_bytes t ≡ refusal_text (bad_event name.now position (ruling_of verdict))) }
 {
     let words = words_of_verdict(alloc, verdict)?;
     format!(in alloc; "egw: {name}: event {position}: {words}\n")
 }
 
-fn unknown_line(alloc: Global, id: &Id) -> Result<String, AllocError>
+fn unknown_line(alloc: Global, id: &Id) -> Result<String, NoMem>
     ensures { IfOk result (λ t. string_bytes t ≡ refusal_text (unknown id.now)) }
 {
     let Id { agent, seq } = id;
     format!(in alloc; "egw: unknown {agent}:{seq}\n")
 }
 
-fn clash_line(alloc: Global, id: &Id) -> Result<String, AllocError>
+fn clash_line(alloc: Global, id: &Id) -> Result<String, NoMem>
     ensures { IfOk result (λ t. string_bytes t ≡ refusal_text (clash id.now)) }
 {
     let Id { agent, seq } = id;
@@ -286,6 +282,8 @@ fn words_of_field(kind: RecordFault) -> &'static str
         RecordFault::ParentPosition => "parent position",
         RecordFault::ParentOrder => "parent order",
         RecordFault::KindBad => "kind",
+        RecordFault::RunJoin => "run join",
+        RecordFault::RunLength => "run length",
         RecordFault::Scalar => "scalar",
         RecordFault::Trailing => "trailing bytes",
         RecordFault::UnusedAgent => "unused agent",
@@ -293,7 +291,7 @@ fn words_of_field(kind: RecordFault) -> &'static str
 }
 
 /// Why an event isn't good, in words.
-fn words_of_verdict(alloc: Global, verdict: Verdict) -> Result<String, AllocError>
+fn words_of_verdict(alloc: Global, verdict: Verdict) -> Result<String, NoMem>
     ensures { IfOk result (λ t. string_bytes t ≡ verdict_words (ruling_of verdict)) }
 {
     match verdict {

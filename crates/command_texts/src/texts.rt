@@ -1,21 +1,30 @@
-//! The lines that the program prints of an edit and of a merge. Each ends with a newline. The only error is that memory ran out.
+//! The lines that the program prints of an edit, of a merge and of an upgrade. Each ends with a newline. The only error is that memory ran out.
 ghost use Rattle.std.specs.Prelude.{◌≡◌, IfOk};
 ghost use Rattle.command_table.specs.Text;
 ghost use Rattle.command_texts.specs.Told.{took_text};
 
+use ew_model::NoMem;
 use replica::Took;
-use std::alloc::{AllocError, Global};
+use std::alloc::Global;
 
 /// How many events an edit made.
-pub fn made_text(alloc: Global, made: u64) -> Result<Vec<u8>, AllocError>
+pub fn made_text(alloc: Global, made: u64) -> Result<Vec<u8>, NoMem>
     ensures { IfOk result (λ t. t.items ≡ Text.made_text made) }
 {
     let text = format!(in alloc; "made {made}\n")?;
     Ok(text.into_bytes())
 }
 
+/// Which version of the event file was read, and of how many events.
+pub fn upgraded_text(alloc: Global, version: u8, count: u32) -> Result<Vec<u8>, NoMem>
+    ensures { IfOk result (λ t. t.items ≡ Text.upgraded_text version count) }
+{
+    let text = format!(in alloc; "version {version} events {count}\n")?;
+    Ok(text.into_bytes())
+}
+
 /// What was answered to received events.
-pub fn received_text(alloc: Global, took: &Took) -> Result<Vec<u8>, AllocError>
+pub fn received_text(alloc: Global, took: &Took) -> Result<Vec<u8>, NoMem>
     ensures { IfOk result (λ t. t.items ≡ took_text took.now) }
 {
     let Took {

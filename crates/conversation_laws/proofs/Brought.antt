@@ -1,22 +1,17 @@
 -- A conversation brings what the other file has.
 use Rattle.std.proofs.Common.{◌≡◌, ℕ, ◌+◌, ◌≤◌, ◌<◌, ◌^◌, Bool, true, false, if◌then◌else◌, nat_lt, ⊎_elim, List, [], ◌∷◌, ◌++◌, map, length, flat_map, Some, None, refl, sym, ap, ◌∙◌, subst, arith, append-nil, append_assoc}
 use Rattle.std.specs.List.{AllByRecursion}
-use Rattle.std.specs.FinMap.{get, insert, get-insert}
 use Rattle.std.proofs.lemmas.Bool.Decides.{nat_tests}
-use Rattle.std.proofs.lemmas.Cmp.{nat_list_cmp_total}
 use Rattle.std.proofs.lemmas.List.{length-append}
 use Rattle.std.proofs.lemmas.List.Concat.{flat_map-append}
 use Rattle.ew_model.specs.declared.event.Event.{Event}
-use Rattle.file_words.specs.File.{file_of}
-use Rattle.ew_model.specs.Limits.{LimitNumbers, AreLimits, most_file_bytes}
+use Rattle.file_words.specs.FileRuns.{file2_of}
+use Rattle.ew_model.specs.Limits.{LimitNumbers, AreLimits}
 use Rattle.ew_model.specs.Sound.{IsSound, AreSound}
 use Rattle.ew_model.specs.Verdicts.{IsGood, IsGoodAfter}
 use Rattle.ew_model.proofs.EntryLaws.{all_joined}
-use Rattle.ew_model.proofs.FirstBadLaws.{good_has_no_bad}
-use Rattle.ew_model.proofs.IdLaws.{names_equal}
 use Rattle.ew_model.proofs.SetLaws.{among_joined, among_filter}
 use Rattle.ew_model.proofs.SortingLaws.{all_at, all_filter, all_from}
-use Rattle.ew_model.proofs.WritableLaws.{good_is_writable}
 use Rattle.ew_outside.specs.Files.{Files}
 use Rattle.history_definitions.specs.Missing.{missing}
 use Rattle.history_definitions.specs.Summary.{summary_of}
@@ -37,8 +32,7 @@ use Rattle.command_table.specs.Scripts.{Reading}
 use Rattle.command_table.specs.Sessions.{Exchange, Session, bytes_of, closed_reply, exchanged, opened_state, or_closed, served, served_as, served_by, served_from, session_answer}
 use Rattle.command_table.specs.Table.{Text, Answer, Reply, Opened, opened, open_file, over_events, prints, question, refuses, show, show_reply, stores, answer_of}
 use Rattle.command_table.specs.Refusals.{input_too_long}
-use Rattle.table_laws.proofs.FileSizes.{file_length}
-use Rattle.table_laws.proofs.MergedFiles.{IsStorable, Opens, opened_is, opens, read_again, status_in, storable, not_longer}
+use Rattle.table_laws.proofs.MergedFiles.{IsStorable, Opens, opened_is, opens, status_in, storable, stored_opens, not_longer}
 use Rattle.arrival_laws.proofs.Answered.{each_swapped}
 use Rattle.replica.proofs.Beginnings.{good_from_none_bad}
 use Rattle.conversation_laws.specs.Conversations.{CanBeOne, ConversationsBring, IsBrought, IsConversation}
@@ -59,20 +53,6 @@ opens_of name limits files events e =
 pub opened_good : (name : Text) (limits : LimitNumbers) (files : Files) (events : List Event) → open_file name limits files ≡ opened events → IsGood events
 opened_good name limits files events e = good_from_none_bad events (opens_of name limits files events e).good
 
--- events that were stored are opened
-stored_opens : (limits : LimitNumbers) (files : Files) (name : Text) (events : List Event) → AreLimits limits → IsGood events → IsStorable limits events
-    → open_file name limits (insert files name (file_of events)) ≡ opened events
-stored_opens limits files name events numbers good one =
-    let few : length events < 2 ^ 32 = omega (arith, one.few, numbers.few_events) in
-    let size = file_length events one.sound (good_is_writable events good few) in
-    opened_is name limits (insert files name (file_of events)) events (record {
-      bytes = file_of events;
-      here = get-insert nat_list_cmp_total files name (file_of events) name ∙ ap (λ (b : Bool). if b then Some (file_of events) else get files name) (names_equal.refl name);
-      short = not_longer (most_file_bytes limits.events) (length (file_of events)) (omega (arith, size, one.few));
-      read = read_again limits events numbers good one;
-      good = (good_has_no_bad events).0 good;
-    })
-
 -- ---- what is said
 
 asked_so : (limits : LimitNumbers) (files : Files) (name : Text) (events : List Event) (input : List ℕ) (reading : Reading) → open_file name limits files ≡ opened events
@@ -90,7 +70,7 @@ answered_so limits files name events input counts f e same short =
     let said : List ℕ = bytes_of (replies limits events counts) in
     let close = λ (b c : Bool). session_answer (record {
       sent = said ++ [];
-      closing = or_closed (if b then Some (refuses (input_too_long limits.input)) else None) (if c then stores [] name (file_of events) else prints []);
+      closing = or_closed (if b then Some (refuses (input_too_long limits.input)) else None) (if c then stores [] name (file2_of events) else prints []);
     }) files in
     ap (λ (o : Opened). session_answer (served_as name limits input f o) files) e
     ∙ ap (λ (g : Framing). session_answer (served_from name limits input g events) files) same
@@ -109,7 +89,7 @@ closed_so limits name input f before t now talk =
 -- ---- what is left
 
 abbrev left_by : Bool → List ℕ → Text → List ℕ → List Event → Files → Answer
-left_by b sent name out now files = session_answer (record { sent = sent; closing = if b then stores out name (file_of now) else prints out }) files
+left_by b sent name out now files = session_answer (record { sent = sent; closing = if b then stores out name (file2_of now) else prints out }) files
 
 goes_well : (b : Bool) (sent : List ℕ) (name : Text) (out : List ℕ) (now : List Event) (files : Files) → (left_by b sent name out now files).status ≡ 0
 goes_well true sent name out now files = refl

@@ -26,19 +26,10 @@ use Rattle.peer_definitions.specs.Answering.{Answered, first_clash, told_of}
 use Rattle.peer_definitions.specs.declared.end.End.{End}
 use Rattle.peer_definitions.specs.declared.end.End.TheVariants as end
 use Rattle.command_table.specs.Sessions.{Exchange, bytes_of, exchanged, opened_state, then_exchanged}
+use Rattle.arrival_laws.proofs.FirstRows.{not_full, row_off}
 use Rattle.conversation_laws.proofs.GoodBehind.{good_parted}
 
 -- ---- one list of events
-
--- a row that doesn't hold
-row_off : (rows : List (Option Ruling)) (b : Bool) (q : Ruling) (more : List (Option Ruling)) → b ≡ false → first_row (rows ++ then_some b q ∷ more) ≡ first_row (rows ++ more)
-row_off rows true q more h = absurd (false≢true (sym h))
-row_off [] false q more h = refl
-row_off (None ∷ rows) false q more h = row_off rows false q more h
-row_off (Some p ∷ rows) false q more h = refl
-
-not_full : (most n : ℕ) → n < most → nat_le most n ≡ false
-not_full most n h = grind (arith, nat_tests)
 
 -- an event that is good is answered so, where there is room
 good_row : (limits : LimitNumbers) (held : List Event) (x : Event) → next_verdict held x ≡ Good → length held < limits.events

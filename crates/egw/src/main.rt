@@ -2,9 +2,9 @@
 #![tactic(auto)]
 
 use command_runs::start::{end_starved, run_process};
+use ew_model::NoMem;
 use ew_model::limits::Limits;
 use ew_outside::{DirShelf, StdSink, StdSource};
-use std::alloc::AllocError;
 use std::env;
 use std::io::ErrorKind;
 use std::marker::Brand;
@@ -12,7 +12,7 @@ use std::process::ExitCode;
 use std::sync::ledger::Blank;
 
 /// The words behind the program's name. Words that can't be read, as one that isn't UTF-8, are no words.
-fn read_arguments(rt: &HostRuntime) -> Result<Vec<String>, AllocError> {
+fn read_arguments(rt: &HostRuntime) -> Result<Vec<String>, NoMem> {
     let mut words = Vec::new(rt.alloc());
     match env::args(rt) {
         Ok(args) => {
@@ -20,7 +20,7 @@ fn read_arguments(rt: &HostRuntime) -> Result<Vec<String>, AllocError> {
                 words.push(word)?;
             }
         }
-        Err(fault) if fault.kind() == ErrorKind::OutOfMemory => return Err(AllocError),
+        Err(fault) if fault.kind() == ErrorKind::OutOfMemory => return Err(NoMem),
         Err(_) => {}
     }
     Ok(words)

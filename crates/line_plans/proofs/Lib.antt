@@ -7,3 +7,4 @@ pub mod NetReplies
 pub mod Loads
 pub mod Merges
 pub mod Taken
+pub mod Upgrades

@@ -18,6 +18,7 @@ ghost use Rattle.ew_model.specs.Limits.{most_file_bytes};
 use crate::input::{Input, read_input};
 use command_texts::refusal::Refusal;
 use command_texts::texts::made_text;
+use ew_model::NoMem;
 use ew_model::limits::Limits;
 use ew_model::name::Name;
 use ew_model::steps::Steps;
@@ -28,7 +29,7 @@ use opened_files::store::store_reply;
 use replica::{EditFault, Replica};
 use script_reader::edit::Edit;
 use script_reader::script::{ScriptFault, read_script};
-use std::alloc::{AllocError, Global};
+use std::alloc::Global;
 use std::sync::ledger::Ledger;
 
 /// Does one edit.
@@ -50,12 +51,12 @@ fn do_edit<L: Ledger>(
 }
 
 /// Why a line is refused.
-pub fn refuse_line(limits: &Limits, line: u32, fault: EditFault) -> Result<Reply, AllocError>
+pub fn refuse_line(limits: &Limits, line: u32, fault: EditFault) -> Result<Reply, NoMem>
     ensures told { LineRefuses limits.now line fault result }
     ensures plan { IfOk result IsTakenReply }
 {
     match fault {
-        EditFault::OutOfMemory => Err(AllocError),
+        EditFault::OutOfMemory => Err(NoMem),
         EditFault::OutOfRange { len } => Ok(Reply::Refuses(Refusal::LineOutOfRange { line, len })),
         EditFault::TooManyHeads { heads } => Ok(Reply::Refuses(Refusal::TooManyHeads { heads })),
         EditFault::Full { .. } => Ok(Reply::Refuses(Refusal::TooManyEvents {
@@ -71,7 +72,7 @@ fn do_edits<L: Ledger>(
     agent: Name,
     edits: &[(u32, Edit)],
     steps: &mut Steps<L>,
-) -> Result<Option<Reply>, AllocError>
+) -> Result<Option<Reply>, NoMem>
     requires { replica.old.waiting ≡ [] }
     ensures done { EditsTo agent (numbered_edits edits.now) replica.old replica.new result }
     ensures plan { IfOk result (λ o. IfSome o IsTakenReply) }
@@ -87,7 +88,7 @@ fn do_edits<L: Ledger>(
 }
 
 /// What is to be stored and told, once all edits are done.
-fn made_plan(alloc: Global, name: &str, replica: &Replica, before: u32) -> Result<Reply, AllocError>
+fn made_plan(alloc: Global, name: &str, replica: &Replica, before: u32) -> Result<Reply, NoMem>
     ensures told { IfOk result (λ p. reply_view p ≡ made_reply name.now before replica.now.held) }
     ensures plan { IfOk result IsTakenReply }
 {
@@ -108,7 +109,7 @@ fn run_edits<L: Ledger>(
     replica: &mut Replica,
     edits: &[(u32, Edit)],
     steps: &mut Steps<L>,
-) -> Result<Reply, AllocError>
+) -> Result<Reply, NoMem>
     requires { replica.old.waiting ≡ [] }
     ensures told { IfOk result (λ p. reply_view p ≡ edits_reply name.now agent replica.old (numbered_edits edits.now)) }
     ensures plan { IfOk result IsTakenReply }
@@ -131,7 +132,7 @@ fn run_script<L: Ledger>(
     replica: &mut Replica,
     script: &[u8],
     steps: &mut Steps<L>,
-) -> Result<Reply, AllocError>
+) -> Result<Reply, NoMem>
     requires short { length script.now < 2 ^ 32 }
     requires none_waits { replica.old.waiting ≡ [] }
     ensures told { PlansScript name.now agent replica.old script.now result }
@@ -144,7 +145,7 @@ fn run_script<L: Ledger>(
 {
     let edits = match read_script(alloc, script) {
         Ok(edits) => edits,
-        Err(ScriptFault::OutOfMemory) => return Err(AllocError),
+        Err(ScriptFault::OutOfMemory) => return Err(NoMem),
         Err(ScriptFault::BadLine(line)) => {
             return Ok(Reply::Refuses(Refusal::Unreadable { line }));
         }

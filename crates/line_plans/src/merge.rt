@@ -23,13 +23,13 @@ use event_graph::Graph;
 use ew_model::id::Id;
 use ew_model::limits::Limits;
 use ew_model::steps::Steps;
-use ew_model::verdict;
+use ew_model::{NoMem, verdict};
 use ew_outside::{Fault, Shelf};
 use opened_files::open::{Found, open, open_graph};
 use opened_files::reply::Reply;
 use opened_files::store::store_reply;
 use replica::{Replica, Took};
-use std::alloc::{AllocError, Global};
+use std::alloc::Global;
 use std::sync::ledger::Ledger;
 
 fn is_clash(why: verdict::Refusal) -> bool
@@ -59,12 +59,7 @@ fn any_graph_full(refused: &[(Id, verdict::Refusal)]) -> bool
 }
 
 /// What is told and stored of events of which none is a reason to refuse all.
-fn received_plan(
-    alloc: Global,
-    name: &str,
-    replica: &Replica,
-    took: &Took,
-) -> Result<Reply, AllocError>
+fn received_plan(alloc: Global, name: &str, replica: &Replica, took: &Took) -> Result<Reply, NoMem>
     ensures told { IfOk result (λ p. reply_view p ≡ received_reply name.now replica.now.held took.now.accepted (took_text took.now)) }
     ensures plan { IfOk result IsTakenReply }
     ensures found { IfOk result (λ p. reply_status p ≢ 3) }
@@ -84,7 +79,7 @@ fn took_plan(
     limits: &Limits,
     replica: &Replica,
     took: &Took,
-) -> Result<Reply, AllocError>
+) -> Result<Reply, NoMem>
     ensures told { IfOk result (λ p. reply_view p ≡ took_reply name.now limits.now replica.now.held took.now) }
     ensures plan { IfOk result IsTakenReply }
     ensures found { IfOk result (λ p. reply_status p ≢ 3) }
@@ -108,7 +103,7 @@ fn receive<L: Ledger>(
     replica: &mut Replica,
     other: Graph,
     steps: &mut Steps<L>,
-) -> Result<Reply, AllocError>
+) -> Result<Reply, NoMem>
     requires limits { replica.old.limits ≡ limits.now }
     requires none_waits { replica.old.waiting ≡ [] }
     ensures told { IfOk result (λ p. reply_view p ≡ merge_reply name.now limits.now replica.old.held other) }

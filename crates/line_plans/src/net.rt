@@ -15,6 +15,7 @@ ghost use Rattle.opened_files.specs.Views.{IsTakenReply, reply_view};
 use crate::edit::refuse_line;
 use crate::input::{Input, read_input};
 use command_texts::refusal::Refusal;
+use ew_model::NoMem;
 use ew_model::limits::Limits;
 use ew_model::steps::Steps;
 use ew_outside::{Fault, Source};
@@ -24,11 +25,11 @@ use replica::EditFault;
 use script_reader::net::script::read_net;
 use script_reader::net::step::NetStep;
 use script_reader::script::ScriptFault;
-use std::alloc::{AllocError, Global};
+use std::alloc::Global;
 use std::sync::ledger::Ledger;
 
 /// Why a step is refused.
-fn refuse_step(limits: &Limits, line: u32, fault: NetFault) -> Result<Reply, AllocError>
+fn refuse_step(limits: &Limits, line: u32, fault: NetFault) -> Result<Reply, NoMem>
     ensures told { StepRefuses limits.now line fault result }
     ensures plan { IfOk result IsTakenReply }
 {
@@ -41,7 +42,7 @@ fn refuse_step(limits: &Limits, line: u32, fault: NetFault) -> Result<Reply, All
             refuse_line(limits, line, EditFault::TooManyHeads { heads })
         }
         NetFault::Full { count } => refuse_line(limits, line, EditFault::Full { count }),
-        NetFault::OutOfMemory => Err(AllocError),
+        NetFault::OutOfMemory => Err(NoMem),
     }
 }
 
@@ -51,7 +52,7 @@ fn run_steps<L: Ledger>(
     limits: &Limits,
     script: &[(u32, NetStep)],
     steps: &mut Steps<L>,
-) -> Result<Reply, AllocError>
+) -> Result<Reply, NoMem>
     requires { length script.now < 4294967295 }
     ensures told { IfOk result (λ p. reply_view p ≡ net_run_reply limits.now (net_run (empty_network limits.now) script.now)) }
     ensures plan { IfOk result IsTakenReply }
@@ -68,7 +69,7 @@ fn run_net<L: Ledger>(
     limits: &Limits,
     input: &[u8],
     steps: &mut Steps<L>,
-) -> Result<Reply, AllocError>
+) -> Result<Reply, NoMem>
     requires { length input.now ≤ limits.now.input }
     ensures told { PlansNetScript limits.now input.now result }
     ensures some { MayNetScript limits.now input.now result }
@@ -78,7 +79,7 @@ fn run_net<L: Ledger>(
     let _most = limits.input();
     let script = match read_net(alloc, input) {
         Ok(script) => script,
-        Err(ScriptFault::OutOfMemory) => return Err(AllocError),
+        Err(ScriptFault::OutOfMemory) => return Err(NoMem),
         Err(ScriptFault::BadLine(line)) => {
             return Ok(Reply::Refuses(Refusal::Unreadable { line }));
         }

@@ -3,15 +3,16 @@ use Rattle.std.specs.Prelude.{◌≤◌, ⊤, ℕ, ◌+◌, List, [], Option, No
 use Rattle.std.specs.FinMap.{get}
 use Rattle.ew_model.specs.declared.event.Event.{Event}
 use Rattle.ew_model.specs.Ancestors.{version_events}
-use Rattle.file_words.specs.FileFaults.{FileFinding, file_finding}
+use Rattle.file_words.specs.FileFaults.{FileFinding}
 use Rattle.file_words.specs.FileFaults.FileFinding.{IsFile}
+use Rattle.file_words.specs.FileVersions.{file_found}
 use Rattle.ew_model.specs.Limits.{LimitNumbers, most_file_bytes}
 use Rattle.ew_model.specs.Rounds.{most_touches}
 use Rattle.ew_model.specs.Touches.{touches}
 use Rattle.ew_outside.specs.Files.{Files}
 use Rattle.peer_definitions.specs.Touches.{made_touches}
 use Rattle.command_table.specs.Loads.{File, missing, too_long, whole, whole_of}
-use Rattle.command_table.specs.Table.{Text, Command, create, edit, show, merge, make, net, Listing, past, replay, Opened, opened, refused, open_file}
+use Rattle.command_table.specs.Table.{Text, Command, create, edit, show, merge, upgrade, make, net, Listing, past, replay, Opened, opened, refused, open_file}
 
 -- a file that is found is walked over from its start, also where one of its events isn't good
 abbrev pub found_touches : FileFinding → ℕ
@@ -22,7 +23,7 @@ found_touches finding = 0
 abbrev pub load_touches : LimitNumbers → File → ℕ
 load_touches limits missing = 0
 load_touches limits too_long = 0
-load_touches limits (whole bytes) = found_touches (file_finding limits.events bytes)
+load_touches limits (whole bytes) = found_touches (file_found limits.events bytes)
 
 -- those of loading the file of a name
 abbrev pub file_touches : Text → LimitNumbers → Files → ℕ
@@ -48,7 +49,7 @@ abbrev pub TouchesAtMost : (Files → ℕ) → Option Files → ℕ → ℕ → 
 TouchesAtMost most (Some files) before now = now ≤ before + most files
 TouchesAtMost most None before now = ⊤
 
--- a run of a command takes no more: an edit walks nothing but the load, and of a net no number is claimed
+-- a run of a command takes no more: an edit and an upgrade walk nothing but the load, and of a net no number is claimed
 abbrev pub CommandTakes : Command → LimitNumbers → Option Files → ℕ → ℕ → Type 0
 CommandTakes (create name) limits files before now = now ≤ before
 CommandTakes (edit name agent) limits files before now = TouchesAtMost (file_touches name limits) files before now
@@ -56,5 +57,6 @@ CommandTakes (show listing name) limits files before now =
     TouchesAtMost (λ m. file_touches name limits m + touches_over (listing_touches listing) (open_file name limits m)) files before now
 CommandTakes (merge name other) limits files before now =
     TouchesAtMost (λ m. file_touches name limits m + touches_over (merge_touches other limits m) (open_file name limits m)) files before now
+CommandTakes (upgrade name) limits files before now = TouchesAtMost (file_touches name limits) files before now
 CommandTakes (make seed count) limits files before now = now ≤ before + made_touches limits seed count
 CommandTakes net limits files before now = ⊤

@@ -1,17 +1,19 @@
 -- What the code's values stand for.
-use Rattle.std.specs.Prelude.{◌≡◌, ◌≤◌, ⊤, ℕ, List, [], Result, Ok, Err, ◌⊎◌, string_bytes}
+use Rattle.std.specs.Prelude.{◌≡◌, ◌≤◌, ⊤, ℕ, List, [], Option, Result, Ok, Err, ◌⊎◌, string_bytes}
 use Rattle.ew_outside.specs.Counts.{Rose}
 use Rattle.ew_outside.specs.Seen.{SourceSeen}
 use Rattle.ew_model.specs.declared.event.Event.{Event}
 use Rattle.ew_model.specs.Kept.{ReplicaState}
 use Rattle.ew_model.specs.Limits.{LimitNumbers}
+use Rattle.command_table.specs.Loads.{File}
 use Rattle.command_table.specs.Reads.{LeavesInput, loads_of_all}
 use Rattle.command_table.specs.Refusals.{refusal_status}
-use Rattle.command_table.specs.Table.{Text, Reply, prints, stores, refuses, Opened, opened, refused}
+use Rattle.command_table.specs.Table.{Text, Reply, prints, stores, refuses, Opened, opened, refused, named_version, opened_as}
 use Rattle.command_texts.specs.Reasons.{refusal_view}
 use Rattle.opened_files.specs.declared.reply.Reply as code
 use Rattle.opened_files.specs.declared.reply.Reply.TheVariants as reply_is
 use Rattle.opened_files.specs.declared.open.Found.{Found}
+use Rattle.opened_files.specs.declared.open.Versioned.{Versioned}
 use Rattle.opened_files.specs.declared.open.Found.TheVariants as found
 use Rattle.ew_outside.specs.declared.fault.Fault.{Fault}
 use Rattle.ew_outside.specs.declared.fault.Fault.TheVariants as fault_is
@@ -28,6 +30,19 @@ opened_view f = found_view (λ r. r.held) f
 -- a file that was opened for its events alone
 abbrev pub graph_view : Found (List Event) → Opened
 graph_view f = found_view (λ events. events) f
+
+-- a file that was opened as a replica and a version
+abbrev pub versioned_view : Found Versioned → Opened
+versioned_view f = found_view (λ made. made.replica.held) f
+
+-- the version is this, where the file is open
+abbrev pub IsOfVersion : Option ℕ → Found Versioned → Type 0
+IsOfVersion version (found.Open made) = made.version ≡ version
+IsOfVersion version (found.Refused why) = ⊤
+
+-- a file was opened, with the version that its bytes name
+abbrev pub IsVersioned : Text → LimitNumbers → File → Found Versioned → Type 0
+IsVersioned name limits file f = (versioned_view f ≡ opened_as name limits file) × IsOfVersion (named_version file) f
 
 -- the reply of the table that a reply of the code stands for
 abbrev pub reply_view : code.Reply → Reply

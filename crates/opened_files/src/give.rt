@@ -1,6 +1,7 @@
 //! The events of a file's bytes, given one after another to be loaded.
 ghost use Rattle.std.specs.Prelude.{◌≡◌, ◌≤◌, IfOk, IfErr, OnOk};
-ghost use Rattle.file_words.specs.FileFaults.{FileFinding, file_finding};
+ghost use Rattle.file_words.specs.FileFaults.{FileFinding};
+ghost use Rattle.file_words.specs.FileVersions.{file_found};
 ghost use Rattle.event_file.specs.Faults.{IsFault};
 ghost use Rattle.opened_files.specs.Giving.{HasGivenLast, HoldsFile};
 
@@ -12,9 +13,9 @@ use std::alloc::Global;
 
 /// Takes in the events of the bytes, as they are read. Nothing holds them all as a list.
 pub fn give_events(alloc: Global, bytes: &[u8], limits: &Limits) -> Result<Loading, FileFault>
-    ensures given { IfOk result (HoldsFile (file_finding limits.now.events bytes.now)) }
+    ensures given { IfOk result (HoldsFile (file_found limits.now.events bytes.now)) }
     ensures limits { IfOk result (λ l. l.limits ≡ limits.now) }
-    ensures fault { IfErr result (λ fault. IsFault fault (file_finding limits.now.events bytes.now)) }
+    ensures fault { IfErr result (λ fault. IsFault fault (file_found limits.now.events bytes.now)) }
 {
     let mut reader = EventReader::new(alloc, bytes, limits.events())?;
     let mut given = Loading::new(alloc, *limits)?;

@@ -1,17 +1,18 @@
 //! Replies that store the events of a replica.
 ghost use Rattle.std.specs.Prelude.{◌≡◌, ◌≢◌, IfOk};
-ghost use Rattle.file_words.specs.File.{file_of};
+ghost use Rattle.file_words.specs.FileRuns.{file2_of};
 ghost use Rattle.command_table.specs.Table.{stores};
 ghost use Rattle.opened_files.specs.Views.{IsTakenReply, reply_status, reply_view};
 
 use crate::reply::Reply;
 use crate::written::written;
+use ew_model::NoMem;
 use replica::Replica;
-use std::alloc::{AllocError, Global};
+use std::alloc::Global;
 
 /// The file of a replica's events.
-fn file_bytes(alloc: Global, replica: &Replica) -> Result<Vec<u8>, AllocError>
-    ensures { IfOk result (λ bytes. bytes.items ≡ file_of replica.now.held) }
+fn file_bytes(alloc: Global, replica: &Replica) -> Result<Vec<u8>, NoMem>
+    ensures { IfOk result (λ bytes. bytes.items ≡ file2_of replica.now.held) }
 {
     let _count = replica.count();
     written(alloc, replica.graph())
@@ -23,8 +24,8 @@ pub fn store_reply(
     name: &str,
     replica: &Replica,
     out: Vec<u8>,
-) -> Result<Reply, AllocError>
-    ensures told { IfOk result (λ p. reply_view p ≡ stores out.items name.now (file_of replica.now.held)) }
+) -> Result<Reply, NoMem>
+    ensures told { IfOk result (λ p. reply_view p ≡ stores out.items name.now (file2_of replica.now.held)) }
     ensures plan { IfOk result IsTakenReply }
     ensures found { IfOk result (λ p. reply_status p ≢ 3) }
 {

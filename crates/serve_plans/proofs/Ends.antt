@@ -7,7 +7,7 @@ use Rattle.std.specs.Io.KnownBytes.{Consumes}
 use Rattle.std.proofs.lemmas.Bool.{or_right}
 use Rattle.ew_model.specs.declared.id.Id.{Id}
 use Rattle.ew_model.specs.declared.event.Event.{Event}
-use Rattle.file_words.specs.File.{file_of}
+use Rattle.file_words.specs.FileRuns.{file2_of}
 use Rattle.ew_model.specs.Kept.{ReplicaState}
 use Rattle.ew_model.specs.Limits.{LimitNumbers}
 use Rattle.ew_model.proofs.ListTests.{any_from, found_by}
@@ -131,8 +131,8 @@ well_status (reply_is.Refuses x) false name out bytes h = absurd cc
 module _ (name : Text) (limits : LimitNumbers) (before : ℕ) (held : List Event) where
   -- the statuses of a session whose file is open
   closing_status : (c : Closing) (p : code.Reply) → ClosesAs name limits before held c (reply_view p) → (reply_status p ≡ 0) ⊎ ((reply_status p ≡ 5) ⊎ (reply_status p ≡ 7))
-  closing_status closing.End p told = inl (well_status p (nat_lt before (length held)) name [] (file_of held) told)
-  closing_status (closing.Bye bytes) p told = inl (well_status p (nat_lt before (length held)) name bytes.items (file_of held) told)
+  closing_status closing.End p told = inl (well_status p (nat_lt before (length held)) name [] (file2_of held) told)
+  closing_status (closing.Bye bytes) p told = inl (well_status p (nat_lt before (length held)) name bytes.items (file2_of held) told)
   closing_status (closing.Clash x) p told = inr (inl (refused_status p _ told))
   closing_status (closing.BadFrame n why) p told = inr (inl (refused_status p told.0 told.2 ∙ bad_frame n why told.0 told.1))
   closing_status (closing.CutFrame n) p told = inr (inl (refused_status p _ told))

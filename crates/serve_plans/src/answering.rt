@@ -14,16 +14,17 @@ ghost use Rattle.serve_plans.specs.Serving.{AnswersAll, Replies};
 ghost use Rattle.serve_plans.specs.SessionTouches.{AnswersTake};
 
 use crate::closing::Closing;
+use ew_model::NoMem;
 use ew_model::steps::Steps;
 use ew_outside::{Failed, Fault, Sink, write_and_flush};
 use peer_exchange::{End, Reply, answer};
 use peer_frames::{Frame, FrameReader, encode};
 use replica::Replica;
-use std::alloc::{AllocError, Global};
+use std::alloc::Global;
 use std::sync::ledger::Ledger;
 
 /// The bytes of frames, one behind the other.
-fn spelled(alloc: Global, frames: &[Frame]) -> Result<Vec<u8>, AllocError>
+fn spelled(alloc: Global, frames: &[Frame]) -> Result<Vec<u8>, NoMem>
     requires { All HasSpelling frames.now }
     ensures { IfOk result (λ bytes. bytes.items ≡ bytes_of frames.now) }
 {

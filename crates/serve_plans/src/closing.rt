@@ -7,13 +7,14 @@ ghost use Rattle.command_texts.specs.Reasons.{refusal_view};
 ghost use Rattle.std.specs.Option.{option_map};
 
 use command_texts::refusal::Refusal;
+use ew_model::NoMem;
 use ew_model::id::Id;
 use ew_model::limits::Limits;
 use opened_files::reply::Reply;
 use opened_files::store::store_reply;
 use peer_frames::FrameFault;
 use replica::Replica;
-use std::alloc::{AllocError, Global};
+use std::alloc::Global;
 
 /// How a session is closed. Frames are counted from 1.
 #[derive(Drop)]
@@ -39,7 +40,7 @@ fn close_well(
     replica: &Replica,
     before: u32,
     out: Vec<u8>,
-) -> Result<Reply, AllocError>
+) -> Result<Reply, NoMem>
     ensures told { IfOk result (λ p. reply_view p ≡ closed_reply name.now before out.items replica.now.held) }
     ensures plan { IfOk result IsTakenReply }
     ensures found { IfOk result (λ p. reply_status p ≢ 3) }
@@ -52,14 +53,14 @@ fn close_well(
 }
 
 /// Why there is no frame of this number.
-fn frame_refusal(number: u32, fault: FrameFault) -> Result<Refusal, AllocError>
+fn frame_refusal(number: u32, fault: FrameFault) -> Result<Refusal, NoMem>
     ensures { IfOk result (λ why. frame_refusal number fault ≡ Some (refusal_view why)) }
 {
     match fault {
         FrameFault::BadKind(kind) => Ok(Refusal::BadKind { number, kind }),
         FrameFault::TooLong(len) => Ok(Refusal::FrameTooLong { number, len }),
         FrameFault::BadBody => Ok(Refusal::BadBody { number }),
-        FrameFault::OutOfMemory => Err(AllocError),
+        FrameFault::OutOfMemory => Err(NoMem),
     }
 }
 
@@ -71,7 +72,7 @@ pub fn close(
     replica: &Replica,
     before: u32,
     closing: Closing,
-) -> Result<Reply, AllocError>
+) -> Result<Reply, NoMem>
     ensures told { IfOk result (λ p. ClosesAs name.now limits.now before replica.now.held closing (reply_view p)) }
     ensures plan { IfOk result IsTakenReply }
     ensures found { IfOk result (λ p. reply_status p ≢ 3) }

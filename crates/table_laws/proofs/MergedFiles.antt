@@ -10,10 +10,11 @@ use Rattle.ew_model.specs.declared.verdict.Refusal.{Refusal}
 use Rattle.ew_model.specs.Sound.{IsSound, AreSound}
 use Rattle.ew_model.specs.Ids.{name_eq}
 use Rattle.ew_model.specs.Limits.{LimitNumbers, AreLimits, most_file_bytes}
-use Rattle.file_words.specs.File.{file_of}
 use Rattle.ew_model.specs.Bytes.{AreBytes}
-use Rattle.file_words.specs.FileFaults.{FileFinding, file_finding}
+use Rattle.file_words.specs.FileFaults.{FileFinding}
 use Rattle.file_words.specs.FileFaults.FileFinding.{IsFile, Short, BadMagic, BadVersion, BadDigest, BadRecord, TooMany}
+use Rattle.file_words.specs.FileRuns.{file2_of}
+use Rattle.file_words.specs.FileVersions.{file_found}
 use Rattle.ew_model.specs.Verdicts.{BadEvent, IsGood, first_bad}
 use Rattle.ew_model.specs.Arrival.{arrive}
 use Rattle.ew_model.specs.Kept.{IsKept}
@@ -22,7 +23,9 @@ use Rattle.ew_model.proofs.SetLaws.{among_joined}
 use Rattle.ew_model.proofs.SortingLaws.{all_at, all_from}
 use Rattle.ew_model.proofs.IdLaws.{names_equal}
 use Rattle.ew_model.proofs.FirstBadLaws.{good_has_no_bad}
-use Rattle.file_words.proofs.FileReading.{file_take, file_again, file_is}
+use Rattle.file_words.proofs.FileReading.{file_is}
+use Rattle.file_words.proofs.RunSizes.{run_files_short}
+use Rattle.file_words.proofs.VersionReading.{both_versions_read}
 use Rattle.ew_model.proofs.LimitsKept.{arrivals_keep}
 use Rattle.ew_model.proofs.WritableLaws.{good_is_writable}
 use Rattle.ew_outside.specs.Files.{Files}
@@ -34,7 +37,7 @@ use Rattle.command_table.specs.Table.{Text, Reply, prints, stores, refuses, Open
 use Rattle.command_table.specs.Refusals.{too_many_events, refusal_status}
 use Rattle.ew_model.proofs.MergeByAnswers.{merge_unless_clash}
 use Rattle.table_laws.proofs.Merges.{none_ends, appended_none}
-use Rattle.table_laws.proofs.FileSizes.{file_length}
+use Rattle.table_laws.proofs.RunFiles.{run_file_again}
 use Rattle.replica.proofs.Beginnings.{good_from_none_bad}
 use Rattle.ew_model.proofs.ListPlaces.{some_is}
 
@@ -45,7 +48,7 @@ pub record Opens (limits : LimitNumbers) (files : Files) (name : Text) (events :
   pub bytes : List ℕ
   pub here : get files name ≡ Some bytes
   pub short : nat_lt (most_file_bytes limits.events) (length bytes) ≡ false
-  pub read : file_finding limits.events bytes ≡ IsFile events
+  pub read : file_found limits.events bytes ≡ IsFile events
   pub good : first_bad events ≡ None
 
 abbrev pub status_in : Reply → ℕ
@@ -78,9 +81,9 @@ read_opens reply name limits (BadDigest stored found) h = absurd (omega (arith, 
 read_opens reply name limits (BadRecord offset kind) h = absurd (omega (arith, h))
 read_opens reply name limits (TooMany count) h = absurd (omega (arith, h))
 
-short_opens : (reply : List Event → Reply) (name : Text) (limits : LimitNumbers) (bytes : List ℕ) (b : Bool) → status_in (over_events reply (opened_as name limits (if b then too_long else whole bytes))) ≡ 0 → (b ≡ false) × Reads reply (file_finding limits.events bytes)
+short_opens : (reply : List Event → Reply) (name : Text) (limits : LimitNumbers) (bytes : List ℕ) (b : Bool) → status_in (over_events reply (opened_as name limits (if b then too_long else whole bytes))) ≡ 0 → (b ≡ false) × Reads reply (file_found limits.events bytes)
 short_opens reply name limits bytes true h = absurd (omega (arith, h))
-short_opens reply name limits bytes false h = (refl, read_opens reply name limits (file_finding limits.events bytes) h)
+short_opens reply name limits bytes false h = (refl, read_opens reply name limits (file_found limits.events bytes) h)
 
 found_opens : (reply : List Event → Reply) (name : Text) (limits : LimitNumbers) (files : Files) (o : Option (List ℕ)) → get files name ≡ o → status_in (over_events reply (opened_as name limits (whole_of (most_file_bytes limits.events) o))) ≡ 0
     → (events : List Event) × Opens limits files name events × (status_in (reply events) ≡ 0)
@@ -133,7 +136,7 @@ pub record Done (limits : LimitNumbers) (files : Files) (name other : Text) (t :
   pub second : Opens limits files other others
   pub merged : IsMerged events others (arrive limits events [] others)
   pub out : t.out ≡ outcome_text (length events) (arrive limits events [] others)
-  pub stored : (t.files ≡ insert files name (file_of (arrive limits events [] others).desk.held)) ⊎ (((arrive limits events [] others).desk.held ≡ events) × (t.files ≡ files))
+  pub stored : (t.files ≡ insert files name (file2_of (arrive limits events [] others).desk.held)) ⊎ (((arrive limits events [] others).desk.held ≡ events) × (t.files ≡ files))
 
 pub is_done : (limits : LimitNumbers) (files : Files) (name other : Text) (t : Answer) → t ≡ answer_of (over_both (merge_reply name limits) (open_file name limits files) (open_file other limits files)) files → t.status ≡ 0
     → Done limits files name other t
@@ -165,11 +168,11 @@ is_done limits files name other t is zero =
       first = one.1;
       second = two.1;
       merged = whole;
-      out = ap (λ (x : Answer). x.out) t_is ∙ stored_or_not more text name (file_of o.desk.held) files;
+      out = ap (λ (x : Answer). x.out) t_is ∙ stored_or_not more text name (file2_of o.desk.held) files;
       stored = ⊎_elim
           (λ k. inl (ap (λ (x : Answer). x.files) t_is ∙ k))
           (λ k. inr (appended_none limits one.0 two.0 (not_above (accepted_in o.answers) k.0), ap (λ (x : Answer). x.files) t_is ∙ k.1))
-          (stored_files more text name (file_of o.desk.held) files);
+          (stored_files more text name (file2_of o.desk.held) files);
     }
 
 -- ---- what is opened afterwards
@@ -182,14 +185,16 @@ pub record IsStorable (limits : LimitNumbers) (events : List Event) : Type 0 whe
 pub storable : (limits : LimitNumbers) (files : Files) (name : Text) (events : List Event) → HoldsBytes files name → Opens limits files name events → IsStorable limits events
 storable limits files name events all o =
     let bytes : AreBytes o.bytes = subst (λ (x : Option (List ℕ)). IfSome x AreBytes) o.here all in
-    let f = file_take limits.events o.bytes events bytes o.read in
-    record { sound = f.sound; few = f.few }
+    ⊎_elim
+    (λ f. record { sound = f.sound; few = f.few })
+    (λ f. record { sound = f.sound; few = f.few })
+    ((both_versions_read limits.events o.bytes events bytes).0 o.read)
 
 -- one map and name are opened as one list
 pub opens_once : (limits : LimitNumbers) (files more : Files) (name : Text) (xs ys : List Event) → get more name ≡ get files name → Opens limits files name xs → Opens limits more name ys → ys ≡ xs
 opens_once limits files more name xs ys same o p =
     let bytes : p.bytes ≡ o.bytes = some_is p.bytes o.bytes (sym p.here ∙ same ∙ o.here) in
-    file_is ys xs (sym p.read ∙ ap (file_finding limits.events) bytes ∙ o.read)
+    file_is ys xs (sym p.read ∙ ap (file_found limits.events) bytes ∙ o.read)
 
 -- the history after a merge can be held by a file
 pub merged_storable : (limits : LimitNumbers) (events others : List Event) → first_bad events ≡ None → IsStorable limits events → IsStorable limits others → IsMerged events others (arrive limits events [] others)
@@ -206,16 +211,30 @@ merged_storable limits events others good one two m =
     )
 
 -- what the stored file is read as
-pub read_again : (limits : LimitNumbers) (events : List Event) → AreLimits limits → IsGood events → IsStorable limits events → file_finding limits.events (file_of events) ≡ IsFile events
+pub read_again : (limits : LimitNumbers) (events : List Event) → AreLimits limits → IsGood events → IsStorable limits events → file_found limits.events (file2_of events) ≡ IsFile events
 read_again limits events numbers good one =
     let few : length events < 2 ^ 32 = omega (arith, one.few, numbers.few_events) in
-    file_again limits.events events one.sound (good_is_writable events good few) one.few
+    run_file_again limits.events events one.sound (good_is_writable events good few) one.few
 
-stored_here : (files : Files) (name bytes : List ℕ) → get (insert files name bytes) name ≡ Some bytes
+pub stored_here : (files : Files) (name bytes : List ℕ) → get (insert files name bytes) name ≡ Some bytes
 stored_here files name bytes = get-insert nat_list_cmp_total files name bytes name ∙ ap (λ (b : Bool). if b then Some bytes else get files name) (names_equal.refl name)
 
 stored_elsewhere : (files : Files) (name other bytes : List ℕ) → name_eq other name ≡ false → get (insert files name bytes) other ≡ get files other
 stored_elsewhere files name other bytes apart = get-insert nat_list_cmp_total files name bytes other ∙ ap (λ (b : Bool). if b then Some bytes else get files other) apart
+
+-- events that were stored are opened
+pub stored_opens : (limits : LimitNumbers) (files : Files) (name : Text) (events : List Event) → AreLimits limits → IsGood events → IsStorable limits events
+    → open_file name limits (insert files name (file2_of events)) ≡ opened events
+stored_opens limits files name events numbers good one =
+    let few : length events < 2 ^ 32 = omega (arith, one.few, numbers.few_events) in
+    let size = run_files_short events one.sound (good_is_writable events good few) in
+    opened_is name limits (insert files name (file2_of events)) events (record {
+      bytes = file2_of events;
+      here = stored_here files name (file2_of events);
+      short = not_longer (most_file_bytes limits.events) (length (file2_of events)) (omega (arith, size, one.few));
+      read = read_again limits events numbers good one;
+      good = (good_has_no_bad events).0 good;
+    })
 
 -- the merged file is opened as the new history
 pub opened_new : (limits : LimitNumbers) (files : Files) (name other : Text) (t : Answer) (d : Done limits files name other t) (xs : List Event)
@@ -225,8 +244,8 @@ opened_new limits files name other t d xs numbers one two o =
     ⊎_elim
     (λ stored.
     let s = merged_storable limits d.events d.others d.first.good one two d.merged in
-    let bytes : o.bytes ≡ file_of held = some_is o.bytes (file_of held) (sym o.here ∙ ap (λ (m : Files). get m name) stored ∙ stored_here files name (file_of held)) in
-    file_is xs held (sym o.read ∙ ap (file_finding limits.events) bytes ∙ read_again limits held numbers s.0 s.1))
+    let bytes : o.bytes ≡ file2_of held = some_is o.bytes (file2_of held) (sym o.here ∙ ap (λ (m : Files). get m name) stored ∙ stored_here files name (file2_of held)) in
+    file_is xs held (sym o.read ∙ ap (file_found limits.events) bytes ∙ read_again limits held numbers s.0 s.1))
     (λ same. opens_once limits files t.files name d.events xs (ap (λ (m : Files). get m name) same.1) d.first o ∙ sym same.0)
     d.stored
 
@@ -239,11 +258,11 @@ opens_new limits files name other t d numbers one two =
     (λ stored.
     let s = merged_storable limits d.events d.others d.first.good one two d.merged in
     let few : length held < 2 ^ 32 = omega (arith, s.1.few, numbers.few_events) in
-    let size = file_length held s.1.sound (good_is_writable held s.0 few) in
+    let size = run_files_short held s.1.sound (good_is_writable held s.0 few) in
     record {
-      bytes = file_of held;
-      here = ap (λ (m : Files). get m name) stored ∙ stored_here files name (file_of held);
-      short = not_longer (most_file_bytes limits.events) (length (file_of held)) (omega (arith, size, s.1.few));
+      bytes = file2_of held;
+      here = ap (λ (m : Files). get m name) stored ∙ stored_here files name (file2_of held);
+      short = not_longer (most_file_bytes limits.events) (length (file2_of held)) (omega (arith, size, s.1.few));
       read = read_again limits held numbers s.0 s.1;
       good = (good_has_no_bad held).0 s.0;
     })
@@ -260,6 +279,6 @@ opens_new limits files name other t d numbers one two =
 pub other_stays : (limits : LimitNumbers) (files : Files) (name other : Text) (t : Answer) → Done limits files name other t → name_eq other name ≡ false → get t.files other ≡ get files other
 other_stays limits files name other t d apart =
     ⊎_elim
-    (λ stored. ap (λ (m : Files). get m other) stored ∙ stored_elsewhere files name other (file_of (arrive limits d.events [] d.others).desk.held) apart)
+    (λ stored. ap (λ (m : Files). get m other) stored ∙ stored_elsewhere files name other (file2_of (arrive limits d.events [] d.others).desk.held) apart)
     (λ same. ap (λ (m : Files). get m other) same.1)
     d.stored

@@ -2,3 +2,4 @@ pub mod FramingLaws
 pub mod MergeLaws
 pub mod PastLaws
 pub mod Sequences
+pub mod UpgradeLaws

@@ -1,10 +1,11 @@
-//! What holds of the command table: of every list of runs, of merges, of past versions and replays, and of the frames of an input.
+//! What holds of the command table: of every list of runs, of merges, of upgrades, of past versions and replays, and of the frames of an input.
 #![tactic(auto)]
 
 ghost use Rattle.table_laws.specs.FramingLaws.{FramingsAreCuts, FramingsAreFound, FramingsAreOne};
 ghost use Rattle.table_laws.specs.MergeLaws.{MergesAgree, MergesHoldSame, MergesStore, MergesTakeAll};
 ghost use Rattle.table_laws.specs.PastLaws.{HeadsAreAVersion, HeadsShowAll, ReplaysMakeContent, VersionsAreTaken};
 ghost use Rattle.table_laws.specs.Sequences.{RunsFold};
+ghost use Rattle.table_laws.specs.UpgradeLaws.{UpgradesKeep};
 
 /// After a list of runs of which none met a fault or want of memory, the files are the fold of the
 /// command table, and each run printed and answered what the table says.
@@ -30,6 +31,11 @@ pub fn law_merge_files()
 /// Where two files are merged both ways, both hold the same events.
 pub fn law_merge_same_events()
     ensures { MergesHoldSame }
+{}
+
+/// Where an upgrade is done, its file, of whichever version it was, is of version 2 afterwards and opens as the events that it opened as before.
+pub fn law_upgrade()
+    ensures { UpgradesKeep }
 {}
 
 /// A word is taken for a version exactly where it is in the grammar of versions.

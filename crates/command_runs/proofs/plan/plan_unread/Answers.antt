@@ -1,7 +1,8 @@
 use Rattle.std.proofs.Common.{[], ◌∷◌, arith}
 use Rattle.std.specs.FinMap.{get}
+use Rattle.ew_model.specs.Limits.{most_file_bytes}
 use Rattle.command_table.specs.Loads.{whole_of}
-use Rattle.command_table.specs.Table.{create, make, merge, show, create_reply, make_reply, merge_reply, open_file, over_both, over_events, show_reply}
+use Rattle.command_table.specs.Table.{create, make, merge, show, upgrade, create_reply, make_reply, merge_reply, open_file, over_both, over_events, show_reply, upgrade_reply}
 use Rattle.peer_definitions.specs.Making.{made}
 use Rattle.command_reader.specs.Words.{listing_view}
 use Rattle.command_runs.proofs.Lines.{all_of_shelf, asks_most, asks_none, loads_none, loads_one, made_file, may_plan, no_causes, no_front, none_all, none_failed_loads, none_made, one_all, one_front, plans_alone, plans_any}
@@ -22,6 +23,12 @@ returns-in-Merge-clause-told g c =
     let name = c.in-Merge.file.now in
     let other = c.in-Merge.other.now in
     rw c.in-Merge.is (plans_alone (λ m. over_both (merge_reply name c.args.limits.now) (open_file name c.args.limits.now m) (open_file other c.args.limits.now m)) (g.H.Shelf.seen c.args.shelf.now).files c.merge.result c.merge.ensures.told)
+
+pub returns-in-Upgrade-clause-told : goal.returns-in-Upgrade-clause-told
+returns-in-Upgrade-clause-told g c =
+    let name = c.in-Upgrade.file.now in
+    let limits = c.args.limits.now in
+    rw c.in-Upgrade.is (plans_alone (λ m. upgrade_reply name limits (whole_of (most_file_bytes limits.events) (get m name))) (g.H.Shelf.seen c.args.shelf.now).files c.upgrade.result c.upgrade.ensures.told)
 
 pub returns-in-New-clause-front : goal.returns-in-New-clause-front
 returns-in-New-clause-front g c = rw c.in-New.is (one_front c.in-New.name.now _ _ c.create.ensures.loads)
@@ -58,6 +65,27 @@ returns-in-Show-clause-most g c = rw c.in-Show.is c.show.ensures.most
 
 pub returns-in-Merge-clause-most : goal.returns-in-Merge-clause-most
 returns-in-Merge-clause-most g c = rw c.in-Merge.is c.merge.ensures.most
+
+pub returns-in-Upgrade-clause-front : goal.returns-in-Upgrade-clause-front
+returns-in-Upgrade-clause-front g c = rw c.in-Upgrade.is (one_front c.in-Upgrade.file.now _ _ c.upgrade.ensures.loads)
+
+pub returns-in-Upgrade-clause-loads : goal.returns-in-Upgrade-clause-loads
+returns-in-Upgrade-clause-loads g c = rw c.in-Upgrade.is (loads_one c.in-Upgrade.file.now c.args.limits.now (g.H.Shelf.seen c.args.shelf.now).files _ _ c.upgrade.result c.upgrade.ensures.loads)
+
+pub returns-in-Upgrade-clause-some : goal.returns-in-Upgrade-clause-some
+returns-in-Upgrade-clause-some g c = rw c.in-Upgrade.is (may_plan (upgrade c.in-Upgrade.file.now) c.args.limits.now c.upgrade.result c.upgrade.ensures.some)
+
+pub returns-in-Upgrade-clause-most : goal.returns-in-Upgrade-clause-most
+returns-in-Upgrade-clause-most g c = rw c.in-Upgrade.is c.upgrade.ensures.most
+
+pub returns-in-Upgrade-clause-all : goal.returns-in-Upgrade-clause-all
+returns-in-Upgrade-clause-all g c = rw c.in-Upgrade.is (one_all c.in-Upgrade.file.now _ _ c.upgrade.result c.upgrade.ensures.loads)
+
+pub returns-in-Upgrade-clause-makes : goal.returns-in-Upgrade-clause-makes
+returns-in-Upgrade-clause-makes g c = rw c.in-Upgrade.is (none_made _ _ c.upgrade.result)
+
+pub returns-in-Upgrade-clause-asked : goal.returns-in-Upgrade-clause-asked
+returns-in-Upgrade-clause-asked g c = rw c.in-Upgrade.is (asks_most _ _ _ c.upgrade.ensures.asked)
 
 pub returns-in-Make-clause-told : goal.returns-in-Make-clause-told
 returns-in-Make-clause-told g c =

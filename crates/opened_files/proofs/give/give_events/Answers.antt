@@ -1,7 +1,8 @@
 use Rattle.std.proofs.Common.{◌≡◌, ◌∙◌, sym, ap, subst, [], ◌∷◌, ◌++◌, Ok, Err, IfErr, Some, Result, Option}
 use Rattle.std.proofs.lemmas.Result.{err_from_is_err_and}
 use Rattle.ew_model.specs.declared.event.Event.{Event}
-use Rattle.file_words.specs.FileFaults.{FileFinding, file_finding}
+use Rattle.file_words.specs.FileFaults.{FileFinding}
+use Rattle.file_words.specs.FileVersions.{file_found}
 use Rattle.event_file.specs.declared.fault.FileFault.{FileFault}
 use Rattle.event_file.specs.Faults.{IsFault}
 use Rattle.event_file.specs.Rest.{IsNext, in_front}
@@ -14,23 +15,23 @@ use Rattle.opened_files.proofs.give.give_events.Goals as goal
 pub returns-in_err-event-clause-fault : goal.returns-in_err-event-clause-fault
 returns-in_err-event-clause-fault c =
     let front = c.loop-given.invariant.front in
-    let found : file_finding c.args.limits.now.events c.args.bytes.now ≡ in_front front.0 c.loop-given.reader.found =
-    sym (subst (λ n. c.in_ok-reader.reader.found ≡ file_finding n c.args.bytes.now) c.events.ensures.value c.in_ok-reader.ensures.found) ∙ front.1.1 in
+    let found : file_found c.args.limits.now.events c.args.bytes.now ≡ in_front front.0 c.loop-given.reader.found =
+    sym (subst (λ n. c.in_ok-reader.reader.found ≡ file_found n c.args.bytes.now) c.events.ensures.value c.in_ok-reader.ensures.found) ∙ front.1.1 in
     let p = err_from_is_err_and c.from_residual-in_err-event.result c.from_residual-in_err-event.ensures.1 in
     let is : IsFault p.0 c.loop-given.reader.found = subst (λ (fault : FileFault). IsFault fault c.loop-given.reader.found) (sym p.2) c.in_err-event.ensures.0 in
-    subst (λ (r : Result Given FileFault). IfErr r (λ fault. IsFault fault (file_finding c.args.limits.now.events c.args.bytes.now))) (sym p.1)
+    subst (λ (r : Result Given FileFault). IfErr r (λ fault. IsFault fault (file_found c.args.limits.now.events c.args.bytes.now))) (sym p.1)
     (subst (λ (f : FileFinding). IsFault p.0 f) (sym found) (fault_behind front.0 p.0 c.loop-given.reader.found is))
 
 pub returns-in_err-push-clause-fault : goal.returns-in_err-push-clause-fault
 returns-in_err-push-clause-fault c =
     let p = err_from_is_err_and c.from_residual-in_err-push.result c.from_residual-in_err-push.ensures.1 in
-    let found = file_finding c.args.limits.now.events c.args.bytes.now in
+    let found = file_found c.args.limits.now.events c.args.bytes.now in
     subst (λ (r : Result Given FileFault). IfErr r (λ fault. IsFault fault found)) (sym (p.1 ∙ ap Err p.2)) tt
 
 pub returns-in_err-give_behind-clause-fault : goal.returns-in_err-give_behind-clause-fault
 returns-in_err-give_behind-clause-fault c =
     let p = err_from_is_err_and c.from_residual-in_err-give_behind.result c.from_residual-in_err-give_behind.ensures.1 in
-    let found = file_finding c.args.limits.now.events c.args.bytes.now in
+    let found = file_found c.args.limits.now.events c.args.bytes.now in
     subst (λ (r : Result Given FileFault). IfErr r (λ fault. IsFault fault found)) (sym (p.1 ∙ ap Err p.2)) tt
 
 pub give_behind-requires : goal.give_behind-requires

@@ -6,10 +6,10 @@ use Rattle.opened_files.proofs.written.agents_in.Goals as goal
 
 pub add-requires : goal.add-requires
 add-requires c =
-    let few = few_agents c.args.graph.now c.loop-lv.lv (omega arith) in
-    let is = ap (λ (xs : List (List ℕ)). length xs) c.loop-lv.invariant in
+    let few = few_agents c.args.graph.now c.loop-position.position (omega arith) in
+    let is = ap (λ (xs : List (List ℕ)). length xs) c.loop-position.invariant in
     omega arith
 
-pub loop-lv-preserved : goal.loop-lv-preserved
-loop-lv-preserved c =
-    c.in_ok-add.ensures.ok ∙ ap (λ agents. with_name agents c.id_near.result.agent) c.loop-lv.invariant ∙ agents_next c.args.graph.now c.loop-lv.lv c.id_near.result c.id_near.ensures
+pub loop-position-preserved : goal.loop-position-preserved
+loop-position-preserved c =
+    c.in_ok-add.ensures.ok ∙ ap (λ agents. with_name agents c.id_near.result.agent) c.loop-position.invariant ∙ agents_next c.args.graph.now c.loop-position.position c.id_near.result c.id_near.ensures

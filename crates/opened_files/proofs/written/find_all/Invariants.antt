@@ -1,5 +1,5 @@
 use Rattle.std.proofs.Common.{◌≡◌, take}
-use Rattle.opened_files.specs.Places.{places_of}
+use Rattle.event_file.specs.Places.{places_of}
 use Rattle.opened_files.proofs.written.find_all.Given as goal
 
 abbrev pub invariant-loop-id : goal.invariant-loop-id

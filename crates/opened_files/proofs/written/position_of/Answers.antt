@@ -1,7 +1,7 @@
 use Rattle.std.proofs.Common.{◌∙◌, sym}
 use Rattle.ew_model.specs.Ancestors.{ids_of}
 use Rattle.ew_model.proofs.ListPlaces.{none_is_some}
-use Rattle.opened_files.specs.Places.{place_of}
+use Rattle.event_file.specs.Places.{place_of}
 use Rattle.opened_files.proofs.GraphRecords.{position_there}
 use Rattle.opened_files.proofs.written.position_of.Goals as goal
 

@@ -1,6 +1,5 @@
-use Rattle.std.proofs.Common.{◌≡◌, ◌++◌, take, flat_map}
-use Rattle.file_words.specs.File.{record_bytes}
+use Rattle.event_file.proofs.RunWriting.{ArePut}
 use Rattle.opened_files.proofs.written.put_events.Given as goal
 
-abbrev pub invariant-loop-lv : goal.invariant-loop-lv
-invariant-loop-lv l = l.writer ≡ l.initial.writer ++ flat_map (record_bytes l.graph) (take l.lv l.graph)
+abbrev pub invariant-loop-position : goal.invariant-loop-position
+invariant-loop-position l = ArePut l.graph l.initial.writer.bytes l.position l.writer

@@ -1,0 +1,28 @@
+-- What upgrading a file promises.
+use Rattle.std.specs.Prelude.{◌≡◌, ◌⊎◌, ℕ, List, length, Some}
+use Rattle.std.specs.FinMap.{get}
+use Rattle.ew_model.specs.declared.event.Event.{Event}
+use Rattle.ew_model.specs.Limits.{LimitNumbers, AreLimits}
+use Rattle.file_words.specs.File.{file_of}
+use Rattle.file_words.specs.FileRuns.{file2_of}
+use Rattle.ew_outside.specs.Files.{Files}
+use Rattle.command_table.specs.Scripts.{Reading}
+use Rattle.command_table.specs.Table.{Text, upgrade, Answer, open_file, opened}
+use Rattle.command_table.specs.Text.{upgraded_text}
+use Rattle.table_laws.specs.MergeLaws.{HoldsBytes, command_answer}
+
+-- Of these events the file was of version 1 or 2, as is told, and it is of version 2 afterwards. It opens as the same events.
+pub record IsUpgraded (limits : LimitNumbers) (files : Files) (name : Text) (there : Answer) (events : List Event) (version : ℕ) : Type 0 where
+  pub was : ((version ≡ 1) × (get files name ≡ Some (file_of events))) ⊎ ((version ≡ 2) × (get files name ≡ Some (file2_of events)))
+  pub told : there.out ≡ upgraded_text version (length events)
+  pub is : get there.files name ≡ Some (file2_of events)
+  pub opened_before : open_file name limits files ≡ opened events
+  pub opens : open_file name limits there.files ≡ opened events
+
+-- Where an upgrade is done, its file is of version 2 afterwards, and of the events that it was of before.
+abbrev pub UpgradesKeep : Type 0
+UpgradesKeep = (limits : LimitNumbers) (files : Files) (input : List ℕ) (reading : Reading) (name : Text)
+    → AreLimits limits → HoldsBytes files name
+    → let there = command_answer (upgrade name) limits files input reading in
+    there.status ≡ 0
+    → (events : List Event) × (version : ℕ) × IsUpgraded limits files name there events version
