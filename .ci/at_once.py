@@ -4,6 +4,7 @@ It works in a folder of its own, and writes a line for each thing that isn't as 
 """
 
 import fcntl
+import hashlib
 import os
 import pathlib
 import shutil
@@ -16,6 +17,8 @@ import time
 
 ROUNDS, WRITERS = 100, 8
 SHELF_FAILED = (6, "", "egw: shelf failed\n")
+# The file of version 1 of one letter, without its digest.
+LETTER = bytes.fromhex("45475746494c4501 01000000 0161 01000000 00000000 00000000 00 00 00000000 61000000")
 PROGRAM = os.path.realpath(sys.argv[1])
 wrong = []
 
@@ -86,6 +89,16 @@ def make_at_once():
     check(len(others) == WRITERS - 1, f"new files at once: {ended}")
     check(all(told in (SHELF_FAILED, (3, "", "egw: file G is there\n")) for told in others), f"new files at once: {others}")
     check(os.stat("G").st_size == 48, "a new file isn't whole")
+
+
+def upgrade_at_once():
+    """Eight people upgrade one file at once: one does, and who comes later finds version 2, or is told that the file changed."""
+    pathlib.Path("H").write_bytes(LETTER + hashlib.sha256(LETTER).digest())
+    ended = [end(run) for run in [start("upgrade", "H") for _ in range(WRITERS)]]
+    others = [told for told in ended if told != (0, "version 1 events 1\n", "")]
+    check(len(others) == WRITERS - 1, f"upgrades at once: {ended}")
+    check(all(told in (SHELF_FAILED, (0, "version 2 events 1\n", "")) for told in others), f"upgrades at once: {others}")
+    check(ids("H") == ["a:0"] and os.stat("H").st_size == 72, "an upgraded file isn't whole")
 
 
 # Behind one another's back
@@ -256,7 +269,8 @@ def all_at_once():
     for _ in range(ROUNDS):
         edit_at_once("script")
         make_at_once()
-    is_alone("F", "G", "script")
+        upgrade_at_once()
+    is_alone("F", "G", "H", "script")
 
 
 def all_changes():

@@ -18,20 +18,6 @@ reader = importlib.util.module_from_spec(spec)
 spec.loader.exec_module(reader)
 
 
-class Draws:
-    """Numbers from a seed: the same on every machine."""
-
-    def __init__(self, seed):
-        self.last = seed
-
-    def below(self, bound):
-        self.last = (self.last * 6364136223846793005 + 1442695040888963407) % 2**64
-        return (self.last >> 33) % bound
-
-    def one_of(self, items):
-        return items[self.below(len(items))]
-
-
 def put(path, data):
     """Writes a file anew: never through a link."""
     if path.is_symlink() or path.exists():

@@ -3,7 +3,7 @@
 from bisect import insort
 from collections import namedtuple
 
-from egw_bytes import DELETE, INSERT, MARK, content, record, with_digest
+from egw_bytes import DELETE, FALLING, INSERT, MARK, content, content_2, record, run, with_digest
 
 MOST_EVENTS = 1_000_000
 MOST_INPUT = 16_777_216
@@ -22,11 +22,26 @@ USAGE = b"""usage: egw new FILE
        egw net
        egw make --seed N --count N
        egw marks FILE
+       egw upgrade FILE
 """
 
 Id = namedtuple("Id", "agent seq")  # a name's bytes and a number: compared in this order, as the page wants it
 Op = namedtuple("Op", "at ch label", defaults=(None,))  # an insertion has a code point, a mark a label
 Event = namedtuple("Event", "id parents op")
+
+
+class Draws:
+    """Numbers from a seed: the same on every machine."""
+
+    def __init__(self, seed):
+        self.last = seed
+
+    def below(self, bound):
+        self.last = (self.last * 6364136223846793005 + 1442695040888963407) % 2**64
+        return (self.last >> 33) % bound
+
+    def one_of(self, items):
+        return items[self.below(len(items))]
 
 
 # Histories and texts. A set of events is a number, in which bit p stands for the event at position p.
@@ -114,13 +129,52 @@ class History:
         return all(known & below == below for known in self.ancestors[cut:])
 
 
-def file_of(events):
-    """The one file of events."""
+def file_of(events, version=1):
+    """The one file of events, of this version."""
     agents = list(dict.fromkeys(event.id.agent for event in events))
     number_of = {agent: n for n, agent in enumerate(agents)}
     position = {event.id: p for p, event in enumerate(events)}
-    records = [record(number_of[event.id.agent], event.id.seq, [position[parent] for parent in event.parents], *parts_of(event.op)) for event in events]
-    return with_digest(content(agents, records))
+
+    def start_of(event):
+        return number_of[event.id.agent], event.id.seq, [position[parent] for parent in event.parents]
+
+    if version == 1:
+        return with_digest(content(agents, [record(*start_of(event), *parts_of(event.op)) for event in events]))
+    return with_digest(content_2(agents, [run(*start_of(events[start]), *run_of(events[start:end])) for start, end in places_of_runs(events)], len(events)))
+
+
+def way_from(before, after):
+    """The kind of a run in which the one event may stand right before the other, None where no run has them so. Two deletions at one index are DELETE."""
+    if after.id != Id(before.id.agent, before.id.seq + 1) or after.parents != (before.id,) or before.op.label or after.op.label:
+        return None
+    typed = before.op.ch is not None, after.op.ch is not None
+    ways = {((True, True), 1): INSERT, ((False, False), 0): DELETE, ((False, False), -1): FALLING}
+    return ways.get((typed, after.op.at - before.op.at))
+
+
+def places_of_runs(events):
+    """Where the runs start and end: each goes on for as long as the way from event to event stays the same."""
+    start = 0
+    while start < len(events):
+        end, first = start + 1, None
+        while end < len(events):
+            way = way_from(events[end - 1], events[end])
+            if way is None or first not in (None, way):
+                break
+            first, end = way, end + 1
+        yield start, end
+        start = end
+
+
+def run_of(events):
+    """What stands of a run behind its parents: the kind, and the index and the code points or how many, or the label."""
+    op = events[0].op
+    if op.label:
+        return MARK, None, op.label
+    if op.ch is not None:
+        return INSERT, op.at, [event.op.ch for event in events]
+    kind = way_from(*events[:2]) if len(events) > 1 else DELETE
+    return kind, op.at, len(events)
 
 
 def parts_of(op):

@@ -7,7 +7,7 @@ import sys
 sys.dont_write_bytecode = True
 sys.path.insert(0, str(pathlib.Path(__file__).parent.parent / "tools"))
 
-from egw_bytes import INSERT, MARK, START, counted, event_bytes, events_frame, frame, id_bytes, number, record, sized, with_digest  # noqa: E402
+from egw_bytes import DELETE, FALLING, INSERT, MARK, START, START_2, counted, event_bytes, events_frame, frame, id_bytes, number, record, run, sized, with_digest  # noqa: E402
 
 GREATEST = 4294967295
 MOST_INPUT = 16_777_216
@@ -22,6 +22,11 @@ def put(name, *parts):
 def put_file(name, *parts):
     """A file with its digest behind it."""
     put(name, with_digest(START + b"".join(parts)))
+
+
+def put_file_2(name, *parts):
+    """A file of version 2 with its digest behind it."""
+    put(name, with_digest(START_2 + b"".join(parts)))
 
 
 def names(agents):
@@ -88,11 +93,15 @@ def make_marks():
     """Files of marks, and a file and a frame with marks of which one byte is changed."""
     a, first, label = [b"a"], record(0, 0, [], INSERT, 0, 97), b"m" * 32
     put_file("marks", names(a), counted([first, *(record(0, n, [n - 1], MARK, label) for n in range(1, 1_000_000))]))
-    put_file("marks_thousand", names(a), counted([first, *(record(0, n, [n - 1], MARK, label) for n in range(1, 1001))]))
+    thousand = [record(0, n, [n - 1], MARK, label) for n in range(1, 1001)]
+    put_file("marks_thousand", names(a), counted([first, *thousand]))
+    put_file_2("marks_thousand_2", names(a), number(1001), run(0, 0, [], INSERT, 0, b"a"), *thousand)
     heads = [b"h%05d" % n for n in range(10_000)]
     apart = [record(n, 0, [], INSERT, 0, 97) for n in range(10_000)]
     put_file("heads_apart", names(heads), counted(apart))
-    put_file("heads_joined", names([*heads, b"j"]), counted([*apart, *(record(10_000, seq, parents, MARK, label) for seq, parents in joins(10_000))]))
+    joined = [record(10_000, seq, parents, MARK, label) for seq, parents in joins(10_000)]
+    put_file("heads_joined", names([*heads, b"j"]), counted([*apart, *joined]))
+    put_file_2("heads_joined_2", names([*heads, b"j"]), number(10_667), *(run(n, 0, [], INSERT, 0, b"a") for n in range(10_000)), *joined)
     ids = [*((name, 0) for name in heads), *((b"j", seq) for seq in range(667))]
     put("heads_marks", events_frame(event_bytes((b"j", seq), [ids[p] for p in parents], MARK, label) for seq, parents in joins(10_000)), BYE)
     put("heads_marks_backwards", events_frame(reversed([event_bytes((b"j", seq), [ids[p] for p in parents], MARK, label) for seq, parents in joins(10_000)])), BYE)
@@ -103,6 +112,47 @@ def make_marks():
         operation = number(kind, 1) + number(size, 1) + b"m" * (size if size in (0, 1, 33) else 2)
         put_file(name, names(a), counted([first[:9] + operation]))
         put(f"{name}_sent", frame(2, counted([id_bytes((b"a", 1)) + number(1, 1) + id_bytes((b"a", 0)) + operation])))
+
+
+def make_runs():
+    """Files of version 2 that claim long runs, with a number at its end, or have many events in few bytes."""
+    a = [b"a"]
+
+    def bomb(name, events, *parts):
+        put_file_2(name, names(a), number(events), *parts)
+
+    for what, length in (("many", 16_777_216), ("most", GREATEST), ("million", 1_000_000)):
+        for kind, at in ((DELETE, 0), (FALLING, GREATEST)):
+            way = "falling" if kind == FALLING else "deleted"
+            claim = run(0, 0, [], kind, at, length)
+            bomb(f"runs_{what}_{way}", length, claim)
+            bomb(f"run_{what}_{way}", 1, claim)
+            if length > 1_000_000:
+                bomb(f"run_{what}_{way}_of_million", 1_000_000, claim)
+    bomb("run_typed_most", 1_000_000, run(0, 0, [], INSERT, 0, (GREATEST, b"a")))
+    bomb("run_typed_million", 1_000_000, run(0, 0, [], INSERT, 0, (1_000_000, b"a")))
+    bomb("run_of_none", 1, run(0, 0, [], DELETE, 0, 0))
+    bomb("run_falls_below", 3, run(0, 0, [], FALLING, 1, 3))
+    bomb("run_numbered_past", 2, run(0, GREATEST, [], DELETE, 0, 2))
+    bomb("run_typed_past", 2, run(0, 0, [], INSERT, GREATEST, b"ab"))
+    bomb("run_numbered_last", 2, run(0, GREATEST - 1, [], DELETE, 0, 2))
+    # Ids far apart, each between two that stand there, and a range that covers them.
+    apart = [run(0, 2 * n + 1, [n - 1] if n else [], DELETE, 2 * (n % 2), 1) for n in range(100_000)]
+    bomb("ids_apart", 100_000, *apart)
+    bomb("ids_covered", 1_000_000, *apart, run(0, 0, [99_999], DELETE, 5, 900_000))
+    bomb("ids_backwards", 100_000, *(run(0, GREATEST - 2 * n, [n - 1] if n else [], DELETE, 2 * (n % 2), 1) for n in range(100_000)))
+    ends = [run(0, GREATEST - 499_999, [], DELETE, 0, 500_000), run(0, 0, [499_999], DELETE, 0, 499_999)]
+    bomb("ids_at_ends", 999_999, *ends)
+    bomb("ids_at_ends_and_once_more", 1_000_000, *ends, run(0, GREATEST, [999_998], DELETE, 5, 1))
+    bomb("run_joins", 200_001, run(0, 0, [], INSERT, 0, b"a" * 100_000), run(0, 100_000, [99_999], INSERT, 100_000, (100_001, b"")))
+    # A thousand letters of one, which each of 999 others deletes, from the first on and from the last on.
+    letters, others = run(0, 0, [], INSERT, 0, b"x" * 1000), [b"d%03d" % n for n in range(999)]
+    ways = [(DELETE, 0), (FALLING, 999)]
+    put_file_2("deleted_by_all", names([*a, *others]), number(1_000_000), letters, *(run(1 + n, 0, [999], *ways[n % 2], 1000) for n in range(999)))
+    put_file_2("deleted_by_ten", names([*a, *others[:10]]), number(11_000), letters, *(run(1 + n, 0, [999], *ways[n % 2], 1000) for n in range(10)))
+    put_file_2("typed_million", names(a), number(1_000_000), run(0, 0, [], INSERT, 0, b"x" * 1_000_000))
+    # A million records of one letter each, none of which goes on with the one before.
+    put_file_2("typed_apart", names(a), number(1_000_000), run(0, 0, [], INSERT, 0, b"x"), *(run(0, n, [n - 1], INSERT, 0, b"x") for n in range(1, 1_000_000)))
 
 
 def make_inputs():
@@ -148,6 +198,7 @@ def make_inputs():
     put("net_typed", b"peer a\npeer b\nins a 0 ", b"x" * 20_000, b"\npush a b\ndeliver 0\ndel b 0 19999\npush b a\ndeliver 2\nagree\nshow a\n")
     back = (b"send a b %d 1\ndeliver %d\n" % (1999 - n, 2 * n) for n in range(2_000))
     put("net_backwards", b"peer a\npeer b\nins a 0 ", b"x" * 2_000, b"\n", *back, b"agree\n")
+    put("net_marks", b"peer a\npeer b\n", b"mark a m\n" * 3_000, b"mark b n\n" * 3_000, b"push a b\ndeliver 0\nmark b all\npush b a\ndeliver 2\nagree\n")
     put("net_waiting", b"peer a\npeer b\nins a 0 ", b"x" * 70_000, b"\nsend a b 1 70000\ndeliver 0\nrestart b\npush a b\ndeliver 2\nagree\n")
     put("bye", BYE)
     put("script", b"ins 0 x\n")
@@ -156,4 +207,5 @@ def make_inputs():
 
 make_files()
 make_marks()
+make_runs()
 make_inputs()

@@ -6,7 +6,7 @@
 
 Of each case of CASES the call number k of an object fails, for k from 0 to the number of calls that the case makes, which is the
 run in which nothing fails. A store that fails is tried twice: its bytes don't land, and do. Behind them come files, frames and
-scripts with one byte changed, or cut at each place. The program has no part in it.
+scripts with one byte changed, or cut at each place, and runs of events in files of version 2. The program has no part in it.
 """
 
 import pathlib
@@ -16,7 +16,7 @@ from collections import namedtuple
 sys.dont_write_bytecode = True
 sys.path[:0] = [str(pathlib.Path(__file__).parent), str(pathlib.Path(__file__).parent.parent / "tools")]
 
-from egw_bytes import INSERT, MARK, content, event_bytes, frame, number, record  # noqa: E402
+from egw_bytes import DELETE, FALLING, INSERT, MARK, content, content_2, event_bytes, frame, number, record, run, sized  # noqa: E402
 from outside import OBJECTS, Reader, Rows, escaped  # noqa: E402
 
 ROOT = pathlib.Path(sys.argv[1])
@@ -51,6 +51,17 @@ FILES = {
     "marked": content([b"a", b"b"], [*typed(0, "a"), record(0, 1, [0], MARK, b"m_1"), record(1, 0, [1], INSERT, 1, ord("Q"))]),
     "unreduced": content([b"a", b"b"], [*typed(0, "ab"), record(1, 0, [0, 1], INSERT, 0, ord("X"))]),
     "unlike": bytes(20),
+    # All kinds of records, in both versions.
+    "kinds": content([b"a", b"b"], [*typed(0, "abcd"), *(record(0, 4 + n, [3 + n], DELETE, at) for n, at in enumerate([3, 2, 0, 0])), record(0, 8, [7], MARK, b"m"), record(1, 0, [8], INSERT, 0, ord("Z"))]),
+    "kinds_2": content_2([b"a", b"b"], [run(0, 0, [], INSERT, 0, b"abcd"), run(0, 4, [3], FALLING, 3, 2), run(0, 6, [5], DELETE, 0, 2), run(0, 8, [7], MARK, None, b"m"), run(1, 0, [8], INSERT, 0, b"Z")], 10),
+    # The files of version 2 of those above, and what is stored.
+    "empty_2": content_2([], [], 0),
+    "abc_2": content_2([b"a"], [run(0, 0, [], INSERT, 0, b"abc")], 3),
+    "xyz_2": content_2([b"b"], [run(0, 0, [], INSERT, 0, b"xyz")], 3),
+    "both_2": content_2([b"a", b"b"], [run(0, 0, [], INSERT, 0, b"abc"), run(1, 0, [], INSERT, 0, b"xyz")], 6),
+    "abcQ_2": content_2([b"a", b"b"], [run(0, 0, [], INSERT, 0, b"abc"), run(1, 0, [2], INSERT, 3, b"Q")], 4),
+    "marked_2": content_2([b"a", b"b"], [run(0, 0, [], INSERT, 0, b"a"), run(0, 1, [0], MARK, None, b"m_1"), run(1, 0, [1], INSERT, 1, b"Q")], 3),
+    "unreduced_2": content_2([b"a", b"b"], [run(0, 0, [], INSERT, 0, b"ab"), run(1, 0, [0, 1], INSERT, 0, b"X")], 3),
 }
 HAVE = frame(1, number(1) + b"\x01a" + number(2))
 EVENTS = frame(2, number(1) + inserts(b"b", 0, [(b"a", 2)], 3, "Q"))
@@ -59,7 +70,7 @@ WAITING = frame(2, number(1) + inserts(b"c", 0, [(b"z", 0)], 0, "w"))
 CLASH = frame(2, number(1) + inserts(b"a", 0, [], 0, "A"))
 BYE = frame(6)
 NET = b"peer a\npeer b\nins a 0 abc\npush a b\ndeliver 0\nshow b\nagree\n"
-F, FG = {"F": "abc"}, {"F": "abc", "G": "xyz"}
+F, FG, F_2 = {"F": "abc"}, {"F": "abc", "G": "xyz"}, {"F": "abc_2"}
 
 # The cases of a command stand together. A command that has none is told.
 CASES = [
@@ -67,6 +78,8 @@ CASES = [
     Case("new, where the file is there", "new F", F),
     Case("edit", "edit F --agent b", F, b"ins 3 Q"),
     Case("edit, in pieces", "edit F --agent b", F, b"\nins 3 Q\n", ("slow 4", "piece 3")),
+    Case("edit of a file of version 2", "edit F --agent b", F_2, b"ins 3 Q"),
+    Case("edit of a file of version 2, of no events", "edit F --agent b", F_2, b"del 3 0"),
     Case("edit of no events", "edit F --agent b", F, b"del 3 0"),
     Case("edit of no lines", "edit F --agent b", F),
     Case("edit by a line that is unreadable", "edit F --agent b", F, b"ins 0 x\nins 00 x"),
@@ -75,27 +88,40 @@ CASES = [
     Case("edit past the limit of the input", "edit F --agent b", F, b"ins 0 " + b"x" * 60, (), "3 1 64 668"),
     Case("edit of no file", "edit F --agent b", {}, b"ins 3 Q"),
     Case("cat", "cat F", F),
+    Case("cat of a file of version 2", "cat F", {"F": "kinds_2"}),
     Case("cat, in pieces", "cat F", F, b"", ("piece 1",)),
     Case("cat of no events", "cat F", {"F": "empty"}),
     Case("cat of no file", "cat F"),
     Case("cat of a file with a bad event", "cat F", {"F": "unreduced"}),
+    Case("cat of a file of version 2 with a bad event", "cat F", {"F": "unreduced_2"}),
     Case("cat at a version", "cat F --at a:1", F),
+    Case("cat of a file of version 2 at a version", "cat F --at a:5", {"F": "kinds_2"}),
     Case("cat at a version that is unknown", "cat F --at a:1,z:9", F),
     Case("heads", "heads F", FG | {"F": "both"}),
+    Case("heads of a file of version 2", "heads F", {"F": "kinds_2"}),
     Case("heads, in pieces", "heads F", {"F": "both"}, b"", ("piece 3",)),
     Case("log", "log F", F),
+    Case("log of a file of version 2", "log F", {"F": "kinds_2"}),
     Case("log, in pieces", "log F", F, b"", ("piece 16",)),
     Case("marks", "marks F", {"F": "marked"}),
+    Case("marks of a file of version 2", "marks F", {"F": "kinds_2"}),
     Case("marks, in pieces", "marks F", {"F": "marked"}, b"", ("piece 3",)),
     Case("marks of no marks", "marks F", F),
     Case("marks of no file", "marks F"),
     Case("replay", "replay F", F),
+    Case("replay of a file of version 2", "replay F", {"F": "kinds_2"}),
     Case("replay, in pieces", "replay F", F, b"", ("piece 8",)),
     Case("check", "check F", F),
+    Case("check of a file of version 2", "check F", {"F": "kinds_2"}),
     Case("check, in pieces", "check F", F, b"", ("piece 11",)),
     Case("ask", "ask F", F),
+    Case("ask of a file of version 2", "ask F", {"F": "kinds_2"}),
     Case("ask, in pieces", "ask F", F, b"", ("piece 4",)),
     Case("merge", "merge F G", FG),
+    Case("merge of version 2", "merge F G", {"F": "abc_2", "G": "xyz_2"}),
+    Case("merge of version 2 into version 1", "merge F G", {"F": "abc", "G": "xyz_2"}),
+    Case("merge of version 1 into version 2", "merge F G", {"F": "abc_2", "G": "xyz"}),
+    Case("merge of repeats in the other version", "merge F G", {"F": "both", "G": "abc_2"}),
     Case("merge, in pieces", "merge F G", FG, b"", ("piece 9",)),
     Case("merge of repeats", "merge F G", {"F": "both", "G": "xyz"}),
     Case("merge with itself", "merge F F", F),
@@ -106,6 +132,9 @@ CASES = [
     Case("serve: what is lacking", "serve F", F, HAVE),
     Case("serve: events, up to the end of the input", "serve F", F, EVENTS),
     Case("serve: events, and a Bye", "serve F", F, EVENTS + BYE),
+    Case("serve: events, and a Bye, to a file of version 2", "serve F", F_2, EVENTS + BYE),
+    Case("serve: what is lacking of a file of version 2", "serve F", {"F": "kinds_2"}, HAVE),
+    Case("serve: repeats, to a file of version 2", "serve F", {"F": "abcQ_2"}, EVENTS + BYE),
     Case("serve: events and more, in pieces", "serve F", F, HAVE + EVENTS + HAVE + BYE, ("slow 9", "piece 13")),
     Case("serve: events that wait", "serve F", F, WAITING + BYE),
     Case("serve: repeats", "serve F", {"F": "abcQ"}, EVENTS + BYE),
@@ -116,6 +145,15 @@ CASES = [
     Case("serve: no frames", "serve F", F),
     Case("serve past the limit of the input", "serve F", F, EVENTS + BYE, (), "8 1 33 668"),
     Case("serve of no file", "serve F", {}, EVENTS),
+    Case("upgrade", "upgrade F", F),
+    Case("upgrade of a file of version 2", "upgrade F", F_2),
+    Case("upgrade, in pieces", "upgrade F", F, b"", ("piece 7",)),
+    Case("upgrade of no events", "upgrade F", {"F": "empty"}),
+    Case("upgrade of all kinds", "upgrade F", {"F": "kinds"}),
+    Case("upgrade of no file", "upgrade F"),
+    Case("upgrade of a file that is none", "upgrade F", {"F": "unlike"}),
+    Case("upgrade of a file with a bad event", "upgrade F", {"F": "unreduced"}),
+    Case("upgrade past the limit of events", "upgrade F", F, b"", (), "2 1 64 668"),
     Case("net", "net", {}, NET),
     Case("net, in pieces", "net", {}, NET, ("slow 9", "piece 20")),
     Case("net of no lines", "net"),
@@ -141,8 +179,34 @@ CHANGES = [
     (12, 0, "byte 12: bad name"), (13, 0x20, "byte 12: bad name"), (8, 2, "byte 14: bad name"), (18, 1, "byte 18: agent number"),
     (26, 17, "byte 26: parent count"), (26, 1, "byte 27: parent position"), (14, 2, "byte 36: cut"), (14, 0, "byte 18: trailing bytes"),
     (33, 0xD8, "byte 32: scalar"), (27, 3, "byte 27: kind"), (27, 2, "byte 28: bad name"), (31, 1, "event 0: out of range, length 0"),
-    (22, 1, "event 0: skipped"), (7, 2, "version 2"), (0, 0x65, "not an event file"), (8, 0, "byte 16: agent number"),
+    (22, 1, "event 0: skipped"), (7, 2, "byte 32: run length"), (7, 3, "version 3"), (7, 0, "version 0"), (0, 0x65, "not an event file"), (8, 0, "byte 16: agent number"),
 ]
+
+# The same of the file of version 2 of three letters, with another field of four bytes, or another kind: as docs/FORMATS.md has them.
+CHANGES_2 = [
+    (32, 0, "byte 32: run length"), (32, 4, "byte 32: run length"), (32, 2, "byte 44: agent number"), (14, 2, "byte 32: run length"), (14, 4, "byte 48: cut"),
+    (28, 4294967293, "event 0: out of range, length 0"), (28, 4294967294, "byte 32: run length"), (28, 4294967295, "byte 32: run length"),
+    (22, 4294967293, "event 0: skipped"), (22, 4294967294, "byte 32: run length"), (22, 4294967295, "byte 32: run length"), (40, 0xD800, "byte 40: scalar"),
+    (36, 0x110000, "byte 36: scalar"), (32, 4294967295, "byte 32: run length"), (18, 1, "byte 18: agent number"), (14, 0, "byte 18: trailing bytes"),
+]
+KINDS_2 = [(4, "byte 27: kind"), (3, "byte 32: run length"), (2, "byte 28: bad name"), (1, "byte 36: trailing bytes")]
+
+# Deletions of `a` in two records, the first without parents and the second on its last event: of each the kind, the first index, the length
+# and the number; and what is found, as docs/FORMATS.md has it. What is read has a deletion from no text.
+READ = "event 0: out of range, length 0"
+DELETIONS = [
+    ((1, 5, 1, 0), (1, 4, 1, 1), "byte 50: run join"), ((1, 5, 1, 0), (3, 4, 2, 1), "byte 50: run join"), ((1, 5, 1, 0), (3, 5, 2, 1), "byte 50: run join"),
+    ((1, 5, 2, 0), (1, 4, 1, 2), READ), ((3, 5, 2, 0), (1, 3, 1, 2), "byte 50: run join"), ((3, 5, 2, 0), (1, 4, 1, 2), READ),
+    ((1, 5, 1, 0), (1, 5, 1, 0), "byte 40: id twice"), ((1, 5, 1, 2), (1, 5, 3, 0), "byte 54: id twice"), ((1, 5, 1, 2), (1, 5, 2, 0), "event 0: skipped"),
+    ((1, 5, 1, 2), (3, 5, 3, 0), "byte 54: id twice"), ((3, 9, 4, 3), (1, 9, 3, 0), "event 0: skipped"), ((3, 9, 4, 3), (1, 9, 4, 0), "byte 54: id twice"),
+    ((3, 9, 4, 3), (1, 9, 9, 0), "byte 54: id twice"), ((3, 9, 4, 3), (1, 9, 1, 6), "byte 40: id twice"), ((3, 9, 4, 3), (1, 9, 1, 8), "event 0: skipped"),
+    ((1, 0, 1, 4294967295), (1, 0, 1, 0), "event 0: skipped"), ((1, 0, 2, 4294967294), (1, 1, 2, 4294967293), "byte 54: id twice"), ((1, 0, 1, 0), (1, 0, 2, 4294967295), "byte 54: run length"),
+    ((1, 4294967295, 2, 0), (1, 4294967294, 1, 2), READ), ((3, 4294967295, 2, 0), (1, 4294967293, 1, 2), "byte 50: run join"), ((1, 0, 1, 0), (3, 0, 2, 4), "byte 54: run length"),
+    ((1, 0, 1, 0), (3, 1, 2, 4), READ), ((1, 0, 1, 0), (3, 2, 4, 4), "byte 54: run length"), ((3, 1, 2, 0), (1, 0, 1, 2), READ), ((1, 0, 1, 0), (1, 0, 1, 1), "byte 50: run join"),
+]
+
+# Runs behind thirty letters of `a`, by the agent `b`: each kind, of one event and of two, from the index 10 on.
+ENDS = [(INSERT, b"X"), (INSERT, b"XY"), (DELETE, 1), (DELETE, 2), (FALLING, 2), (MARK, b"m")]
 
 
 def spelled(data):
@@ -246,6 +310,77 @@ class Table:
             self.ready("file F cut_digested")
             self.ask("run cat F")
 
+    def add_changes_2(self):
+        """The same of files of version 2: changed as the page has them, two records of deletions, and all kinds with each byte changed."""
+        abc, kinds, magic = FILES["abc_2"], FILES["kinds_2"], FILES["empty_2"][:8]
+        self.begin("program", "a file of version 2, changed as the page has it")
+        for place, value, fault in CHANGES_2:
+            self.faulty(abc[:place] + number(value) + abc[place + 4 :], fault)
+        for kind, fault in KINDS_2:
+            self.faulty(abc[:27] + number(kind, 1) + abc[28:], fault)
+        self.faulty(abc[:32] + number(1) + abc[36:40] + run(0, 1, [0], INSERT, 1, b"bc"), "byte 54: run join")
+        self.faulty(abc[:7] + b"\1" + abc[8:], "byte 36: agent number")
+        self.faulty(abc[:7] + b"\3" + abc[8:], "version 3")
+        self.faulty(magic + number(1) + sized(b"a") + number(0), "byte 18: unused agent")
+        self.faulty(content([b"a"], [*typed(0, "a"), record(0, 1, [0], FALLING, 0)]), "byte 49: kind")
+        self.begin("program", "two records of deletions in a file of version 2")
+        for one, other, fault in DELETIONS:
+            records = [run(0, seq, parents, kind, at, length) for (kind, at, length, seq), parents in ((one, []), (other, [one[2] - 1]))]
+            self.faulty(content_2([b"a"], records, one[2] + other[2]), fault)
+        self.faulty(content_2([b"a"], [run(0, 2, [], 1, 5, 1), run(0, 0, [0], 1, 5, 4)], 4), "byte 54: run length")
+        self.faulty(content_2([b"a"], [run(0, 0, [], 1, 5, 2), run(0, 2, [2], 1, 4, 1)], 3), "byte 45: parent position")
+        self.faulty(content_2([b"a"], [run(0, 0, [], FALLING, 5, 1)], 1), "byte 32: run length")
+        self.faulty(content_2([b"a"], [run(0, 0, [], FALLING, 1, 3)], 3), "byte 32: run length")
+        self.faulty(content_2([b"a"], [run(0, 0, [], FALLING, 1, 2)], 2), READ)
+        for value in (255, 1):
+            self.begin("program", f"a file of version 2 with all kinds, and with {'each byte made 255' if value == 255 else 'one added to each byte'} in turn")
+            for place, byte in enumerate(kinds):
+                changed = value if value == 255 else (byte + 1) % 256
+                self.file_bytes("changed", kinds[:place] + number(changed, 1) + kinds[place + 1 :], "check F")
+        self.begin("program", "a file of version 2 with all kinds that is cut at each place, with a digest behind it")
+        for size in range(16, len(kinds)):
+            self.ready(f"front cut kinds_2_undigested {size}")
+            self.ready("sealed cut_digested cut")
+            self.ready("file F cut_digested")
+            self.ask("run cat F")
+
+    def faulty(self, data, fault):
+        """A file of these bytes, whose fault was worked out by hand."""
+        self.file_bytes("changed", data)
+        assert self.groups[-1][-1] == f"run cat F = 4 err egw: F: {fault}%0a", (fault, self.groups[-1][-1])
+
+    def add_boundaries(self):
+        """Two runs in a record of each, with a step between them: those that are one run are told. Then what parts such runs otherwise."""
+        letters = run(0, 0, [], INSERT, 0, b"abcdefghijklmnopqrstuvwxyzABCD")
+        self.begin("program", "two records of version 2 that are one run, or two")
+        joined = []
+        for kind, what in ENDS:
+            size = 1 if kind == MARK else what if isinstance(what, int) else len(what)
+            last = 10 + (size - 1) * {INSERT: 1, FALLING: -1}.get(kind, 0)
+            for other, more in ENDS:
+                for step in (-1, 0, 1) if MARK not in (kind, other) else (0,):
+                    count = 30 + size + (1 if other == MARK else more if isinstance(more, int) else len(more))
+                    first = run(1, 0, [29], kind, 10, what)
+                    self.file_bytes("pair", content_2([b"a", b"b"], [letters, first, run(1, size, [29 + size], other, last + step, more)], count), "check F")
+                    if "run join" in self.groups[-1][-1]:
+                        joined.append((first, size, other, last + step, more, count))
+        assert len(joined) == 2 * 2 + 3 * 2 + 3 + 3, len(joined)
+        self.begin("program", "two records of version 2 that another agent, number or parents part")
+        for first, size, other, at, more, count in joined:
+            for agent, seq, parents in ((0, 30, [29 + size]), (2, 0, [29 + size]), (1, size + 1, [29 + size]), (1, size, []), (1, size, [29]), (1, size, [28 + size]), (1, size, [29, 29 + size])):
+                names = [b"a", b"b", b"c"][: 3 if agent == 2 else 2]
+                self.file_bytes("pair", content_2(names, [letters, first, run(agent, seq, parents, other, at, more)], count), "check F")
+
+    def add_upgrades(self):
+        """Each good file in version 1 is upgraded twice: the second time nothing is stored, and each text stays."""
+        self.begin("program", "upgrade twice")
+        for name in FILES:
+            if f"{name}_2" not in FILES:
+                continue
+            self.ready(f"file F {name}_file")
+            for asked in ("run cat F", "run log F", "run upgrade F", "calls", f"same F {name}_2_file", "run upgrade F", "calls", f"same F {name}_2_file", "run log F", "run cat F"):
+                self.ask(asked)
+
     def add_inputs(self):
         """Frames and scripts with each byte made 255, and cut at each place. Where the status isn't 0 the file stays as it was."""
         script, net = b"del 0 1\nins 2 Q\\n", b"peer a\nins a 0 x\\n\nsend a a 0 1\ndeliver 0\nshow a"
@@ -272,6 +407,9 @@ def make_table(reader):
     table.add_rooms()
     table.add_changes()
     table.add_cuts()
+    table.add_changes_2()
+    table.add_boundaries()
+    table.add_upgrades()
     table.add_inputs()
     return table.text()
 

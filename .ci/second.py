@@ -9,9 +9,9 @@ import sys
 sys.dont_write_bytecode = True
 sys.path[:0] = [str(pathlib.Path(__file__).parent), str(pathlib.Path(__file__).parent.parent / "tools")]
 
-from beside import FOLDER, ROOT, Alone, Beside, Draws, list_all, reader  # noqa: E402
-from egw_bytes import MARK, content, counted, event_bytes, frame, id_bytes, number, record, with_digest  # noqa: E402
-from histories import MOST_EVENTS, MOST_FILE, MOST_INPUT, USAGE, Event, History, Id, Op, file_of, parts_of  # noqa: E402
+from beside import FOLDER, ROOT, Alone, Beside, list_all, reader  # noqa: E402
+from egw_bytes import DELETE, FALLING, INSERT, MARK, content, content_2, counted, event_bytes, frame, id_bytes, number, record, run, with_digest  # noqa: E402
+from histories import MOST_EVENTS, MOST_FILE, MOST_INPUT, USAGE, Draws, Event, History, Id, Op, file_of, parts_of  # noqa: E402
 
 SEED = 2718281828
 
@@ -23,15 +23,22 @@ def examples(beside, draws):
     beside.part = "examples"
     paths = sorted((ROOT / "examples").rglob("*.egw"))
     for path in paths:
-        beside.file(path.name, path.read_bytes())
-        list_versions(beside, draws, path.name)
-        beside.run("merge", path.name, path.name)
-        beside.run("merge", path.name, "letter.egw")
+        events = reader.parse_file(path.read_bytes(), path.name)
+        for version, list_it in ((1, list_versions), (2, lambda beside, _, name: list_all(beside, name))):
+            beside.file(path.name, reader.file_bytes(events, version))
+            list_it(beside, draws, path.name)
+            beside.run("merge", path.name, path.name)
+            beside.run("merge", path.name, "letter.egw")
+        beside.file("2_" + path.name, reader.file_bytes(events, 2))
         beside.file(path.name, path.read_bytes())
     for line in (ROOT / "examples" / "histories" / "merged").read_text().splitlines():
         one, other = (name + ".egw" for name in line.split()[:2])
-        beside.copy(one, "whole")
-        beside.run("merge", "whole", other)
+        answers = set()
+        for first, second in itertools.product((one, "2_" + one), (other, "2_" + other)):
+            beside.copy(first, "whole")
+            answers.add((beside.run("merge", "whole", second), beside.run("cat", "whole")))
+        if len(answers) != 1:
+            beside.wrong(f"{one} and {other} in different versions are merged otherwise")
         list_versions(beside, draws, "whole")
     for line in (ROOT / "examples" / "histories" / "past").read_text().splitlines():
         name, version = line.split()[:2]
@@ -98,7 +105,20 @@ def list_versions(beside, draws, name):
     at(old, draws.one_of(unknown), draws.one_of(unknown))
     at(draws.one_of(unknown), old)
     at(draws.one_of(NO_VERSIONS))
+    upgrade_twice(beside, name, answers)
     return answers
+
+
+def upgrade_twice(beside, name, answers):
+    """Upgrades a copy of a file twice. It says which version it read, and tells the same as the file."""
+    beside.copy(name, "upgraded")
+    first, again = beside.run("upgrade", "upgraded"), beside.run("upgrade", "upgraded")
+    told = f"events {answers[2][1].decode().count(chr(10))}\n"
+    texts = [(0, f"version {version} {told}".encode()) for version in (1, 2)]
+    if first[0] == 0 and (first not in texts or again != texts[1] or any(beside.run(listing, "upgraded") != answers[place] for listing, place in (("cat", 0), ("log", 2)))):
+        beside.wrong(f"{name} tells otherwise where it is upgraded")
+    if first[0] and again != first:
+        beside.wrong(f"{name} is upgraded although it was refused")
 
 
 def versions(beside, draws):
@@ -204,13 +224,22 @@ def people(beside, draws):
 LABELS = [b"m", b"draft", b"_", b"9-_Z", b"m" * 32]
 
 
+def draw_version(draws):
+    """A version of the event file."""
+    return 1 + draws.below(2)
+
+
 def draw_graph(draws, size):
-    """Events with any reduced parents, each behind its agent's last. One of six is a mark, and some of these join all heads."""
+    """Events with any reduced parents, each behind its agent's last. One of six is a mark, and some of these join all heads.
+
+    Each second event is on the one before it alone, and then often goes on with what that one did.
+    """
     history, last = History(), {}
     while len(history.events) < size:
-        agent = draws.one_of([b"a", b"b", b"c", b"d", b"ab"])
+        before = draws.one_of([None, history.events[-1]]) if history.events else None
+        agent = before.id.agent if before else draws.one_of([b"a", b"b", b"c", b"d", b"ab"])
         parents = {last[agent]} if agent in last else set()
-        for _ in range(draws.below(3)):
+        for _ in range(0 if before else draws.below(3)):
             if history.events:
                 parents.add(draws.one_of(history.events).id)
         is_mark = draws.below(6) == 0
@@ -224,6 +253,10 @@ def draw_graph(draws, size):
         length = sum(node.event & known != 0 and not node.deleters & known for node in history.walk())
         if is_mark:
             op = Op(None, None, draws.one_of(LABELS))
+        elif before and before.op.ch is not None and draws.below(4):
+            op = Op(before.op.at + 1, ord(draws.one_of("abc")))
+        elif before and not before.op.label and before.op.ch is None and 0 < before.op.at < length and draws.below(4):
+            op = Op(before.op.at - draws.below(2), None)
         elif length and draws.below(4) == 0:
             op = Op(draws.below(length), None)
         else:
@@ -247,7 +280,7 @@ def graphs(beside, draws):
         known = history.version(set(ids))
         parts.append([event for position, event in enumerate(events) if known >> position & 1])
         asked.append(",".join(f"{id.agent.decode()}:{id.seq}" for id in ids))
-    beside.files(graph=file_of(events), one=file_of(parts[0]), other=file_of(parts[1]))
+    beside.files(**{name: file_of(part, draw_version(draws)) for name, part in (("graph", events), ("one", parts[0]), ("other", parts[1]))})
     list_versions(beside, draws, "graph")
     for name, version in zip(("one", "other"), asked):
         answers = list_versions(beside, draws, name)
@@ -302,8 +335,8 @@ def bad_events(draws, events):
 
 def damaged(beside, draws):
     """One file in which something is wrong, or perhaps nothing; and a good one to merge it with."""
-    events = draw_graph(draws, 2 + draws.below(10))
-    good = file_of(events)
+    events, version = draw_graph(draws, 2 + draws.below(10)), draw_version(draws)
+    good = file_of(events, version)
     content = bytearray(good[:-32])
     choice = draws.below(10)
     if choice == 0:
@@ -321,7 +354,7 @@ def damaged(beside, draws):
         data = with_digest(content)
     else:
         changed = bad_events(draws, events)
-        data = good if changed is None else file_of(changed)
+        data = good if changed is None else file_of(changed, version)
     beside.files(good=good, bad=bytes(data))
     list_versions(beside, draws, "bad")
     beside.run("edit", "bad", "--agent", "a", input=b"ins 0 x")
@@ -385,6 +418,7 @@ def by_hand(beside, draws):
         content([b"a"], [first], count=1_000_001),
         content([b"a"], [first, second])[:8] + b"\xff\xff\xff\xff",
         content([b"a"], [first, second])[:-1],
+        *files_2(),
     ]
     for number, data in enumerate(files):
         name = f"file{number}"
@@ -392,11 +426,87 @@ def by_hand(beside, draws):
         list_versions(beside, draws, name)
         beside.clear()
     good = with_digest(content([b"a"], [first, second]))
-    for data in (b"", good[:47], good[:48], good[:-1], good + b"\0", b"EGWFILF" + good[7:], b"EGWFILE\x02" + good[8:]):
+    for data in (b"", good[:47], good[:48], good[:-1], good + b"\0", b"EGWFILF" + good[7:], b"EGWFILE\x02" + good[8:], b"EGWFILE\x03" + good[8:]):
         beside.file("bytes", data)
         list_versions(beside, draws, "bytes")
     beside.clear()
-    return len(files) + 7 + page_rows(beside, draws)
+    return len(files) + 8 + page_rows(beside, draws)
+
+
+def files_2():
+    """Files of version 2 for each fault of a record, and good ones; each run begins behind the letters of `a`."""
+    letters = run(0, 0, [], INSERT, 0, b"abcdefgh")
+
+    def of(*runs, names=(b"a", b"b"), count=None, letters=letters):
+        """A file of the letters and these runs, each with the number of its events."""
+        return content_2(names, [letters, *(one for one, _ in runs)], 8 + sum(size for _, size in runs) if count is None else count)
+
+    def b(seq, parent, kind, at, what):
+        """A run of `b` on one event, and the number of its events."""
+        return run(1, seq, [parent], kind, at, what), 1 if kind == MARK else what if isinstance(what, int) else len(what)
+
+    return [
+        content_2([], [], 0),
+        of(names=[b"a"]),
+        of(b(0, 7, INSERT, 3, b"xyz")),
+        of(b(0, 2, INSERT, 3, b"xyz")),
+        of(b(0, 7, DELETE, 3, 1)),
+        of(b(0, 7, DELETE, 3, 4)),
+        of(b(0, 7, DELETE, 3, 6)),
+        of(b(0, 7, FALLING, 7, 8)),
+        of(b(0, 7, FALLING, 7, 9)),
+        of(b(0, 7, FALLING, 7, 1)),
+        of(b(0, 7, MARK, None, b"m")),
+        of(b(0, 7, MARK, None, b"")),
+        of(b(0, 7, MARK, None, b"-")),
+        of(b(0, 7, INSERT, 3, (0, b""))),
+        of(b(0, 7, INSERT, 3, (2, b"x"))),
+        of(b(0, 7, INSERT, 3, (2, b"x")), count=10),
+        of(b(0, 7, INSERT, 3, (1, b"xy"))),
+        of(b(0, 7, INSERT, 3, [0xD7FF, 0xD800])),
+        of(b(0, 7, INSERT, 3, [0x110000])),
+        of(b(0, 7, DELETE, 3, 0), count=9),
+        of(b(0, 7, DELETE, 3, 4294967295), count=9),
+        of(b(0, 7, 4, 3, 1), count=9),
+        of(b(0, 7, DELETE, 3, 1), b(1, 8, DELETE, 3, 1)),
+        of(b(0, 7, DELETE, 3, 1), b(1, 8, FALLING, 2, 2)),
+        of(b(0, 7, DELETE, 3, 1), b(1, 8, DELETE, 4, 1)),
+        of(b(0, 7, DELETE, 3, 2), b(2, 9, DELETE, 2, 1)),
+        of(b(0, 7, FALLING, 3, 2), b(2, 9, DELETE, 1, 1)),
+        of(b(0, 7, FALLING, 3, 2), b(2, 9, DELETE, 2, 2)),
+        of(b(0, 7, INSERT, 3, b"x"), b(1, 8, INSERT, 4, b"y")),
+        of(b(0, 7, INSERT, 3, b"x"), b(1, 8, INSERT, 3, b"y")),
+        of(b(0, 7, INSERT, 3, b"x"), b(1, 8, DELETE, 3, 1)),
+        of(b(0, 7, INSERT, 3, b"x"), b(1, 8, MARK, None, b"m"), b(2, 9, INSERT, 4, b"y")),
+        of(b(0, 7, INSERT, 3, b"x"), b(2, 8, INSERT, 4, b"y")),
+        of(b(0, 7, INSERT, 3, b"x"), b(1, 7, INSERT, 4, b"y")),
+        of(b(2, 7, INSERT, 3, b"x"), b(0, 8, INSERT, 4, b"yz")),
+        of(b(2, 7, INSERT, 3, b"x"), b(0, 8, INSERT, 4, b"xyz")),
+        of(b(2, 7, INSERT, 3, b"x"), b(2, 8, INSERT, 4, b"xyz")),
+        of(b(4294967294, 7, DELETE, 3, 2)),
+        of(b(4294967295, 7, DELETE, 3, 2)),
+        of(b(0, 7, INSERT, 4294967294, b"xy")),
+        of(b(0, 7, INSERT, 4294967295, b"xy")),
+        of(b(0, 7, FALLING, 4294967295, 8)),
+        of(b(0, 8, DELETE, 3, 1)),
+        of((run(2, 0, [7], DELETE, 3, 1), 1)),
+        of((run(0, 8, [7], INSERT, 8, b"i"), 1)),
+        of((run(0, 9, [7], INSERT, 8, b"i"), 1)),
+        of((run(0, 8, [6], INSERT, 7, b"i"), 1)),
+        of((run(1, 0, [3, 7], DELETE, 3, 1), 1)),
+        of((run(1, 0, [7, 3], DELETE, 3, 1), 1)),
+        of((run(1, 0, [7] * 17, DELETE, 3, 1), 1)),
+        of(b(0, 7, DELETE, 3, 1))[:-1],
+        of(b(0, 7, DELETE, 3, 1))[:-5],
+        of(b(0, 7, DELETE, 3, 1)) + b"\0",
+        of(count=7),
+        of(count=9),
+        of(count=1_000_000),
+        of(count=1_000_001),
+        content_2([b"a"], [run(0, 0, [], DELETE, 0, 10_000)], 10_000),
+        content_2([b"a"], [run(0, 0, [], FALLING, 4294967295, 10_000)], 10_000),
+        content([b"a", b"b"], [record(0, 0, [], INSERT, 0, 97), record(1, 0, [0], FALLING, 0)]),
+    ]
 
 
 def page_rows(beside, draws):
@@ -505,7 +615,7 @@ def sessions(beside, draws):
     count = 400
     for _ in range(count):
         events = draw_graph(draws, 2 + draws.below(12))
-        beside.file("F", file_of(events[: draws.below(len(events) + 1)]))
+        beside.file("F", file_of(events[: draws.below(len(events) + 1)], draw_version(draws)))
         data = bytearray(b"".join(draw_frame(draws, events) for _ in range(1 + draws.below(6))))
         choice = draws.below(8)
         if choice == 0:
@@ -574,7 +684,7 @@ def scripts(beside, draws):
 # Lines of words
 
 
-WORDS = ["new", "edit", "cat", "heads", "log", "check", "merge", "replay", "ask", "serve", "make", "net", "marks", "F", "F", "F", "G", "--agent", "--agent", "--agent=a", "--agent=", "--agent==a", "a",
+WORDS = ["new", "edit", "cat", "heads", "log", "check", "merge", "replay", "ask", "serve", "make", "net", "marks", "upgrade", "F", "F", "F", "G", "--agent", "--agent", "--agent=a", "--agent=", "--agent==a", "a",
          "-", "--", "--", "", "-h", "--help", "help", "-V", "--version", "--at", "--at", "--at=", "--at=root", "--at=a:1", "root", "a:0", "a:2,a:0", "b:0", "--seed", "--seed=7", "--count", "--count=3", "7", "-F", "--agents", "--agen", "-agent", "---", "--=", "a" * 32, "a" * 33, "-1", "ä", "-ä", "=", "a b"]
 TAKEN = [["edit", "F", "--agent", "a"], ["edit", "--agent", "a", "F"], ["edit", "--agent=a", "--", "F"], ["edit", "F", "--agent=a"], ["edit", "--agent", "a", "--", "-F"],
          ["edit", "F", "--", "--agent", "a"], ["edit", "F", "--agent", "--", "a"], ["edit", "F", "--agent", "a", "--agent", "a"], ["edit", "F", "--agent", "a", "--agent=a"],
@@ -604,6 +714,8 @@ TAKEN = [["edit", "F", "--agent", "a"], ["edit", "--agent", "a", "F"], ["edit", 
          ["ask\n", "F"], ["asks", "F"], ["as", "F"], ["--", "ask", "F"], [b"ask", b"\xff"],
          ["marks", "F"], ["marks"], ["marks", "F", "G"], ["marks", "F", "F"], ["marks", "--", "F"], ["marks", "F", "--"], ["marks", "--", "-F"], ["marks", "-F"], ["marks", "G"], ["marks", "nowhere"], ["marks", ""],
          ["marks", "F", "--agent", "a"], ["marks", "F", "--at", "a:0"], ["marks", "F", "--help"], ["help", "marks"], ["Marks", "F"], ["mark", "F"], ["marks ", "F"], [b"marks", b"\xff"],
+         ["upgrade", "F"], ["upgrade"], ["upgrade", "F", "G"], ["upgrade", "F", "F"], ["upgrade", "--", "F"], ["upgrade", "F", "--"], ["upgrade", "--", "-F"], ["upgrade", "-F"], ["upgrade", "G"], ["upgrade", "nowhere"],
+         ["upgrade", ""], ["upgrade", "F", "--agent", "a"], ["upgrade", "F", "--at", "a:0"], ["upgrade", "F", "--help"], ["help", "upgrade"], ["Upgrade", "F"], ["upgrades", "F"], ["upgrade ", "F"], [b"upgrade", b"\xff"],
          ["make", "--seed", "1", "--count", "1"], ["make", "--count", "1", "--seed", "1"], ["make", "--seed=1", "--count=1"], ["make", "--seed=1", "--count", "1"], ["make", "--count=1", "--seed", "1"],
          ["make", "--seed", "1"], ["make", "--count", "1"], ["make"], ["make", "--seed", "1", "--count"], ["make", "--seed", "--count", "1"], ["make", "--seed=", "--count=1"], ["make", "--seed=1", "--count="],
          ["make", "--seed=1", "--seed=1", "--count=1"], ["make", "--seed=1", "--count=1", "--count=1"], ["make", "--seed=1", "--count=1", "--"], ["make", "--", "--seed=1", "--count=1"],
@@ -630,7 +742,7 @@ def words(beside, draws):
     beside.run("new", "F")
     beside.run("edit", "F", "--agent", "a", input=b"ins 0 abc")
     beside.copy("F", "kept")
-    lines = TAKEN + [[draws.one_of(WORDS[:12])] + [draws.one_of(WORDS) for _ in range(draws.below(6))] for _ in range(400)]
+    lines = TAKEN + [[draws.one_of(WORDS[:14])] + [draws.one_of(WORDS) for _ in range(draws.below(6))] for _ in range(400)]
     lines += [["edit"] + [draws.one_of(["F", "--agent", "--agent=a", "a", "--", "-", "-x", ""]) for _ in range(1 + draws.below(5))] for _ in range(200)]
     lines += [["cat"] + [draws.one_of(["F", "F", "--at", "--at=a:1", "a:0", "root", "b:0", "--", "-", "-x", ""]) for _ in range(1 + draws.below(5))] for _ in range(200)]
     lines += [["make"] + [draws.one_of(["--seed", "--seed=7", "--count", "--count=3", "5", "5", "+4", "-", "--", "F"]) for _ in range(1 + draws.below(5))] for _ in range(200)]
@@ -784,6 +896,7 @@ def limits(beside):
             beside.run("log", "heads")
             beside.run("check", "heads")
             beside.run("marks", "heads")
+            beside.run("upgrade", "heads")
     for heads in (16, 17):
         script = [f"peer p{n}\nins p{n} 0 x\npush p{n} p0" for n in range(heads)] + [f"deliver {n}" for n in range(1, heads)]
         for edit in ("ins p0 0 x", "ins p0 0 ", "del p0 0 1", "del p0 0 0", "ins p0 99 x", "mark p0 m\nins p0 0 x", "mark p0 m\nmark p0 n\npush p0 p1"):
@@ -807,6 +920,7 @@ def limits(beside):
         beside.run("cat", "large", "--at", "a:00")
         beside.run("replay", "large")
         beside.run("ask", "large")
+        beside.run("upgrade", "large")
         beside.run("serve", "large", input=frame(6))
         beside.run("new", "large")
     beside.clear()
@@ -827,6 +941,7 @@ def refusals(beside):
         beside.run("cat", name, "--at", "b:0")
         beside.run("replay", name)
         beside.run("marks", name)
+        beside.run("upgrade", name)
         beside.run("ask", name)
         beside.run("serve", name, input=frame(6))
         beside.run("edit", name, "--agent", "a", input=b"ins 0 x")
@@ -834,6 +949,12 @@ def refusals(beside):
         beside.run("merge", "F", name)
         beside.run("new", name)
     beside.file("F.0.new", b"another file")
+    beside.file("old.0.new", b"another file")
+    beside.file("old", file_of([Event(Id(b"a", 0), (), Op(0, 97))]))
+    for folder, _ in beside.sides:
+        (folder / "link_to_old").symlink_to("old")
+    beside.run("upgrade", "link_to_old")
+    beside.run("upgrade", "old")
     beside.run("edit", "F", "--agent", "a", input=b"ins 0 y")
     beside.run("edit", "F", "--agent", "a", input=b"mark m")
     with open("/dev/full", "wb") as full:
@@ -842,6 +963,11 @@ def refusals(beside):
             beside.run("cat", "F", "--at", version, out=full)
         beside.run("replay", "F", out=full)
         beside.run("marks", "F", out=full)
+        beside.run("upgrade", "F", out=full)
+        beside.file("old", file_of([Event(Id(b"a", 0), (), Op(0, 97))]))
+        beside.run("upgrade", "old", out=full)
+        beside.run("upgrade", "old")
+        beside.run("upgrade", "nowhere", err=full)
         beside.run("ask", "F", out=full)
         beside.run("serve", "F", input=frame(1, bytes(4)), out=full)
         beside.run("serve", "F", input=frame(3), out=full)
@@ -877,7 +1003,7 @@ def refusals(beside):
 # Each text that a run may give, without its names and numbers, has to come at least once.
 WANTED = [(0, "")] + [(2, USAGE.decode().strip())]
 WANTED += [(3, "egw: no file NAME"), (3, "egw: file NAME is there"), (4, "egw: F: short, N bytes"), (4, "egw: F: not an event file"), (4, "egw: F: version N"), (4, "egw: F: digest N, found N")]
-WANTED += [(4, f"egw: F: byte N: {fault}") for fault in ("cut", "bad name", "name twice", "agent number", "id twice", "parent count", "parent position", "parent order", "kind", "scalar", "trailing bytes", "unused agent")]
+WANTED += [(4, f"egw: F: byte N: {fault}") for fault in ("cut", "bad name", "name twice", "agent number", "id twice", "parent count", "parent position", "parent order", "kind", "scalar", "trailing bytes", "unused agent", "run join", "run length")]
 WANTED += [(4, f"egw: F: event N: {fault}") for fault in ("not reduced", "skipped", "out of range, length N")]
 WANTED += [(5, "egw: line N: unreadable"), (5, "egw: line N: out of range, length N"), (5, "egw: clash NAME"), (5, "egw: unknown NAME")]
 WANTED += [(5, f"egw: line N: {fault}") for fault in ("no peer NAME", "peer NAME is there", "no packet N")]
@@ -885,7 +1011,7 @@ WANTED += [(5, f"egw: frame N: {fault}") for fault in ("cut", "bad kind N", "too
 WANTED += [(6, f"egw: {what} failed") for what in ("shelf", "source", "sink")]
 WANTED += [(7, "egw: F: more than N bytes"), (7, "egw: F: more than N events"), (7, "egw: input: more than N bytes"), (7, "egw: more than N events"), (7, "egw: N heads, more than N")]
 # And each status that a command may come to, but for memory.
-STATUSES = {"cat --at": (0, 2, 3, 4, 5, 6, 7), "replay": (0, 2, 3, 4, 6, 7), "ask": (0, 2, 3, 4, 6, 7), "serve": (0, 2, 3, 4, 5, 6, 7), "make": (0, 2, 6), "net": (0, 2, 5, 6, 7), "marks": (0, 2, 3, 4, 6, 7)}
+STATUSES = {"cat --at": (0, 2, 3, 4, 5, 6, 7), "replay": (0, 2, 3, 4, 6, 7), "ask": (0, 2, 3, 4, 6, 7), "serve": (0, 2, 3, 4, 5, 6, 7), "make": (0, 2, 6), "net": (0, 2, 5, 6, 7), "marks": (0, 2, 3, 4, 6, 7), "upgrade": (0, 2, 3, 4, 6, 7)}
 
 
 def main():

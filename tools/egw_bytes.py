@@ -2,8 +2,8 @@
 
 import hashlib
 
-START = b"EGWFILE\x01"
-INSERT, DELETE, MARK = 0, 1, 2
+START, START_2 = b"EGWFILE\x01", b"EGWFILE\x02"
+INSERT, DELETE, MARK, FALLING = 0, 1, 2, 3
 HAVE, EVENTS, DONE, TOOK, CLASH, BYE = range(1, 7)
 
 
@@ -43,6 +43,23 @@ def record(agent, seq, parents, kind, what, ch=None):
 def content(agents, records, count=None):
     """A file without its digest; it may tell of another number of events than it has."""
     return START + counted(map(sized, agents)) + (counted(records) if count is None else number(count) + b"".join(records))
+
+
+def run(agent, seq, parents, kind, at, what):
+    """A run in a file of version 2: what are the code points of insertions, or how many deletions there are, or a label.
+
+    Where a run of insertions is to tell of another length than it has, what is a pair of that and the code points.
+    """
+    start = number(agent) + number(seq) + number(len(parents), 1) + numbers(parents)
+    if kind == MARK:
+        return start + operation(MARK, what, None)
+    length, chars = what if isinstance(what, tuple) else (what, []) if isinstance(what, int) else (len(what), what)
+    return start + number(kind, 1) + number(at) + number(length) + numbers(chars)
+
+
+def content_2(agents, runs, count):
+    """A file of version 2 without its digest, which tells of so many events."""
+    return START_2 + counted(map(sized, agents)) + number(count) + b"".join(runs)
 
 
 def with_digest(content):

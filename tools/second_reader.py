@@ -1,8 +1,9 @@
 #!/usr/bin/env python3
 """A second implementation of `egw`, written from docs/FORMATS.md alone.
 
-It has new, edit, cat, heads, log, replay, check, merge, ask, serve, net, make and marks. Its authors
-had never seen the program, but for those of `serve`, `net`, `make` and `marks`.
+It has new, edit, cat, heads, log, replay, check, merge, ask, serve, net, make, marks and upgrade. Its
+authors had never seen the program, but for those of `serve`, `net`, `make` and `marks`. It reads and writes
+event files of both versions, and stores version 2.
 The sections follow those of the page. Python 3, nothing else.
 """
 
@@ -25,7 +26,11 @@ MAX_WAITING, MAX_BODY, MAX_HAVE, PIECE = 65536, 1048576, 4 + 37 * MAX_EVENTS, 40
 EVENT_ROOM = 664
 ESCAPE = re.compile(r'\\(.?)', re.DOTALL)
 PLAIN = {'n': '\n', '\\': '\\'}
-INSERT, DELETE, MARK, LEFT, RIGHT = 0, 1, 2, 0, 1
+INSERT, DELETE, MARK, FALLING, LEFT, RIGHT = 0, 1, 2, 3, 0, 1
+# Of each version of the event file its greatest kind, and of each kind of a run how its indices go on.
+LAST_KIND = {1: MARK, 2: FALLING}
+STEP = {INSERT: 1, DELETE: 0, FALLING: -1}
+STORED = 2
 HAVE, EVENTS, DONE, TOOK, CLASH, BYE = range(1, 7)
 NAME = re.compile('[a-zA-Z0-9_][a-zA-Z0-9_-]{0,31}')
 NUMBER = '(0|[1-9][0-9]{0,9})'
@@ -34,7 +39,7 @@ LINE = re.compile('ins %s (.*)|del %s %s|mark (%s)' % (NUMBER, NUMBER, NUMBER, N
 USAGE = 'usage: egw ' + '\n       egw '.join((
     'new FILE', 'edit FILE --agent NAME', 'cat FILE [--at VERSION]', 'heads FILE', 'log FILE',
     'replay FILE', 'check FILE', 'merge FILE OTHER', 'ask FILE', 'serve FILE', 'net',
-    'make --seed N --count N', 'marks FILE'))
+    'make --seed N --count N', 'marks FILE', 'upgrade FILE'))
 
 
 # An id is a pair (name, number), so ids compare as the page orders them.
@@ -129,10 +134,11 @@ class History:
     position p, with that event itself. reach[p] is the first position that
     isn't one of its ancestors. touched[p] is the node that it inserts or
     deletes, None for a mark. shown has the nodes of the text, or None.
+    file_version is that of the file that was read.
     """
 
     def __init__(self, file):
-        self.file = file
+        self.file, self.file_version = file, STORED
         self.events, self.where, self.by_agent, self.heads = [], {}, {}, set()
         self.clocks, self.reach, self.touched = [], [], []
         self.root, self.shown = Node(None, ''), []
@@ -239,14 +245,39 @@ class History:
         return [cut for cut, least in zip(range(count, -1, -1), reached) if least >= cut]
 
 
-# The event file
+# The event file, versions 1 and 2
+
+
+def continues(run, event):
+    """Whether an event continues the run, a list of events, that it stands behind."""
+    name, number = run[-1].id
+    if event.id != (name, number + 1) or event.parents != (run[-1].id,):
+        return False
+    if event.kind != run[-1].kind or event.kind == MARK:
+        return False
+    step = event.index - run[-1].index
+    if event.kind == INSERT:
+        return step == 1
+    return step in (0, -1) if len(run) == 1 else step == run[1].index - run[0].index
+
+
+def longest_runs(events):
+    """The runs of a list of events, each as long as it can be."""
+    run = []
+    for event in events:
+        if run and not continues(run, event):
+            yield run
+            run = []
+        run.append(event)
+    if run:
+        yield run
 
 
 class Fields:
-    """The fields of a file between its version and its digest."""
+    """The fields of a file between its version and its digest. In version 1 each record is a run of one event."""
 
     def __init__(self, data, file):
-        self.data, self.file = data, file
+        self.data, self.file, self.version = data, file, data[7]
         self.start, self.at, self.end = 8, 8, len(data) - 32
 
     def refuse_if(self, holds, words, offset=None):
@@ -285,18 +316,43 @@ class Fields:
             parents.append(ident)
         return tuple(parents)
 
-    def operation(self):
-        """Take the kind, and the index and the character, or the label."""
-        kind = self.number(1)
-        self.refuse_if(kind > MARK, 'kind')
-        if kind == MARK:
-            return kind, None, self.name()
-        index = self.number()
-        if kind == DELETE:
-            return kind, index, ''
+    def length(self, ident, kind, index, room):
+        """Take the length of a run, where there is room for so many events."""
+        length = self.number()
+        more = length - 1
+        self.refuse_if(length == 0 or kind == FALLING and length == 1, 'run length')
+        self.refuse_if(length > room or ident[1] + more > MAX_NUMBER, 'run length')
+        self.refuse_if(kind == INSERT and index + more > MAX_NUMBER, 'run length')
+        self.refuse_if(kind == FALLING and more > index, 'run length')
+        return length
+
+    def character(self):
+        """Take a character."""
         scalar = self.number()
         self.refuse_if(scalar > 0x10FFFF or 0xD800 <= scalar <= 0xDFFF, 'scalar')
-        return kind, index, chr(scalar)
+        return chr(scalar)
+
+    def run(self, ident, parents, before, ids, room):
+        """Take what stands behind the parents of a record: the kind, and the index and the characters, or the label.
+
+        Gives the events of the record. Before has those of the record before, and the ids are those of all earlier records.
+        """
+        kind = self.number(1)
+        self.refuse_if(kind > LAST_KIND[self.version], 'kind')
+        if kind == MARK:
+            return [Event(ident, parents, kind, None, self.name())]
+        index, length, does = self.number(), 1, INSERT if kind == INSERT else DELETE
+        if self.version == 2:
+            self.refuse_if(before and continues(before, Event(ident, parents, does, index, '')), 'run join')
+            length = self.length(ident, kind, index, room)
+        run, (name, number) = [], ident
+        idents = [(name, number + step) for step in range(length)]
+        self.refuse_if(not ids.isdisjoint(idents), 'id twice')
+        for step, ident in enumerate(idents):
+            what = self.character() if kind == INSERT else ''
+            run.append(Event(ident, parents, does, index + step * STEP[kind], what))
+            parents = (ident,)
+        return run
 
     def events(self):
         """Take all fields; gives the events."""
@@ -307,15 +363,16 @@ class Fields:
         number = self.number()
         if number > MAX_EVENTS:
             raise Refusal(7, '%s: more than %d events' % (self.file, MAX_EVENTS))
-        events, ids, used = [], set(), 0
-        for _ in range(number):
+        events, ids, used, run = [], set(), 0, []
+        while len(events) < number:
             agent = self.number()
             self.refuse_if(agent > used or agent >= len(names), 'agent number')
             used = max(used, agent + 1)
             ident = (names[agent], self.number())
             self.refuse_if(ident in ids, 'id twice')
-            ids.add(ident)
-            events.append(Event(ident, self.parents(events), *self.operation()))
+            run = self.run(ident, self.parents(events), run, ids, number - len(events))
+            ids.update(event.id for event in run)
+            events.extend(run)
         self.refuse_if(self.at < self.end, 'trailing bytes', self.at)
         self.refuse_if(used < len(names), 'unused agent', self.end)
         return events
@@ -327,7 +384,7 @@ def parse_file(data, file):
         raise Refusal(4, '%s: short, %d bytes' % (file, len(data)))
     if data[:7] != b'EGWFILE':
         raise Refusal(4, '%s: not an event file' % file)
-    if data[7] != 1:
+    if data[7] not in LAST_KIND:
         raise Refusal(4, '%s: version %d' % (file, data[7]))
     stored, found = data[-32:].hex(), hashlib.sha256(data[:-32]).hexdigest()
     if stored != found:
@@ -335,17 +392,28 @@ def parse_file(data, file):
     return Fields(data, file).events()
 
 
-def file_bytes(events):
-    """The one file of a list of events."""
+def run_bytes(run):
+    """What the events of a run do, as it stands in a file of version 2."""
+    first = run[0]
+    if first.kind == MARK:
+        return operation_bytes(first)
+    falls = len(run) > 1 and run[1].index < first.index
+    chars = [struct.pack('<I', ord(event.what)) for event in run if event.kind == INSERT]
+    return struct.pack('<BII', FALLING if falls else first.kind, first.index, len(run)) + b''.join(chars)
+
+
+def file_bytes(events, version=STORED):
+    """The one file of this version of a list of events."""
     agents, where, records = {}, {}, []
-    for event in events:
-        name, number = event.id
+    for run in longest_runs(events) if version == 2 else ([event] for event in events):
+        name, number = run[0].id
         agent = agents.setdefault(name, len(agents))
-        records.append(struct.pack('<IIB', agent, number, len(event.parents)))
-        records.extend(struct.pack('<I', where[parent]) for parent in event.parents)
-        records.append(operation_bytes(event))
-        where[event.id] = len(where)
-    body = b''.join([b'EGWFILE\1', struct.pack('<I', len(agents)), *map(name_bytes, agents),
+        records.append(struct.pack('<IIB', agent, number, len(run[0].parents)))
+        records.extend(struct.pack('<I', where[parent]) for parent in run[0].parents)
+        records.append(run_bytes(run) if version == 2 else operation_bytes(run[0]))
+        for event in run:
+            where[event.id] = len(where)
+    body = b''.join([b'EGWFILE', bytes([version]), struct.pack('<I', len(agents)), *map(name_bytes, agents),
                      struct.pack('<I', len(events)), *records])
     return body + hashlib.sha256(body).digest()
 
@@ -821,6 +889,7 @@ def load(file):
     history = History(file)
     for event in parse_file(data, file):
         history.add(event)
+    history.file_version = data[7]
     return history
 
 
@@ -980,6 +1049,14 @@ def run_merge(files, _values):
         len(accepted), len(other.events) - len(accepted), cut)
 
 
+def run_upgrade(files, _values):
+    """Store the file of version 2 where one of version 1 was read."""
+    history = load(files[0])
+    if history.file_version == 1:
+        store(files[0], history.events)
+    return 'version %d events %d\n' % (history.file_version, len(history.events))
+
+
 def run_net(_files, _values):
     """Run a net script; nothing is printed unless all lines were run."""
     with using('source'):
@@ -1065,7 +1142,7 @@ COMMANDS = {'new': (run_new, 1, {}), 'edit': (run_edit, 1, {'--agent': (1, parse
             'cat': (run_cat, 1, {'--at': (0, parse_version)}), 'heads': (run_heads, 1, {}),
             'log': (run_log, 1, {}), 'marks': (run_marks, 1, {}), 'replay': (run_replay, 1, {}),
             'check': (run_check, 1, {}), 'ask': (run_ask, 1, {}), 'serve': (run_serve, 1, {}),
-            'merge': (run_merge, 2, {}), 'net': (run_net, 0, {}),
+            'upgrade': (run_upgrade, 1, {}), 'merge': (run_merge, 2, {}), 'net': (run_net, 0, {}),
             'make': (run_make, 0, {'--seed': (1, parse_up_to(2 ** 64 - 1)), '--count': (1, parse_up_to(MAX_EVENTS, '-'))})}
 
 
