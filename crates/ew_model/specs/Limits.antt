@@ -21,6 +21,6 @@ pub record AreLimits (n : LimitNumbers) : Type 0 where
 abbrev pub program_limits : LimitNumbers
 program_limits = record { events = 1000000; waiting = 65536; input = 16777216; body = 1048576 }
 
--- the most bytes of a file of so many events: 48, at most 33 for each agent's name, and at most 107 for each record
+-- the most bytes of a file of so many events: 48, at most 33 for each agent's name, and at most 107 for each event
 abbrev pub most_file_bytes : ℕ → ℕ
 most_file_bytes events = 48 + 140 * events

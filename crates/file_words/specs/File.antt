@@ -1,4 +1,4 @@
--- The event file: the one string of bytes of a list of events, closed by its SHA-256 (FIPS 180-4).
+-- The event file of version 1: the one string of bytes of a list of events, closed by its SHA-256 (FIPS 180-4).
 use Rattle.std.specs.Prelude.{ℕ, List, ◌∷◌, ◌++◌, length, flat_map, codes}
 use Rattle.std.specs.List.{position_or_len}
 use Rattle.sha2.specs.Sha256.{sha256}
@@ -25,10 +25,10 @@ file_start version history =
 abbrev pub with_digest : List ℕ → List ℕ
 with_digest bytes = bytes ++ sha256 bytes
 
--- all of the file before its digest
+-- all of the file of version 1 before its digest
 unfoldable pub file_content : List Event → List ℕ
 file_content history = file_start 1 history ++ flat_map (record_bytes history) history
 
--- the file of a list of events
+-- the file of version 1 of a list of events
 unfoldable pub file_of : List Event → List ℕ
 file_of history = with_digest (file_content history)

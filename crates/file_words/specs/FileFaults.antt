@@ -1,4 +1,4 @@
--- What bytes are: the file of some events, or the first fault, in the order of reading.
+-- What bytes are where version 1 is the only one: the file of some events, or the first fault, in the order of reading.
 use Rattle.std.specs.Prelude.{ℕ, zero, suc, ◌-◌, Bool, not, ◌&&◌, ◌||◌, List, [], ◌∷◌, ◌++◌, length, take, drop, Option, Some, None, Result, Ok, Err, if◌then◌else◌, nat_le, nat_lt, nat_eq, ◌==◌, slice_get, slice_index, codes}
 use Rattle.std.specs.Int.{w32, from_le_bytes}
 use Rattle.std.specs.Cmp.Lexicographic.{pointwise}
@@ -185,6 +185,7 @@ content_finding most content digest =
     then finding_of (length content) (read_events most (drop 8 content))
     else BadDigest digest (sha256 content)
 
+-- the events of which the bytes are the file of version 1, or the first fault; another version is one
 unfoldable pub file_finding : ℕ → List ℕ → FileFinding
 file_finding most bytes =
     let end = length bytes - 32 in

@@ -6,7 +6,7 @@ use Rattle.ew_model.specs.declared.event.Event.{Event}
 use Rattle.file_words.specs.FileRuns.{RunOps, FileRun, run_events, continues, file_runs}
 use Rattle.file_words.specs.FileRuns.RunOps.{Insertions, Deletions, BackDeletions, OneMark}
 
--- what a run may do: there is one operation, or two at falling indices, and these don't fall below 0
+-- what a run may do: there is at least one operation, at least two at falling indices, and these don't fall below 0
 abbrev pub IsSteady : RunOps → Type 0
 IsSteady (Insertions at text) = 0 < length text
 IsSteady (Deletions at count) = 0 < count
@@ -37,7 +37,7 @@ AreLongest (r ∷ runs) = IsSteady r.ops × AreApart r runs
 abbrev pub RunsHoldHistories : Type 0
 RunsHoldHistories = (history : List Event) → flat_map run_events (file_runs history) ≡ history
 
--- The runs of a history are as long as they can be, and no others that are hold its events.
+-- The runs of a history are as long as they can be, and of such runs only these hold its events.
 abbrev pub RunsAreTheLongest : Type 0
 RunsAreTheLongest =
     ((history : List Event) → AreLongest (file_runs history))

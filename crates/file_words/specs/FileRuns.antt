@@ -18,8 +18,7 @@ use Rattle.file_words.specs.FileFaults.Stop.{OverLimit}
 
 -- ---- runs
 
--- what the events of a run do: characters inserted at rising indices, so many deletions at one index, so many at falling
--- indices, or one mark
+-- what a run does: characters inserted at rising indices, deletions at one index or at falling ones, so many, or one mark
 pub data RunOps : Type 0 where
   Insertions : (at : ℕ) (text : List ℕ) → RunOps
   Deletions : (at count : ℕ) → RunOps
@@ -64,8 +63,7 @@ op_alone (Mark label) = OneMark label
 abbrev pub run_of_one : Event → FileRun
 run_of_one e = record { id = e.id; parents = e.parents; ops = op_alone e.op }
 
--- the operation takes the step of those before it; a deletion alone takes one at its index or below it, and nothing goes on
--- from a mark
+-- the operation takes the step of those before it; a deletion alone takes one at its index or one below; a mark takes none
 abbrev pub takes_step : RunOps → Op → Bool
 takes_step (Insertions at text) (Ins i ch) = i == at + length text
 takes_step (Insertions at text) (Del i) = false
@@ -155,6 +153,7 @@ read_text text (suc n) = do
   ch ← field number (only is_scalar) Scalar
   read_text (text ++ ch ∷ []) n
 
+-- one mark by its label
 abbrev pub read_one_mark : Reader RunOps
 read_one_mark = do
   label ← read_name
@@ -172,8 +171,7 @@ joins last e = option_map_or (λ r. continues r e) last false
 abbrev pub indices_fit : ℕ → ℕ → ℕ → Bool
 indices_fit kind at count = if kind == 0 then nat_le (at + count) (2 ^ 32) else if kind == 3 then nat_le count (suc at) else true
 
--- a run of the kind may have so many events: there is one, or two at falling indices, no more than are left to read, and
--- their numbers and indices are of 32 bits
+-- so many events of the kind: at least one, two at falling indices; no more than are left; with numbers and indices of 32 bits
 abbrev pub may_be_count : ℕ → Id → ℕ → ℕ → ℕ → Bool
 may_be_count left x kind at count =
     nat_lt (if kind == 3 then 1 else 0) count && nat_le count left && nat_le (x.seq + count) (2 ^ 32) && indices_fit kind at count
@@ -183,7 +181,7 @@ abbrev pub ids_from : List ℕ → ℕ → ℕ → List Id
 ids_from agent n zero = []
 ids_from agent n (suc count) = record { agent = agent; seq = n } ∷ ids_from agent (n + 1) count
 
--- no event has one of the ids from this one on
+-- no event has one of so many ids, from this one on
 abbrev pub are_new : List Event → Id → ℕ → Bool
 are_new before x count = list_all (λ y. not (is_held before y)) (ids_from x.agent x.seq count)
 
@@ -196,8 +194,7 @@ read_ops_of kind at count =
     else if kind == 1 then done (Deletions at count)
     else done (BackDeletions at count)
 
--- the kind; the label of a mark, or else the index, where the first event may not continue the run before, and the number of
--- events, none of which stood before
+-- the kind; a mark's label, or the index, which may not continue the run before, and the number of events, all of them new
 unfoldable pub read_run_ops : List Event → Option FileRun → ℕ → Id → List Id → Reader RunOps
 read_run_ops before last left x parents = do
   kind ← field byte (only (λ kind. nat_lt kind 4)) KindBad

@@ -11,7 +11,7 @@ use Rattle.file_words.specs.FileLaws.{IsFileOf}
 use Rattle.file_words.specs.FileRuns.{file2_of}
 use Rattle.file_words.specs.FileVersions.{file_found}
 
--- the bytes are the file in runs of these events, at most so many, of which there is one
+-- the bytes are the one file in runs of these events, and there are at most so many
 pub record IsRunFileOf (most : ℕ) (events : List Event) (bytes : List ℕ) : Type 0 where
   pub spelled : bytes ≡ file2_of events
   pub sound : AreSound events

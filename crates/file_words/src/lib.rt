@@ -1,5 +1,5 @@
-//! The event file: the one string of bytes of a list of events, which bytes are such a file and of which events, and the first
-//! fault of any others. They are definitions, which stand in the crate's folder `specs`; their laws are contracts of functions
+//! The event file: of each version the one string of bytes of a list of events, which bytes are such a file and of which events,
+//! and the first fault of any others. They are definitions, which stand in the crate's folder `specs`; their laws are contracts of functions
 //! without parameters, and `proofs` has what several crates need of the reading of fields.
 #![tactic(auto)]
 
@@ -7,12 +7,12 @@ ghost use Rattle.file_words.specs.FileLaws.{FilesAreRead, FilesDiffer};
 ghost use Rattle.file_words.specs.FileRunLaws.{RunsHoldHistories, RunsAreTheLongest};
 ghost use Rattle.file_words.specs.FileVersionLaws.{BothVersionsAreRead, RunFilesDiffer, VersionOneStays, RunFilesAreShort};
 
-/// Events are read from bytes exactly where the bytes are their file and the events may stand in one.
+/// Of version 1: events are read from bytes exactly where the bytes are their file and the events may stand in one.
 pub fn law_files_are_read()
     ensures { FilesAreRead }
 {}
 
-/// Two lists of events have one file only where they are one list.
+/// Two lists of events have one file of version 1 only where they are one list.
 pub fn law_files_differ()
     ensures { FilesDiffer }
 {}
@@ -22,7 +22,7 @@ pub fn law_runs_hold_histories()
     ensures { RunsHoldHistories }
 {}
 
-/// The runs of a history are as long as they can be, and no others that are hold its events.
+/// The runs of a history are as long as they can be, and of such runs only these hold its events.
 pub fn law_runs_are_longest()
     ensures { RunsAreTheLongest }
 {}

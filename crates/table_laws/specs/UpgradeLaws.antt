@@ -11,7 +11,7 @@ use Rattle.command_table.specs.Table.{Text, upgrade, Answer, open_file, opened}
 use Rattle.command_table.specs.Text.{upgraded_text}
 use Rattle.table_laws.specs.MergeLaws.{HoldsBytes, command_answer}
 
--- Of these events the file was of version 1 or 2, as is told, and it is of version 2 afterwards. It opens as the same events.
+-- the file was the one of these events of the version that is told, and it is the one of version 2 afterwards, and opens as before
 pub record IsUpgraded (limits : LimitNumbers) (files : Files) (name : Text) (there : Answer) (events : List Event) (version : ℕ) : Type 0 where
   pub was : ((version ≡ 1) × (get files name ≡ Some (file_of events))) ⊎ ((version ≡ 2) × (get files name ≡ Some (file2_of events)))
   pub told : there.out ≡ upgraded_text version (length events)
