@@ -2,7 +2,9 @@
 use Rattle.std.proofs.Common.{◌≡◌, ℕ, zero, suc, ◌+◌, ◌-◌, ◌<◌, ◌≤◌, ◌^◌, true, false, List, [], ◌∷◌, ◌++◌, length, take, slice_get, slice_index_or, Some, refl, sym, ap, ◌∙◌, subst, arith, append-nil, append_assoc, length-append, nat_eq}
 use Rattle.std.specs.List.{AllWithin, range_with_len}
 use Rattle.std.proofs.Math.Seq.{take-append-add}
-use Rattle.std.proofs.lemmas.Bool.{eqb-true, eqb-false, true≢false}
+use Rattle.std.proofs.lemmas.Bool.{eqb-true, eqb-false, eq-eqb, true≢false}
+use Rattle.std.proofs.lemmas.Option.{same_Some}
+use Rattle.ew_model.proofs.PositionCuts.{last_at as pushed_there}
 use Rattle.std.proofs.lemmas.List.{take-append-le}
 use Rattle.std.proofs.lemmas.List.FromFn.{length-range_with_len}
 use Rattle.agent_ids.specs.declared.positions.PositionRun.{PositionRun}
@@ -174,3 +176,47 @@ last_at (y ∷ []) seq count zero position x r long e =
 last_at (y ∷ []) seq count (suc place) position x r long e = absurd (omega (arith, long))
 last_at (y ∷ z ∷ runs) seq count zero position x r long e = absurd (omega (arith, long))
 last_at (y ∷ z ∷ runs) seq count (suc place) position x r long e = last_at (z ∷ runs) z.seq count place position x r.4 (omega (arith, long)) e
+
+-- SO MANY MORE, in the last run: it goes on with the position behind its last one
+pub next_goes_on : (runs : List PositionRun) (seq count k p : ℕ) → ArePositionRuns seq runs count → seq + suc k ≡ count → slice_get (positions_in runs count) k ≡ Some p → goes_on_at runs count (p + 1) ≡ true
+next_goes_on [] seq count k p r e there = let no : ⊥ = cc in absurd no
+next_goes_on (x ∷ []) seq count k p r e there =
+    let at = r.0 in
+    let last : x.start + k ≡ p = same_Some (x.start + k) p (sym (read_range x.start (count - x.seq) [] k (omega (arith, at, e))) ∙ there) in
+    eq-eqb (x.start + (count - x.seq)) (p + 1) (omega (arith, at, e, last))
+next_goes_on (x ∷ y ∷ runs) seq count k p r e there =
+    let at = r.0 in
+    let some = r.4.1 in
+    let most = positions_long runs (first_seq runs count) count r.4.4 in
+    let n = y.seq - x.seq in
+    let rise = r.1 in
+    next_goes_on (y ∷ runs) y.seq count (k - n) p r.4 (omega (arith, at, some, most, rise, e))
+    (sym (skip_range x.start n (positions_in (y ∷ runs) count) (k - n) k (omega (arith, at, some, most, rise, e))) ∙ there)
+
+pub more_last_by : (n : ℕ) (runs : List PositionRun) (count position : ℕ) → ArePositionRuns 0 runs count → goes_on_at runs count position ≡ true → position + n ≤ 2 ^ 32
+    → (positions_in runs (count + n) ≡ positions_in runs count ++ range_with_len position n) × ArePositionRuns 0 runs (count + n)
+more_last_by zero runs count position r e l =
+    let same : count ≡ count + 0 = omega arith in
+    (ap (positions_in runs) (sym same) ∙ sym (append-nil (positions_in runs count)), subst (ArePositionRuns 0 runs) same r)
+more_last_by (suc n) runs count position r e l =
+    let one = more_last runs 0 count position r e (omega (arith, l)) in
+    let long = positions_long runs 0 count r in
+    let k = length (positions_in runs count) in
+    let here : slice_get (positions_in runs (count + 1)) k ≡ Some position = ap (λ ps. slice_get ps k) one.0 ∙ pushed_there (positions_in runs count) position in
+    let rest = more_last_by n runs (count + 1) (position + 1) one.1 (next_goes_on runs 0 (count + 1) k position one.1 (omega (arith, long)) here) (omega (arith, l)) in
+    let same : count + 1 + n ≡ count + suc n = omega arith in (
+      ap (positions_in runs) (sym same) ∙ rest.0 ∙ ap (λ ps. ps ++ range_with_len (position + 1) n) one.0 ∙ append_assoc (positions_in runs count) (position ∷ []) (range_with_len (position + 1) n),
+      subst (ArePositionRuns 0 runs) same rest.1,
+    )
+
+-- where the first of them was put behind the others already
+pub rest_behind : (n : ℕ) (runs : List PositionRun) (before : List ℕ) (count position : ℕ) → ArePositionRuns 0 runs (count + 1) → length before ≡ count → positions_in runs (count + 1) ≡ before ++ position ∷ [] → 0 < n → position + n ≤ 2 ^ 32
+    → (positions_in runs (count + n) ≡ before ++ range_with_len position n) × ArePositionRuns 0 runs (count + n)
+rest_behind zero runs before count position r long e some l = absurd (omega (arith, some))
+rest_behind (suc n) runs before count position r long e some l =
+    let here : slice_get (positions_in runs (count + 1)) (length before) ≡ Some position = ap (λ ps. slice_get ps (length before)) e ∙ pushed_there before position in
+    let rest = more_last_by n runs (count + 1) (position + 1) r (next_goes_on runs 0 (count + 1) (length before) position r (omega (arith, long)) here) (omega (arith, l)) in
+    let same : count + 1 + n ≡ count + suc n = omega arith in (
+      ap (positions_in runs) (sym same) ∙ rest.0 ∙ ap (λ ps. ps ++ range_with_len (position + 1) n) e ∙ append_assoc before (position ∷ []) (range_with_len (position + 1) n),
+      subst (ArePositionRuns 0 runs) same rest.1,
+    )

@@ -9,7 +9,7 @@ use Rattle.ew_model.specs.declared.id.Id.{Id}
 use Rattle.ew_model.specs.Ids.{id_eq}
 use Rattle.ew_model.proofs.IdLaws.{is_same_id}
 use Rattle.agent_ids.specs.declared.runs.IdRun.{IdRun}
-use Rattle.agent_ids.specs.IdRuns.{id_runs, id_with, last_in, is_next, ids_in, last_of, IsApart, AreRuns, goes_on, with_more, shortened}
+use Rattle.agent_ids.specs.IdRuns.{id_runs, id_with, last_in, is_next, ids_in, last_of, IsApart, AreRuns, goes_on, with_more, with_more_by, shortened}
 
 -- so many ids of an agent, from a number on
 abbrev pub block : List ℕ → ℕ → ℕ → List Id
@@ -259,6 +259,28 @@ last_more (y ∷ []) zero x long e = ap (λ (z : IdRun). record { start = z.star
 last_more (y ∷ []) (suc place) x long e = absurd (omega (arith, long))
 last_more (y ∷ z ∷ runs) zero x long e = absurd (omega (arith, long))
 last_more (y ∷ z ∷ runs) (suc place) x long e = ap (λ rs. y ∷ rs) (last_more (z ∷ runs) place x (omega (arith, long)) e)
+
+pub last_more_by : (runs : List IdRun) (place n : ℕ) (x : IdRun) → length runs ≡ suc place → x ≡ slice_index_or runs place x → set runs place (record { start = x.start; agent = x.agent; seq = x.seq; more = x.more + n }) ≡ with_more_by runs n
+last_more_by [] place n x long e = absurd (omega (arith, long))
+last_more_by (y ∷ []) zero n x long e = ap (λ (z : IdRun). record { start = z.start; agent = z.agent; seq = z.seq; more = z.more + n } ∷ []) e
+last_more_by (y ∷ []) (suc place) n x long e = absurd (omega (arith, long))
+last_more_by (y ∷ z ∷ runs) zero n x long e = absurd (omega (arith, long))
+last_more_by (y ∷ z ∷ runs) (suc place) n x long e = ap (λ rs. y ∷ rs) (last_more_by (z ∷ runs) place n x (omega (arith, long)) e)
+
+-- none more, and one more and then so many
+pub none_more : (runs : List IdRun) → with_more_by runs 0 ≡ runs
+none_more [] = refl
+none_more (y ∷ []) = let e : y.more + 0 ≡ y.more = omega arith in λ i. record { start = y.start; agent = y.agent; seq = y.seq; more = e i } ∷ []
+none_more (y ∷ z ∷ runs) = ap (λ rs. y ∷ rs) (none_more (z ∷ runs))
+
+pub more_by : (runs : List IdRun) (n : ℕ) → with_more_by (with_more runs) n ≡ with_more_by runs (suc n)
+more_by [] n = refl
+more_by (y ∷ []) n = let e : y.more + 1 + n ≡ y.more + suc n = omega arith in λ i. record { start = y.start; agent = y.agent; seq = y.seq; more = e i } ∷ []
+more_by (y ∷ z ∷ runs) n = kept runs (more_by (z ∷ runs) n)
+  where
+    kept : (later : List IdRun) → with_more_by (with_more (z ∷ later)) n ≡ with_more_by (z ∷ later) (suc n) → with_more_by (y ∷ with_more (z ∷ later)) n ≡ y ∷ with_more_by (z ∷ later) (suc n)
+    kept [] e = ap (λ rs. y ∷ rs) e
+    kept (t ∷ later) e = ap (λ rs. y ∷ rs) e
 
 pub last_goes_on : (runs : List IdRun) (place : ℕ) (r : IdRun) (x : Id) → length runs ≡ suc place → slice_get runs place ≡ Some r → goes_on runs x ≡ is_next (last_of r) x
 last_goes_on [] place r x long e = absurd (omega (arith, long))

@@ -59,6 +59,12 @@ with_more [] = []
 with_more (r ∷ []) = record { start = r.start; agent = r.agent; seq = r.seq; more = r.more + 1 } ∷ []
 with_more (r ∷ s ∷ runs) = r ∷ with_more (s ∷ runs)
 
+-- the last of the runs has so many ids more
+abbrev pub with_more_by : List IdRun → ℕ → List IdRun
+with_more_by [] n = []
+with_more_by (r ∷ []) n = record { start = r.start; agent = r.agent; seq = r.seq; more = r.more + n } ∷ []
+with_more_by (r ∷ s ∷ runs) n = r ∷ with_more_by (s ∷ runs) n
+
 -- the last of the runs has the ids before a place alone
 abbrev pub shortened : List IdRun → ℕ → List IdRun
 shortened [] place = []

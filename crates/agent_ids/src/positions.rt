@@ -1,7 +1,7 @@
 //! The positions of one agent's ids, in runs.
 
 ghost use Rattle.std.specs.Prelude.{◌≡◌, ℕ, ◌+◌, ◌-◌, ◌<◌, ◌≤◌, ◌^◌, List, [], ◌∷◌, ◌++◌, take, length, Some, slice_get, IfOk, OnOk, OnErr};
-ghost use Rattle.std.specs.List.{AllWithin};
+ghost use Rattle.std.specs.List.{AllWithin, range_with_len};
 ghost use Rattle.agent_ids.specs.declared.positions.PositionRun.{PositionRun};
 ghost use Rattle.agent_ids.specs.PositionRuns.{positions_in, ArePositionRuns, goes_on_at};
 
@@ -76,6 +76,22 @@ impl PositionRuns {
     {
         put(&mut self.runs, self.count, position)?;
         self.count += 1;
+        Ok(())
+    }
+
+    /// Puts so many neighbouring positions behind the others, from one on.
+    pub fn push_run(&mut self, position: u32, count: u32) -> Result<(), NoMem>
+        requires room { length self.old + count < 2 ^ 32 }
+        requires positions { position + count ≤ 2 ^ 32 }
+        ensures ok { OnOk result (self.new ≡ self.old ++ range_with_len position count) }
+        ensures err { OnErr result (self.new ≡ self.old) }
+    {
+        if count == 0 {
+            return Ok(());
+        }
+        // The last run goes up to the count, whatever that is.
+        put(&mut self.runs, self.count, position)?;
+        self.count += count;
         Ok(())
     }
 

@@ -4,7 +4,7 @@ ghost use Rattle.std.specs.Prelude.{◌≡◌, ◌↔◌, ℕ, suc, ◌+◌, ◌
 ghost use Rattle.std.specs.List.{AllWithin};
 ghost use Rattle.ew_model.specs.declared.id.Id.{Id};
 ghost use Rattle.agent_ids.specs.declared.runs.IdRun.{IdRun};
-ghost use Rattle.agent_ids.specs.IdRuns.{id_runs, id_with, last_in, ids_in, AreRuns, goes_on, with_more, shortened, ids_from, IsHeldAt};
+ghost use Rattle.agent_ids.specs.IdRuns.{id_runs, id_with, last_in, ids_in, AreRuns, goes_on, with_more, with_more_by, shortened, ids_from, IsHeldAt};
 
 use ew_model::NoMem;
 use ew_model::id::Id;
@@ -116,6 +116,17 @@ impl IdRuns {
     {
         lengthen_last(&mut self.runs);
         self.count += 1;
+    }
+
+    /// Puts so many next ids of the last one's agent behind the others.
+    pub fn push_next_run(&mut self, more: u32)
+        requires some { 0 < length self.old }
+        requires room { length self.old + more < 2 ^ 32 }
+        requires numbers { (x : Id) → last_in self.old ≡ Some x → x.seq + more < 2 ^ 32 }
+        ensures { (x : Id) × (last_in self.old ≡ Some x) × (self.new ≡ self.old ++ ids_from (id_with x.agent (suc x.seq)) more) }
+    {
+        lengthen_last_by(&mut self.runs, more);
+        self.count += more;
     }
 
     /// Takes out the ids of the last run that stand at a place or behind it, and gives the first of them.
@@ -240,6 +251,17 @@ fn lengthen_last(runs: &mut Vec<IdRun>)
     let count = runs.len();
     if count > 0 {
         runs[count - 1].more += 1;
+    }
+}
+
+/// Gives the last run so many ids more.
+fn lengthen_last_by(runs: &mut Vec<IdRun>, more: u32)
+    requires { (end : ℕ) × AreRuns 0 runs.old.items end × (end + more < 2 ^ 32) }
+    ensures { runs.new.items ≡ with_more_by runs.old.items more }
+{
+    let count = runs.len();
+    if count > 0 {
+        runs[count - 1].more += more;
     }
 }
 

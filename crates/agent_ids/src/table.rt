@@ -192,6 +192,19 @@ impl AgentTable {
         Ok(())
     }
 
+    /// Puts so many next ids of the last one's agent behind the others. It costs the same however many they are.
+    pub fn append_next_run(&mut self, count: u32) -> Result<(), NoMem>
+        requires some { 0 < length self.old }
+        requires room { length self.old + count < 2 ^ 32 }
+        ensures ok { OnOk result ((x : Id) × (last_in self.old ≡ Some x) × (self.new ≡ self.old ++ ids_from (id_with x.agent (suc x.seq)) count)) }
+        ensures err { OnErr result (self.new ≡ self.old) }
+    {
+        let lv = self.ids.len();
+        self.positions[self.last_agent].push_run(lv, count)?;
+        self.ids.push_next_run(count);
+        Ok(())
+    }
+
     /// Leaves the first n ids.
     pub fn truncate(&mut self, n: u32)
         ensures { self.new ≡ take n self.old }

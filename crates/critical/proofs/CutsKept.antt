@@ -22,7 +22,7 @@ use Rattle.critical.proofs.InnerCuts.{passing_low, filter-below, cuts_split, inn
 inner_low : (history : List (List ℕ)) → AllByRecursion (λ k. k < length history) (inner_cuts history)
 inner_low history = all_from (λ k. k < length history) (inner_cuts history) (λ k m. (inner_of history k m).1)
 
-filter-all : (p : ℕ → Bool) (xs : List ℕ) → AllByRecursion (λ k. p k ≡ true) xs → filter p xs ≡ xs
+pub filter-all : (p : ℕ → Bool) (xs : List ℕ) → AllByRecursion (λ k. p k ≡ true) xs → filter p xs ≡ xs
 filter-all p [] h = refl
 filter-all p (x ∷ xs) h = λ i. cond (h.0 i) (x ∷ filter-all p xs h.1 i) (filter-all p xs h.1 i)
 

@@ -1,3 +1,4 @@
+pub mod Chains
 pub mod CutsKept
 pub mod FrontCuts
 pub mod InnerCuts

@@ -1,5 +1,6 @@
 -- What is kept of the critical cuts of a history.
-use Rattle.std.specs.Prelude.{◌≡◌, ℕ, ◌+◌, List, [], ◌∷◌, ◌++◌, map, filter, take, length, nat_lt}
+use Rattle.std.specs.Prelude.{◌≡◌, ℕ, ◌+◌, ◌-◌, List, [], ◌∷◌, ◌++◌, map, filter, take, length, nat_lt}
+use Rattle.std.specs.List.{range_with_len}
 use Rattle.ew_model.specs.Positions.{frontier_of, cuts_at}
 use Rattle.critical.specs.declared.spans.CutSpan.{CutSpan}
 use Rattle.critical.specs.Spans.{RiseFrom, EndBelow}
@@ -25,6 +26,19 @@ kept_for history = record { cuts = inner_cuts history; heads = heads_below histo
 -- one more event, which keeps all cuts: the whole length so far has these heads
 abbrev pub with_whole : KeptCuts → List ℕ → KeptCuts
 with_whole kept heads = record { cuts = kept.cuts ++ kept.count ∷ []; heads = kept.heads ++ heads ∷ []; count = kept.count + 1 }
+
+-- the parents of so many events in a chain: the first has the event at a position as its one parent, each further one the event before
+-- it
+abbrev pub chain_parents : ℕ → ℕ → List (List ℕ)
+chain_parents position n = map (λ k. k ∷ []) (range_with_len position n)
+
+-- so many events more in a chain on the last event, which is the only head: all cuts are kept
+abbrev pub with_chain : KeptCuts → ℕ → KeptCuts
+with_chain kept n = record { cuts = kept.cuts ++ range_with_len kept.count n; heads = kept.heads ++ chain_parents (kept.count - 1) n; count = kept.count + n }
+
+-- so many events more in a chain on the last event, which isn't the only head: no cut is added
+abbrev pub with_count : KeptCuts → ℕ → KeptCuts
+with_count kept n = record { cuts = kept.cuts; heads = kept.heads; count = kept.count + n }
 
 -- one more event, which keeps the first n cuts, and not the whole length so far
 abbrev pub with_first : KeptCuts → ℕ → KeptCuts

@@ -6,12 +6,12 @@ ghost use Rattle.ew_model.specs.CutChange.{stays_behind};
 ghost use Rattle.ew_model.specs.Positions.{AreParents, IsHistoryOfParents, frontier_of, is_reduced_at, is_cut_at, latest_cut_at, cuts_at};
 ghost use Rattle.ew_model.specs.PositionCuts.{past_parents};
 ghost use Rattle.critical.specs.CutRuns.{cut_runs};
-ghost use Rattle.critical.specs.KeptCuts.{kept_for, with_whole, with_below};
+ghost use Rattle.critical.specs.KeptCuts.{kept_for, chain_parents, with_chain, with_count, with_whole, with_below};
 ghost use Rattle.critical.specs.Searches.{TellsHeads};
 
 use crate::spans::{
-    CutSpan, add_cut, copy_heads, ends_before, find_span_near, greatest_to, has_heads, keep_below,
-    list_span,
+    CutSpan, add_cut, add_cuts, copy_heads, ends_before, find_span_near, greatest_to, has_heads,
+    keep_below, list_span,
 };
 use ew_model::NoMem;
 use frontier::Frontier;
@@ -99,6 +99,33 @@ impl Cuts {
         self.stop_cuts(parents);
     }
 
+    /// Takes in so many more events in a chain: the first one's one parent is the last event so far, each further one's the event
+    /// before it. What follows is said where the last event so far is the only head. It costs the same however many they are.
+    pub fn push_on_last_run(&mut self, count: u32) -> Result<(), NoMem>
+        requires some { 0 < self.old.count }
+        requires room { self.old.count + count < 2 ^ 32 }
+
+        // Where these were the cuts of a history, they are those of the history with the events.
+        ensures ok { OnOk result ((history : List (List ℕ)) → IsHistoryOfParents history → self.old ≡ kept_for history → frontier_of history ≡ (self.old.count - 1) ∷ [] → self.new ≡ kept_for (history ++ chain_parents (self.old.count - 1) count)) }
+        ensures count { OnOk result (self.new.count ≡ self.old.count + count) }
+        ensures err { OnErr result (self.new ≡ self.old) }
+    {
+        self.keep_chain(count)
+    }
+
+    /// Takes in so many more events in a chain: the first one's one parent is the last event so far, each further one's the event
+    /// before it. What follows is said where the last event so far isn't the only head. It takes no memory.
+    pub fn push_apart_run(&mut self, count: u32)
+        requires some { 0 < self.old.count }
+        requires room { self.old.count + count < 2 ^ 32 }
+
+        // Where these were the cuts of a history, they are those of the history with the events.
+        ensures cuts { (history : List (List ℕ)) → IsHistoryOfParents history → self.old ≡ kept_for history → frontier_of history ≢ (self.old.count - 1) ∷ [] → self.new ≡ kept_for (history ++ chain_parents (self.old.count - 1) count) }
+        ensures count { self.new.count ≡ self.old.count + count }
+    {
+        self.count_chain(count);
+    }
+
     /// Takes out the events from a critical cut on. It takes no memory.
     pub fn truncate(&mut self, cut: u32)
         // Where these were the cuts of a history, they are those of the events below the cut.
@@ -132,6 +159,26 @@ impl Cuts {
         add_cut(&mut self.spans, &mut self.heads, self.count, heads)?;
         self.count += 1;
         Ok(())
+    }
+
+    /// Takes in events in a chain on the last one that keep all cuts: below each new cut the event before it is the only head.
+    fn keep_chain(&mut self, count: u32) -> Result<(), NoMem>
+        requires some { 0 < self.old.count }
+        requires room { self.old.count + count < 2 ^ 32 }
+        ensures ok { OnOk result (self.new ≡ with_chain self.old count) }
+        ensures err { OnErr result (self.new ≡ self.old) }
+    {
+        add_cuts(&mut self.spans, &mut self.heads, self.count, count)?;
+        self.count += count;
+        Ok(())
+    }
+
+    /// Takes in events that keep all cuts so far, and add none.
+    fn count_chain(&mut self, count: u32)
+        requires room { self.old.count + count < 2 ^ 32 }
+        ensures { self.new ≡ with_count self.old count }
+    {
+        self.count += count;
     }
 
     /// Takes in an event that keeps the cuts below a number, and not the whole length so far.

@@ -4,6 +4,7 @@ ghost use Rattle.std.specs.Prelude.{◌≡◌, ℕ, suc, ◌+◌, ◌-◌, ◌<�
 ghost use Rattle.std.specs.List.{AllWithin, range_with_len};
 ghost use Rattle.std.specs.Cmp.Lexicographic.{pointwise};
 ghost use Rattle.ew_model.specs.Sets.{Among};
+ghost use Rattle.critical.specs.KeptCuts.{chain_parents};
 ghost use Rattle.critical.specs.Searches.{TellsHeads, IsGreatestTo};
 ghost use Rattle.critical.specs.Spans.{cuts_in, heads_in, RiseFrom, EndBelow, ends_before, with_last, shortened, IsHeldAt};
 
@@ -149,15 +150,50 @@ pub fn add_cut(
     }
 }
 
-/// Takes the cut right behind the last span into it.
-fn lengthen_last(spans: &mut Vec<CutSpan>, cut: u32)
-    requires { ends_before spans.old.items cut ≡ true }
+/// Puts so many neighbouring cuts behind the others, from one on. Below each of them the cut before it is the only head.
+pub fn add_cuts(
+    spans: &mut Vec<CutSpan>,
+    heads: &mut Vec<SmallVec<u32, 4>>,
+    cut: u32,
+    count: u32,
+) -> Result<(), NoMem>
+    requires rising { RiseFrom 0 spans.old.items }
+    requires ends { EndBelow cut spans.old.items }
+    requires alike { length heads.old.items ≡ length spans.old.items }
+    requires some { 0 < cut }
+    requires room { cut + count < 2 ^ 32 }
+    ensures cuts { OnOk result (cuts_in spans.new.items ≡ cuts_in spans.old.items ++ range_with_len cut count) }
+    ensures heads { OnOk result (heads_in spans.new.items (map (λ v. v.items) heads.new.items) ≡ heads_in spans.old.items (map (λ v. v.items) heads.old.items) ++ chain_parents (cut - 1) count) }
+    ensures rising { OnOk result (RiseFrom 0 spans.new.items) }
+    ensures ends { OnOk result (EndBelow (cut + count) spans.new.items) }
+    ensures alike { OnOk result (length heads.new.items ≡ length spans.new.items) }
+    ensures same_spans { OnErr result (spans.new.items ≡ spans.old.items) }
+    ensures same_heads { OnErr result (map (λ v. v.items) heads.new.items ≡ map (λ v. v.items) heads.old.items) }
+{
+    if count == 0 {
+        return Ok(());
+    }
+    add_cut(spans, heads, cut, &[cut - 1])?;
+    lengthen_last_to(spans, cut + (count - 1));
+    Ok(())
+}
+
+/// Takes the cuts up to one behind the last span into it.
+fn lengthen_last_to(spans: &mut Vec<CutSpan>, cut: u32)
     ensures { spans.new.items ≡ with_last spans.old.items cut }
 {
     let count = spans.len();
     if count > 0 {
         spans[count - 1].last = cut;
     }
+}
+
+/// Takes the cut right behind the last span into it.
+fn lengthen_last(spans: &mut Vec<CutSpan>, cut: u32)
+    requires { ends_before spans.old.items cut ≡ true }
+    ensures { spans.new.items ≡ with_last spans.old.items cut }
+{
+    lengthen_last_to(spans, cut);
 }
 
 /// Puts a span of one cut behind the others.

@@ -22,3 +22,4 @@ pub mod Tails
 pub mod Subgraphs
 pub mod SpanEvents
 pub mod MissingPlaces
+pub mod Chains

@@ -1,9 +1,13 @@
 //! What a type tells of its values.
 
 ghost use Rattle.std.specs.Prelude.{◌≡◌, ◌<◌, ◌^◌, true};
+ghost use Rattle.std.specs.Char.{IsScalar};
+ghost use Rattle.std.specs.List.{All, AllByRecursion};
 ghost use Rattle.ew_model.specs.Names.{is_name};
 ghost use Rattle.ew_model.specs.Sound.{IsSoundId, IsSoundOp};
+ghost use Rattle.event_runs.specs.RunOps.{IndicesFit, ops_of};
 
+use event_runs::RunOps;
 use ew_model::event::Op;
 use ew_model::id::Id;
 use ew_model::name::Name;
@@ -44,6 +48,34 @@ impl Facts for Op {
                 let _label = label.as_slice();
             }
         }
+    }
+}
+
+impl<'a> Facts for RunOps<'a> {
+    ghost is_sound = { λ ops. IndicesFit ops → AllByRecursion IsSoundOp (ops_of ops) };
+
+    fn facts(&self) {
+        match *self {
+            RunOps::Insertions { at, text } => {
+                let _index = at;
+                read_characters(text);
+            }
+            RunOps::Deletions { at, count: _ } => {
+                let _index = at;
+            }
+            RunOps::BackDeletions { at, count: _ } => {
+                let _index = at;
+            }
+        }
+    }
+}
+
+/// Each of the characters is a Unicode scalar value.
+fn read_characters(text: &[char])
+    ensures { All IsScalar text.now }
+{
+    for ch in text {
+        let _character = *ch;
     }
 }
 

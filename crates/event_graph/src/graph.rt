@@ -19,11 +19,13 @@ ghost use Rattle.ew_model.specs.Verdicts.Ruling.{Good};
 ghost use Rattle.frontier.specs.Chains.{IsChain};
 ghost use Rattle.ancestors.specs.Floors.{HasAllBelow};
 ghost use Rattle.ancestors.specs.Spans as spans;
+ghost use Rattle.event_runs.specs.RunOps.{IndicesFit, ops_of};
 ghost use Rattle.event_runs.specs.Runs.{IsRunStart};
 ghost use Rattle.history_definitions.specs.Chains.{event_behind, last_id};
 ghost use Rattle.event_graph.specs.Afters.{IsNextAfter};
 ghost use Rattle.event_graph.specs.Keeping.{IsAdmitted, bare_events};
 ghost use Rattle.event_graph.specs.Finding.{found_in};
+ghost use Rattle.event_graph.specs.GoingOn.{chain_behind};
 ghost use Rattle.event_graph.specs.Joining.{IsGoodBehind, event_on};
 ghost use Rattle.event_graph.specs.Rows.{row_in};
 ghost use Rattle.history_definitions.specs.Summary.{summary_of};
@@ -31,11 +33,11 @@ ghost use Rattle.history_definitions.specs.Summary.{summary_of};
 use crate::facts::Facts;
 use crate::ids::{agents, ascend, counts, ids_at, is_among};
 use crate::near::Near;
-use crate::parts::{After, append};
+use crate::parts::{After, append, append_run};
 use agent_ids::AgentTable;
 use ancestors::{Spans, contains, diff, is_reduced};
 use critical::Cuts;
-use event_runs::EventRuns;
+use event_runs::{EventRuns, RunOps};
 use ew_model::NoMem;
 use ew_model::event::{Event, Op};
 use ew_model::id::Id;
@@ -479,6 +481,27 @@ impl Graph {
         op.facts();
         let last = self.events.count() - 1;
         self.append(&After::Last, op, &[last])
+    }
+
+    /// Puts the events of these operations behind the others: the first goes on from the last event, each further one from the event
+    /// before it, as if each were put in by `go_on`. But for the characters it costs the same however many they are.
+    pub fn go_on_run(&mut self, ops: RunOps<'_>) -> Result<(), NoMem>
+        requires some { 0 < length self.old }
+        requires fit { IndicesFit ops }
+        requires room { length self.old + length (ops_of ops) < 2 ^ 32 }
+        ensures ok { OnOk result ((x : Id) × (last_id self.old ≡ Some x) × (self.new ≡ self.old ++ chain_behind x (ops_of ops.entry))) }
+        ensures err { OnErr result (self.new ≡ self.old) }
+    {
+        ops.facts();
+        append_run(
+            self.alloc,
+            &mut self.ids,
+            &mut self.events,
+            &mut self.heads,
+            &mut self.cuts,
+            ops,
+        )?;
+        Ok(())
     }
 
     /// Puts an event after the others that was judged good, and whose parents stand at these positions.

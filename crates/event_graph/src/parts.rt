@@ -1,18 +1,21 @@
 //! The parts of a graph, changed together.
 
-ghost use Rattle.std.specs.Prelude.{◌≡◌, ◌+◌, ◌<◌, ◌^◌, List, ℕ, [], ◌∷◌, ◌++◌, length, true, Some, IfOk, OnOk, OnErr};
+ghost use Rattle.std.specs.Prelude.{◌≡◌, ◌+◌, ◌-◌, ◌<◌, ◌^◌, List, ℕ, [], ◌∷◌, ◌++◌, length, true, Some, IfOk, OnOk, OnErr};
 ghost use Rattle.std.specs.List.{All};
 ghost use Rattle.ew_model.specs.declared.id.Id.{Id};
 ghost use Rattle.ew_model.specs.Positions.{AreParents, IsHistoryOfParents, frontier_of, is_reduced_at};
 ghost use Rattle.history_definitions.specs.Agents.{count_of};
-ghost use Rattle.critical.specs.KeptCuts.{kept_for};
+ghost use Rattle.agent_ids.specs.IdRuns.{ids_from, last_in};
+ghost use Rattle.critical.specs.KeptCuts.{chain_parents, kept_for};
 ghost use Rattle.event_graph.specs.Afters.{StandsOn, id_after};
 ghost use Rattle.event_graph.specs.declared.parts.After.TheVariants.{Last};
 ghost use Rattle.event_runs.specs.BareEvents.{bare};
+ghost use Rattle.event_runs.specs.RunOps.{chain_on, IndicesFit, ops_of};
+ghost use Rattle.history_definitions.specs.Chains.{next_id};
 
 use agent_ids::AgentTable;
 use critical::Cuts;
-use event_runs::EventRuns;
+use event_runs::{EventRuns, RunOps};
 use ew_model::NoMem;
 use ew_model::event::Op;
 use ew_model::id::Id;
@@ -158,4 +161,98 @@ fn only_head(alloc: Global, position: u32) -> Result<Frontier, NoMem>
 {
     let heads = SmallVec::from_slice(alloc, &[position])?;
     Ok(Frontier::from_rising(heads))
+}
+
+/// Puts the events of these operations behind the others, in each of the parts or in none. They are a chain on the last event.
+pub fn append_run(
+    alloc: Global,
+    ids: &mut AgentTable,
+    runs: &mut EventRuns,
+    heads: &mut Frontier,
+    cuts: &mut Cuts,
+    ops: RunOps<'_>,
+) -> Result<(), NoMem>
+    requires some { 0 < length runs.old }
+    requires alike { length ids.old ≡ length runs.old }
+    requires cut_count { cuts.old.count ≡ length runs.old }
+    requires below { All (λ h. h < length runs.old) heads.old }
+    requires fit { IndicesFit ops }
+    requires room { length runs.old + length (ops_of ops) < 2 ^ 32 }
+    ensures ids { OnOk result ((x : Id) × (last_in ids.old ≡ Some x) × (ids.new ≡ ids.old ++ ids_from (next_id x) (length (ops_of ops.entry)))) }
+    ensures runs { OnOk result (runs.new ≡ runs.old ++ chain_on (length runs.old - 1) (ops_of ops.entry)) }
+    ensures heads { OnOk result ((history : List (List ℕ)) → IsHistoryOfParents history → length runs.old ≡ length history → heads.old ≡ frontier_of history → heads.new ≡ frontier_of (history ++ chain_parents (length runs.old - 1) (length (ops_of ops.entry)))) }
+    ensures cuts { OnOk result ((history : List (List ℕ)) → IsHistoryOfParents history → cuts.old ≡ kept_for history → heads.old ≡ frontier_of history → cuts.new ≡ kept_for (history ++ chain_parents (length runs.old - 1) (length (ops_of ops.entry)))) }
+    ensures same_ids { OnErr result (ids.new ≡ ids.old) }
+    ensures same_runs { OnErr result (runs.new ≡ runs.old) }
+    ensures same_heads { OnErr result (heads.new ≡ heads.old) }
+    ensures same_cuts { OnErr result (cuts.new ≡ cuts.old) }
+{
+    let count = runs.count();
+    ids.append_next_run(ops.count())?;
+    if let Err(fault) = append_bare_run(alloc, runs, heads, cuts, ops) {
+        ids.truncate(count);
+        return Err(fault);
+    }
+    Ok(())
+}
+
+/// The same for the parts that don't know ids.
+fn append_bare_run(
+    alloc: Global,
+    runs: &mut EventRuns,
+    heads: &mut Frontier,
+    cuts: &mut Cuts,
+    ops: RunOps<'_>,
+) -> Result<(), NoMem>
+    requires some { 0 < length runs.old }
+    requires cut_count { cuts.old.count ≡ length runs.old }
+    requires below { All (λ h. h < length runs.old) heads.old }
+    requires fit { IndicesFit ops }
+    requires room { length runs.old + length (ops_of ops) < 2 ^ 32 }
+    ensures runs { OnOk result (runs.new ≡ runs.old ++ chain_on (length runs.old - 1) (ops_of ops.entry)) }
+    ensures heads { OnOk result ((history : List (List ℕ)) → IsHistoryOfParents history → length runs.old ≡ length history → heads.old ≡ frontier_of history → heads.new ≡ frontier_of (history ++ chain_parents (length runs.old - 1) (length (ops_of ops.entry)))) }
+    ensures cuts { OnOk result ((history : List (List ℕ)) → IsHistoryOfParents history → cuts.old ≡ kept_for history → heads.old ≡ frontier_of history → cuts.new ≡ kept_for (history ++ chain_parents (length runs.old - 1) (length (ops_of ops.entry)))) }
+    ensures same_runs { OnErr result (runs.new ≡ runs.old) }
+    ensures same_heads { OnErr result (heads.new ≡ heads.old) }
+    ensures same_cuts { OnErr result (cuts.new ≡ cuts.old) }
+{
+    let count = runs.count();
+    runs.append_run(ops)?;
+    if let Err(fault) = move_heads_along(alloc, heads, cuts, count, ops.count()) {
+        runs.truncate(count);
+        return Err(fault);
+    }
+    Ok(())
+}
+
+/// Takes so many events after so many others, which are a chain on the last one, into the heads and the cuts.
+fn move_heads_along(
+    alloc: Global,
+    heads: &mut Frontier,
+    cuts: &mut Cuts,
+    count: u32,
+    more: u32,
+) -> Result<(), NoMem>
+    requires some { 0 < count }
+    requires cut_count { cuts.old.count ≡ count }
+    requires below { All (λ h. h < count) heads.old }
+    requires room { count + more < 2 ^ 32 }
+    ensures heads { OnOk result ((history : List (List ℕ)) → IsHistoryOfParents history → count ≡ length history → heads.old ≡ frontier_of history → heads.new ≡ frontier_of (history ++ chain_parents (count - 1) more)) }
+    ensures cuts { OnOk result ((history : List (List ℕ)) → IsHistoryOfParents history → cuts.old ≡ kept_for history → heads.old ≡ frontier_of history → cuts.new ≡ kept_for (history ++ chain_parents (count - 1) more)) }
+    ensures same_heads { OnErr result (heads.new ≡ heads.old) }
+    ensures same_cuts { OnErr result (cuts.new ≡ cuts.old) }
+{
+    if more == 0 {
+        return Ok(());
+    }
+    let last = count - 1;
+    if heads.equals(&[last]) {
+        let next = only_head(alloc, last + more)?;
+        cuts.push_on_last_run(more)?;
+        *heads = next;
+        return Ok(());
+    }
+    heads.insert_event(last + more, &[last])?;
+    cuts.push_apart_run(more);
+    Ok(())
 }

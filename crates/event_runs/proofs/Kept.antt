@@ -23,7 +23,12 @@ one_chars start (Ins at ch) place labels = refl
 one_chars start (Del at) place labels = refl
 one_chars start (Mark label) place labels = refl
 
-one_before : (start : ℕ) (op : Op) (place labels : ℕ) → place ≡ (run_of_one start op place labels).chars_before
+pub one_more : (start : ℕ) (op : Op) (place labels : ℕ) → (run_of_one start op place labels).more ≡ 0
+one_more start (Ins at ch) place labels = refl
+one_more start (Del at) place labels = refl
+one_more start (Mark label) place labels = refl
+
+pub one_before : (start : ℕ) (op : Op) (place labels : ℕ) → place ≡ (run_of_one start op place labels).chars_before
 one_before start (Ins at ch) place labels = refl
 one_before start (Del at) place labels = refl
 one_before start (Mark label) place labels = refl

@@ -1,8 +1,10 @@
 pub mod Cutting
 pub mod Found
 pub mod Kept
+pub mod ManyEvents
 pub mod Maximal
 pub mod OneCut
 mod OwnChanges
 pub mod RunEvents
 pub mod RunLines
+pub mod StepOps

@@ -2,7 +2,9 @@
 #![tactic(auto)]
 
 mod lists;
+pub mod ops;
 mod runs;
 pub mod storage;
 
+pub use ops::RunOps;
 pub use storage::EventRuns;

@@ -6,6 +6,7 @@ ghost use Rattle.std.specs.Option.{option_copied};
 ghost use Rattle.ew_model.specs.TextLaws.{own_change};
 ghost use Rattle.event_runs.specs.declared.runs.Run.{Run};
 ghost use Rattle.event_runs.specs.declared.runs.RunKind.{RunKind};
+ghost use Rattle.event_runs.specs.Steps.{LastTakes, longer_by};
 ghost use Rattle.event_runs.specs.KeptRuns.{op_in, run_of_one, sort_of, is_mark, other_kind, longer, shorter, chars_to_end, IsNext, JoinsAs, LastJoinsAs, Fits, HasLabel, AreRuns, AreLabelled, first_label, IsHeldAt, GrowBy, AreCutAt};
 
 use crate::lists::NumberLists;
@@ -15,7 +16,7 @@ use ew_model::name::Name;
 use ew_model::text_op::TextOp;
 
 /// How the operations of a run go on from one another.
-#[derive(Clone, Copy)]
+#[derive(Clone, Copy, PartialEq, Eq)]
 pub enum RunKind {
     /// Insertions, each right behind the one before.
     Insertions,
@@ -293,6 +294,31 @@ fn lengthen_last(runs: &mut Vec<Run>, kind: RunKind)
         runs[count - 1] = Run {
             more: run.more + 1,
             kind,
+            ..run
+        };
+    }
+}
+
+/// Whether the last run is of a kind, and the next operation of its kind has this index.
+pub fn last_takes(runs: &[Run], kind: RunKind, next: u32) -> bool
+    ensures { IsTrue result → LastTakes runs.now kind next }
+{
+    match runs.last() {
+        Some(run) => run.kind == kind && kind.has_next(run.at, run.more, next),
+        None => false,
+    }
+}
+
+/// Gives the last run so many events more.
+pub fn lengthen_last_by(runs: &mut Vec<Run>, more: u32)
+    requires { (lists : List (List ℕ)) × (count : ℕ) × (chars : ℕ) × AreRuns 0 0 runs.old.items lists count chars × (count + more < 2 ^ 32) }
+    ensures { (place : ℕ) (r : Run) → length runs.old.items ≡ suc place → slice_get runs.old.items place ≡ Some r → runs.new.items ≡ slice_set runs.old.items place (longer_by r more) }
+{
+    let count = runs.len();
+    if count > 0 {
+        let run = runs[count - 1];
+        runs[count - 1] = Run {
+            more: run.more + more,
             ..run
         };
     }

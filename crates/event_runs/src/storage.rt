@@ -1,15 +1,17 @@
 //! The events' operations and parents.
 
-ghost use Rattle.std.specs.Prelude.{◌≡◌, ℕ, ◌+◌, ◌<◌, ◌≤◌, ◌^◌, List, [], ◌∷◌, ◌++◌, map, length, take, Some, slice_get, OnOk, OnErr, IsOkAnd};
+ghost use Rattle.std.specs.Prelude.{◌≡◌, ℕ, ◌+◌, ◌-◌, ◌<◌, ◌≤◌, ◌^◌, true, false, List, [], ◌∷◌, ◌++◌, map, length, take, drop, Some, slice_get, IfOk, OnOk, OnErr, IsOkAnd};
 ghost use Rattle.ew_model.specs.Positions.{AreParents, IsHistoryOfParents, parents_at};
 ghost use Rattle.ew_model.specs.TextLaws.{own_change};
 ghost use Rattle.event_runs.specs.BareEvents.{BareEvent, bare, ops_in, parents_in};
 ghost use Rattle.event_runs.specs.KeptRuns.{op_chars, op_labels, HasRoom};
+ghost use Rattle.event_runs.specs.RunOps.{ops_of, IndicesFit, chain_on};
 ghost use Rattle.event_runs.specs.Runs.{AreRunsOf, IsRunCount, IsRunStart};
 ghost use Rattle.frontier.specs.Chains.{IsChain};
 
 use crate::lists::NumberLists;
-use crate::runs::{Run, find_run, find_run_near, keep_below, put};
+use crate::ops::RunOps;
+use crate::runs::{Run, find_run, find_run_near, keep_below, last_takes, lengthen_last_by, put};
 use ew_model::NoMem;
 use ew_model::event::Op;
 use ew_model::name::Name;
@@ -104,6 +106,63 @@ impl EventRuns {
         put_reserved(&mut self.chars, &mut self.labels, op);
         self.count += 1;
         Ok(())
+    }
+
+    /// Puts the events of these operations behind the others: the first has the last event as its one parent, each further one the
+    /// event before it. But for the characters it costs the same however many they are.
+    pub fn append_run(&mut self, ops: RunOps<'_>) -> Result<(), NoMem>
+        requires some { 0 < length self.old }
+        requires fit { IndicesFit ops }
+        requires room { length self.old + length (ops_of ops) < 2 ^ 32 }
+        ensures ok { OnOk result (self.new ≡ self.old ++ chain_on (length self.old - 1) (ops_of ops.entry)) }
+        ensures err { OnErr result (self.new ≡ self.old) }
+    {
+        let before = self.count;
+        if let Err(fault) = self.put_run(ops) {
+            self.truncate(before);
+            return Err(fault);
+        }
+        Ok(())
+    }
+
+    /// The same. For want of memory the first of the events may stay.
+    fn put_run(&mut self, ops: RunOps<'_>) -> Result<(), NoMem>
+        requires some { 0 < length self.old }
+        requires fit { IndicesFit ops }
+        requires room { length self.old + length (ops_of ops) < 2 ^ 32 }
+        ensures ok { OnOk result (self.new ≡ self.old ++ chain_on (length self.old - 1) (ops_of ops.entry)) }
+        ensures err { OnErr result (take (length self.old) self.new ≡ self.old) }
+    {
+        // The first may go on with the run before it, and tell its kind or end it there. So the last run takes in all from the fourth on
+        // at the latest.
+        for done in 0..ops.count() {
+            if self.take_in(ops, done)? {
+                return Ok(());
+            }
+            self.append_ref(&ops.get(done), &[self.count - 1])?;
+        }
+        Ok(())
+    }
+
+    /// Puts the events of the operations from a place on behind the others, where the last run takes them all in. Says whether it
+    /// does.
+    fn take_in(&mut self, ops: RunOps<'_>, place: u32) -> Result<bool, NoMem>
+        requires fit { IndicesFit ops }
+        requires within { place < length (ops_of ops) }
+        requires room { length self.old + length (drop place (ops_of ops)) < 2 ^ 32 }
+        requires few { length (ops_of ops) < 2 ^ 32 }
+        ensures all { IfOk result (λ b. b ≡ true → self.new ≡ self.old ++ chain_on (length self.old - 1) (drop place (ops_of ops.entry))) }
+        ensures none { IfOk result (λ b. b ≡ false → self.new ≡ self.old) }
+        ensures err { OnErr result (self.new ≡ self.old) }
+    {
+        let takes = last_takes(&self.runs, ops.kind(), ops.index(place));
+        if takes {
+            let more = ops.count() - place;
+            self.chars.extend_from_slice(ops.chars_from(place))?;
+            lengthen_last_by(&mut self.runs, more);
+            self.count += more;
+        }
+        Ok(takes)
     }
 
     /// The operation of the event at a position.

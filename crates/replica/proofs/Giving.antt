@@ -1,9 +1,13 @@
 -- What is kept of events that are given one after another.
-use Rattle.std.proofs.Common.{◌≡◌, ◌≤◌, List, [], ◌∷◌, ◌++◌, Option, Some, None, false, sym, ap, ◌∙◌, subst}
+use Rattle.std.proofs.Common.{◌≡◌, suc, ◌≤◌, List, [], ◌∷◌, ◌++◌, length, Option, Some, None, false, refl, sym, ap, ◌∙◌, subst}
+use Rattle.ew_model.specs.declared.id.Id.{Id}
+use Rattle.ew_model.specs.declared.event.Op.{Op}
 use Rattle.ew_model.specs.declared.event.Event.{Event}
 use Rattle.ew_model.specs.Touches.{touches}
 use Rattle.ew_model.specs.Verdicts.{Ruling, graph_verdict, is_verdict_good}
 use Rattle.ew_model.specs.Verdicts.Ruling.{Good}
+use Rattle.history_definitions.specs.Chains.{next_id}
+use Rattle.event_graph.specs.GoingOn.{chain_behind}
 use Rattle.event_graph.specs.Keeping.{IsAdmitted}
 use Rattle.replica.specs.Fronts.{IsAdmittedFront}
 use Rattle.replica.specs.Giving.{Given, WereGiven}
@@ -23,6 +27,20 @@ one_admitted events old new e none still good more were = record {
       subst (λ (r : Option Ruling). IsAdmittedFront new.admitted r (events ++ e ∷ [])) (sym still)
       (ap (λ (g : List Event). g ++ e ∷ []) (all_admitted events old none were) ∙ sym more);
 }
+
+-- so many more are given that are admitted
+pub many_admitted : (events more : List Event) (old new : Given) → old.refused ≡ None → new.refused ≡ None → new.admitted ≡ old.admitted ++ more → IsAdmitted (old.admitted ++ more) → WereGiven events old → WereGiven (events ++ more) new
+many_admitted events more old new none still grown good were = record {
+  admitted = subst (λ (g : List Event). IsAdmitted g) (sym grown) good;
+  front =
+      subst (λ (r : Option Ruling). IsAdmittedFront new.admitted r (events ++ more)) (sym still)
+      (ap (λ (g : List Event). g ++ more) (all_admitted events old none were) ∙ sym grown);
+}
+
+-- as many events go on from one as operations are given
+pub chain_long : (x : Id) (ops : List Op) → length (chain_behind x ops) ≡ length ops
+chain_long x [] = refl
+chain_long x (op ∷ ops) = ap suc (chain_long (next_id x) ops)
 
 -- one more is given that isn't admitted
 pub one_refused : (events : List Event) (old new : Given) (e : Event) (ruling : Ruling) → old.refused ≡ None → new.refused ≡ Some ruling → graph_verdict old.admitted e ≡ ruling → is_verdict_good ruling ≡ false

@@ -5,6 +5,8 @@ ghost use Rattle.ew_model.specs.declared.event.Event.{Event};
 ghost use Rattle.ew_model.specs.Answers.{ruling_of};
 ghost use Rattle.ew_model.specs.Touches.{touches};
 ghost use Rattle.ew_model.specs.Verdicts as model;
+ghost use Rattle.event_graph.specs.GoingOn.{chain_behind};
+ghost use Rattle.event_runs.specs.RunOps.{IndicesFit, ops_of};
 ghost use Rattle.history_definitions.specs.Chains.{event_behind};
 ghost use Rattle.replica.specs.Answers.{Loads, LoadsGraph};
 ghost use Rattle.replica.specs.Giving.{WereGiven};
@@ -13,6 +15,7 @@ use crate::fault::LoadFault;
 use crate::load::{load, walk_good};
 use crate::state::Replica;
 use event_graph::Graph;
+use event_runs::RunOps;
 use ew_model::NoMem;
 use ew_model::event::{Event, Op};
 use ew_model::limits::Limits;
@@ -107,6 +110,25 @@ impl Loading {
         }
         let _most = self.limits.events();
         self.graph.go_on(op)?;
+        Ok(())
+    }
+
+    /// Takes in the events of these operations: the first goes on from the event given last, each further one from the event before it,
+    /// as if each were given by `go_on`. Where none was given yet nothing happens. Their indices aren't looked at before the end. For
+    /// want of memory none is taken in, and they may be given again.
+    pub fn go_on_run(&mut self, ops: RunOps<'_>) -> Result<(), NoMem>
+        requires fit { IndicesFit ops }
+        requires room { length self.old.admitted + length (ops_of ops) ≤ self.old.limits.events }
+        ensures limits { self.new.limits ≡ self.old.limits }
+        ensures given { OnOk result ((events : List Event) (e : Event) → WereGiven (events ++ e ∷ []) self.old → WereGiven ((events ++ e ∷ []) ++ chain_behind e.id (ops_of ops.entry)) self.new) }
+        ensures none { WereGiven [] self.old → self.new ≡ self.old }
+        ensures same { OnErr result (self.new ≡ self.old) }
+    {
+        if self.refused.is_some() || self.graph.count() == 0 {
+            return Ok(());
+        }
+        let _most = self.limits.events();
+        self.graph.go_on_run(ops)?;
         Ok(())
     }
 

@@ -1,25 +1,11 @@
-use Rattle.std.proofs.Common.{◌≡◌, ◌∙◌, ◌+◌, ℕ, suc, ◌∷◌, ◌++◌, [], List, length, slice_get, Result, Ok, Err, refl, sym, ap, subst, arith}
-use Rattle.std.proofs.lemmas.List.{get_or_append_left}
+use Rattle.std.proofs.Common.{◌≡◌, ◌∙◌, ℕ, ◌∷◌, ◌++◌, [], List, length, slice_get, Result, Ok, Err, refl, sym, ap, subst}
 use Rattle.std.specs.Prelude.{OnOk}
 use Rattle.event_runs.specs.declared.runs.Run.{Run}
 use Rattle.event_runs.specs.declared.runs.RunKind.{RunKind}
-use Rattle.event_runs.specs.BareEvents.{BareEvent}
-use Rattle.event_runs.specs.KeptRuns.{event_in, chars_of, labels_of, IsLabel, AreRuns, AreLabelled, LastJoinsAs, with_more, GrowBy}
-use Rattle.event_runs.proofs.RunEvents.{events_same}
-use Rattle.event_runs.proofs.RunLines.{HasMore, more_in, started_in, labelled_more, labelled_own}
+use Rattle.event_runs.specs.KeptRuns.{LastJoinsAs, GrowBy}
+use Rattle.event_runs.proofs.ManyEvents.{grown}
+use Rattle.event_runs.proofs.RunLines.{more_in, started_in, labelled_more, labelled_own}
 use Rattle.event_runs.proofs.runs.put.Goals as goal
-
-grown : (runs new : List Run) (lists more : List (List ℕ)) (s : Run) (parents : List ℕ) → AreRuns 0 0 runs lists s.start s.chars_before → s.more ≡ 0 → HasMore runs new lists more s parents 0 0 s.start s.chars_before
-    → ((n : ℕ) → AreLabelled 0 runs n → IsLabel s.kind s.at n → AreLabelled 0 new (n + labels_of s.kind)) → GrowBy runs new lists more s parents
-grown runs new lists more s parents a none h labelled = record {
-  events = λ told c l long are. h.events (with_more told c l) ∙ ap (λ (es : List BareEvent). es ++ event_in (with_more told c l) s parents 0 ∷ [])
-      (events_same (with_more told c l) told runs lists 0 0 0 s.start s.chars_before (length told.labels) a are (record {
-        chars = λ j low. get_or_append_left told.chars c 0 j (omega (arith, low, long));
-        labels = λ j low. get_or_append_left told.labels l [] j low;
-      }));
-  in_line = let one : 1 ≡ suc s.more = omega (arith, none) in subst (λ n. AreRuns 0 0 new more (s.start + 1) (s.chars_before + chars_of s.kind n)) one h.in_line;
-  labelled = labelled;
-}
 
 pub returns-in-Some-clause-ok : goal.returns-in-Some-clause-ok
 returns-in-Some-clause-ok c =

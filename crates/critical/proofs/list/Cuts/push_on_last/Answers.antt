@@ -1,16 +1,9 @@
-use Rattle.std.proofs.Common.{◌≡◌, ◌∙◌, ◌-◌, ◌<◌, ◌∷◌, [], ℕ, zero, suc, slice_index_or, sym, ap, length, arith}
+use Rattle.std.proofs.Common.{◌≡◌, ◌∙◌, ◌-◌, ◌∷◌, [], suc, sym, ap, length, arith}
 use Rattle.std.proofs.lemmas.Result.{on_ok_weaker}
-use Rattle.ew_model.specs.Positions.{AreParents}
 use Rattle.critical.specs.KeptCuts.{KeptCuts, with_whole}
+use Rattle.critical.proofs.Chains.{one_parent}
 use Rattle.critical.proofs.CutsKept.{whole_kept}
 use Rattle.critical.proofs.list.Cuts.push_on_last.Goals as goal
-
-one_parent : (position parent : ℕ) → parent < position → AreParents position (parent ∷ [])
-one_parent position parent less = record { rising = λ k h. absurd (omega (arith, h)); lower = λ k d h. low k d h; few = omega arith }
-  where
-    low : (k d : ℕ) → k < 1 → slice_index_or (parent ∷ []) k d < position
-    low zero d h = less
-    low (suc k) d h = absurd (omega (arith, h))
 
 pub returns-clause-ok : goal.returns-clause-ok
 returns-clause-ok c =

@@ -1,6 +1,6 @@
 use Rattle.std.proofs.Common.{◌-◌, arith}
 use Rattle.critical.proofs.SpanSearches.{last_set}
-use Rattle.critical.proofs.spans.lengthen_last.Goals as goal
+use Rattle.critical.proofs.spans.lengthen_last_to.Goals as goal
 
 pub returns-then-count-gt0 : goal.returns-then-count-gt0
 returns-then-count-gt0 c =
