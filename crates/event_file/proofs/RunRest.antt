@@ -24,10 +24,10 @@ use Rattle.event_file.specs.declared.fault.Stop.{Stop}
 use Rattle.event_file.specs.declared.fault.FileFault.{FileFault}
 use Rattle.event_file.specs.Faults.{IsFault}
 use Rattle.event_file.specs.Known.{known_by, known_run}
-use Rattle.event_file.specs.OpenRuns.{Opened, IsStepOf, IsNextOf, IsOpOf, CanGoOn, run_of, last_of, events_behind}
+use Rattle.event_file.specs.OpenRuns.{Opened, IsStepOf, IsNextOf, IsOpOf, IsRestOf, IsRestIn, CanGoOn, run_of, last_of, events_behind}
 use Rattle.event_file.specs.Progress.{Known}
 use Rattle.event_file.specs.Reading.{Stops, IsStop}
-use Rattle.event_file.specs.Rest.{Rest, beyond, in_front, runs_found, run_rest, IsNext, GoesOnBy}
+use Rattle.event_file.specs.Rest.{Rest, beyond, in_front, runs_found, run_rest, runs_rest, IsNext, GoesOnBy, GoOnBy}
 use Rattle.event_file.proofs.Indexes.{ids_of_run}
 use Rattle.event_file.proofs.Rest.{same_agents, same_steps, same_end, whole, without, one_less, stops_with, none_beyond}
 
@@ -365,6 +365,10 @@ step_behind o new op step =
     ap (chain_of o.last.agent (suc o.last.seq) (o.last ∷ [])) step.next
     ∙ behind_last (suc o.last.seq + 1) 0 (event_behind o.last op) (next_id o.last) new.last new.rest (omega arith) (sym step.last)
 
+-- where no event of a run is left
+pub none_behind : (o : Opened) → o.rest ≡ [] → events_behind (Some o) ≡ []
+none_behind o none = ap (chain_of o.last.agent (suc o.last.seq) (o.last ∷ [])) none
+
 -- the next event of the run is handed out
 pub step_next : (known : Known) (o new : Opened) (left len : ℕ) (bytes : List ℕ) (e : Event) → e ≡ event_behind o.last e.op → IsStepOf e.op o new → IsNext (Ok (Some e)) (run_rest known (Some o) left len bytes) (run_rest known (Some new) left len bytes)
 step_next known o new left len bytes e is step =
@@ -390,6 +394,67 @@ step_op_of known old new left len bytes op n =
     subst (λ o. GoesOnBy op (run_rest known o left len bytes) (run_rest known new left len bytes)) (sym n.old_is)
     (subst (λ o. GoesOnBy op (run_rest known (Some n.first) left len bytes) (run_rest known o left len bytes)) (sym n.new_is)
     (step_goes_on known n.first n.second left len bytes op n.step))
+
+chain_long : (ops : List Op) (agent : List ℕ) (n : ℕ) (parents : List Id) → length (chain_of agent n parents ops) ≡ length ops
+chain_long [] agent n parents = refl
+chain_long (op ∷ ops) agent n parents = ap suc (chain_long ops agent (n + 1) (record { agent = agent; seq = n } ∷ []))
+
+-- all events of the run that are behind are handed out
+rest_goes_on : (known : Known) (o new : Opened) (left len : ℕ) (bytes : List ℕ) (ops : List Op) → IsRestOf ops o new → GoOnBy ops (run_rest known (Some o) left len bytes) (run_rest known (Some new) left len bytes)
+rest_goes_on known o new left len bytes ops step =
+    let chain = chain_of o.last.agent (suc o.last.seq) (o.last ∷ []) ops in
+    let behind : events_behind (Some o) ≡ chain = ap (chain_of o.last.agent (suc o.last.seq) (o.last ∷ [])) step.all in
+    let nothing = none_behind new step.done in
+    let found = λ (r : FileRun). runs_found known.agents known.events (Some r) left len bytes in
+    let size = ap (length {A = Event}) behind in
+    let long = chain_long ops o.last.agent (suc o.last.seq) (o.last ∷ []) in
+    let none = ap (length {A = Event}) nothing in
+    record {
+      last = o.last;
+      is_last = refl;
+      found =
+          ap (λ es. in_front es (found o.run)) behind
+          ∙ ap (in_front chain) (ap found (sym step.same) ∙ sym (in_front_none (found new.run)) ∙ ap (λ es. in_front es (found new.run)) (sym nothing));
+      records = omega (arith, size, long, none);
+      new_last = ap (λ x. Some x) step.last;
+    }
+
+-- so many calls, one behind the other, hand out the same as one
+pub no_more : (rest : Rest) (x : Id) → rest.last ≡ Some x → GoOnBy [] rest rest
+no_more rest x is =
+    let at : x.seq ≡ x.seq + length {A = Op} [] = omega arith in
+    record {
+      last = x;
+      is_last = is;
+      found = sym (in_front_none rest.found);
+      records = omega arith;
+      new_last = is ∙ ap (λ n. Some (record { agent = x.agent; seq = n })) at;
+    }
+
+pub one_and_more : (op : Op) (ops : List Op) (old mid new : Rest) → GoesOnBy op old mid → GoOnBy ops mid new → GoOnBy (op ∷ ops) old new
+one_and_more op ops old mid new one more =
+    let e = event_behind one.last op in
+    let both : Some more.last ≡ Some (next_id one.last) = sym more.is_last ∙ one.next.2 in
+    let same : more.last ≡ next_id one.last = cc in
+    let chain = chain_of more.last.agent (suc more.last.seq) (more.last ∷ []) ops in
+    let after : suc one.last.seq + length ops ≡ one.last.seq + suc (length ops) = omega arith in
+    let count = one.next.1 in
+    let rest = more.records in
+    record {
+      last = one.last;
+      is_last = one.is_last;
+      found =
+          one.next.0 ∙ ap (in_front (e ∷ [])) more.found ∙ sym (in_front_first e chain new.found)
+          ∙ ap (λ es. in_front es new.found) (sym (behind_last (suc one.last.seq + 1) 0 e (next_id one.last) more.last ops (omega arith) (sym same)));
+      records = omega (arith, count, rest);
+      new_last = more.new_last ∙ ap (λ (x : Id). Some (record { agent = x.agent; seq = x.seq + length ops })) same ∙ ap (λ n. Some (record { agent = one.last.agent; seq = n })) after;
+    }
+
+rest_in : (known : Known) (old new : Option Opened) (left len : ℕ) (bytes : List ℕ) (ops : List Op) → IsRestIn ops old new → GoOnBy ops (run_rest known old left len bytes) (run_rest known new left len bytes)
+rest_in known old new left len bytes ops n =
+    subst (λ o. GoOnBy ops (run_rest known o left len bytes) (run_rest known new left len bytes)) (sym n.old_is)
+    (subst (λ o. GoOnBy ops (run_rest known (Some n.first) left len bytes) (run_rest known o left len bytes)) (sym n.new_is)
+    (rest_goes_on known n.first n.second left len bytes ops n.step))
 
 -- how many operations are left behind the first
 pub count_step : (ops rest : RunOps) (op : Op) → ops_in ops ≡ op ∷ ops_in rest → ops_count ops ≡ suc (ops_count rest)
@@ -433,18 +498,24 @@ pub some_goes_on : (known : Known) (old new : Option Opened) (left len : ℕ) (b
 some_goes_on known old new left len bytes None h = h
 some_goes_on known old new left len bytes (Some op) h = step_op_of known old new left len bytes op h
 
-pub none_goes_on : (known : Known) (old new : Option Opened) (left len : ℕ) (bytes : List ℕ) (r : Option Op) → IfNone r (new ≡ old) → IfNone r (run_rest known new left len bytes ≡ run_rest known old left len bytes)
-none_goes_on known old new left len bytes None h = ap (λ o. run_rest known o left len bytes) h
+pub none_goes_on : {A : Type 0} (known : Known) (old new : Option Opened) (left len : ℕ) (bytes : List ℕ) (r : Option A) → IfNone r ((events_behind old ≡ []) × (new ≡ old))
+    → IfNone r ((events_behind old ≡ []) × (runs_rest known new left len bytes ≡ runs_rest known old left len bytes))
+none_goes_on known old new left len bytes None h = (h.0, ap (λ o. runs_rest known o left len bytes) h.1)
 none_goes_on known old new left len bytes (Some op) h = h
+
+pub some_rest : {A : Type 0} (ops_of : A → List Op) (known : Known) (old new : Option Opened) (left len : ℕ) (bytes : List ℕ) (r : Option A) → IfSome r (λ x. IsRestIn (ops_of x) old new)
+    → IfSome r (λ x. GoOnBy (ops_of x) (run_rest known old left len bytes) (run_rest known new left len bytes))
+some_rest ops_of known old new left len bytes None h = h
+some_rest ops_of known old new left len bytes (Some x) h = rest_in known old new left len bytes (ops_of x) h
+
+pub rest_done : {A : Type 0} (ops_of : A → List Op) (old new : Option Opened) (r : Option A) → IfSome r (λ x. IsRestIn (ops_of x) old new) → IfSome r (λ x. events_behind new ≡ [])
+rest_done ops_of old new None h = h
+rest_done ops_of old new (Some x) h = ap events_behind h.new_is ∙ none_behind h.second h.step.done
 
 pub only_one : (ids : List Id) (x y : Id) → length ids ≡ 1 → y ≡ get_or ids 0 y → are_only ids x ≡ id_eq x y
 only_one [] x y one is = absurd (omega (arith, one))
 only_one (z ∷ []) x y one is = ap (id_eq x) (sym is)
 only_one (z ∷ w ∷ ids) x y one is = absurd (omega (arith, one))
-
--- where no event of a run is left
-pub none_behind : (o : Opened) → o.rest ≡ [] → events_behind (Some o) ≡ []
-none_behind o none = ap (chain_of o.last.agent (suc o.last.seq) (o.last ∷ [])) none
 
 pub no_open : (known : Known) (open_run : Option Opened) (left len : ℕ) (bytes : List ℕ) → events_behind open_run ≡ [] → (run_rest known open_run left len bytes).found ≡ runs_found known.agents known.events (run_of open_run) left len bytes
 no_open known open_run left len bytes none = ap (λ es. in_front es (runs_found known.agents known.events (run_of open_run) left len bytes)) none ∙ in_front_none (runs_found known.agents known.events (run_of open_run) left len bytes)
@@ -473,10 +544,6 @@ record_next known after open_run new left len bytes later r op none more few one
       omega (arith, size, long, count, few, nothing),
       ap (λ x. Some x) last,
     )
-  where
-    chain_long : (os : List Op) (agent : List ℕ) (k : ℕ) (parents : List Id) → length (chain_of agent k parents os) ≡ length os
-    chain_long [] agent k parents = refl
-    chain_long (o ∷ os) agent k parents = ap suc (chain_long os agent (k + 1) (record { agent = agent; seq = k } ∷ []))
 
 -- an open run has no event left where it has no operation left
 pub behind_when : (opened : Option Opened) (o : Opened) (b : Bool) → opened ≡ Some o → (IsTrue b ↔ (o.rest ≡ [])) → IsTrue b ↔ (events_behind opened ≡ [])

@@ -40,6 +40,25 @@ pub record IsOpOf (op : Op) (old new : Option Opened) : Type 0 where
   pub new_is : new ≡ Some second
   pub step : IsStepOf op first second
 
+-- the id of the same agent, so many numbers behind this one
+abbrev pub id_behind : ℕ → Id → Id
+id_behind n x = record { agent = x.agent; seq = x.seq + n }
+
+-- the operations of all events behind are handed out at once
+pub record IsRestOf (ops : List Op) (old new : Opened) : Type 0 where
+  pub all : old.rest ≡ ops
+  pub done : new.rest ≡ []
+  pub same : new.run ≡ old.run
+  pub last : new.last ≡ id_behind (length ops) old.last
+
+-- the same of the run that was read last
+pub record IsRestIn (ops : List Op) (old new : Option Opened) : Type 0 where
+  pub first : Opened
+  pub second : Opened
+  pub old_is : old ≡ Some first
+  pub new_is : new ≡ Some second
+  pub step : IsRestOf ops first second
+
 -- the run that was read last, if there is one
 abbrev pub run_of : Option Opened → Option FileRun
 run_of open_run = option_map (λ (o : Opened). o.run) open_run

@@ -3,13 +3,14 @@ use Rattle.std.specs.Prelude.{◌≡◌, ℕ, suc, ◌+◌, List, [], ◌∷◌,
 use Rattle.ew_model.specs.declared.id.Id.{Id}
 use Rattle.ew_model.specs.declared.event.Op.{Op}
 use Rattle.ew_model.specs.declared.event.Event.{Event}
+use Rattle.ew_model.specs.Edits.{chain_of}
 use Rattle.file_words.specs.FileFaults.{FileFinding, go_on, finding_of, read_records, read_end}
 use Rattle.file_words.specs.FileFaults.FileFinding.{IsFile, Short, BadMagic, BadVersion, BadDigest, BadRecord, TooMany}
 use Rattle.file_words.specs.FileRuns.{FileRun, read_runs}
 use Rattle.history_definitions.specs.Chains.{event_behind}
 use Rattle.event_file.specs.declared.fault.FileFault.{FileFault}
 use Rattle.event_file.specs.Faults.{IsFault}
-use Rattle.event_file.specs.OpenRuns.{Opened, run_of, last_of, events_behind}
+use Rattle.event_file.specs.OpenRuns.{Opened, id_behind, run_of, last_of, events_behind}
 use Rattle.event_file.specs.Progress.{Known}
 
 -- what a reader has still to hand out: so many events, and what is found of them and of the end behind them; and the id of the
@@ -55,6 +56,14 @@ pub record GoesOnBy (op : Op) (old new : Rest) : Type 0 where
   pub is_last : old.last ≡ Some last
   pub next : IsNext (Ok (Some (event_behind last op))) old new
 
+-- the next events of the rest go on from the last one, each from the one before it, with these operations, and all are handed out
+pub record GoOnBy (ops : List Op) (old new : Rest) : Type 0 where
+  pub last : Id
+  pub is_last : old.last ≡ Some last
+  pub found : old.found ≡ in_front (chain_of last.agent (suc last.seq) (last ∷ []) ops) new.found
+  pub records : old.records ≡ length ops + new.records
+  pub new_last : new.last ≡ Some (id_behind (length ops) last)
+
 -- what is found of records of runs behind those of these events and this run, in a content of that many bytes
 abbrev pub runs_found : List (List ℕ) → List Event → Option FileRun → ℕ → ℕ → List ℕ → FileFinding
 runs_found agents before last left len bytes = beyond (length before) (finding_of len (go_on (read_runs agents before last left left bytes) (read_end agents)))
@@ -66,3 +75,12 @@ run_rest known open_run left len bytes = record {
   found = in_front (events_behind open_run) (runs_found known.agents known.events (run_of open_run) left len bytes);
   last = last_of open_run;
 }
+
+-- what a reader of a file in runs has still to hand out, and those of its events that are of the run that was read last
+pub record RunsRest : Type 0 where
+  pub rest : Rest
+  pub behind : List Event
+
+-- the same of what is known, the run that was read last, how many events and bytes are left, and the bytes
+abbrev pub runs_rest : Known → Option Opened → ℕ → ℕ → List ℕ → RunsRest
+runs_rest known open_run left len bytes = record { rest = run_rest known open_run left len bytes; behind = events_behind open_run }

@@ -11,7 +11,7 @@ use Rattle.event_file.specs.Rest.{Rest}
 -- what is still to come
 abbrev pub rest_of : Records → Rest
 rest_of (Events rest) = rest
-rest_of (Runs rest) = rest
+rest_of (Runs runs) = runs.rest
 
 -- the agents and the number of events, at most so many
 abbrev pub read_start : ℕ → Reader (List (List ℕ) × ℕ)

@@ -3,7 +3,7 @@
 ghost use Rattle.std.specs.Prelude.{◌≡◌, ◌↔◌, ◌&&◌, [], ◌∷◌, ◌+◌, ◌<◌, ◌≤◌, ◌^◌, IsTrue, IfOk, IfSome, IfNone, OnErr};
 ghost use Rattle.history_definitions.specs.Chains.{next_id, event_behind};
 ghost use Rattle.file_words.specs.FileRuns.{ops_count, ops_in, takes_step, first_op, is_next_id, are_only, continues};
-ghost use Rattle.event_file.specs.OpenRuns.{IsStepOf, IsNextOf, IsOpOf, CanGoOn, events_behind};
+ghost use Rattle.event_file.specs.OpenRuns.{IsStepOf, IsNextOf, IsOpOf, IsRestOf, IsRestIn, CanGoOn, events_behind};
 ghost use Rattle.event_file.specs.Runs.{ops_as};
 
 use crate::run_ops::RunOps;
@@ -12,6 +12,7 @@ use ew_model::event::{Event, Op};
 use ew_model::id::Id;
 use ew_model::parents::Parents;
 use std::marker::Model;
+use std::mem;
 
 /// A run of which at least one event was handed out. Contracts see the run, the id that was handed out last, and what the
 /// events behind do.
@@ -75,6 +76,21 @@ impl<'a> OpenRun<'a> {
         Some(op)
     }
 
+    /// Hands out the operations of all events behind, if there is one.
+    pub(crate) fn go_on_run(&mut self) -> Option<RunOps<'a>>
+        ensures all { IfSome result (λ ops. IsRestOf (ops_in (ops_as ops)) self.old self.new) }
+        ensures some { IfSome result (λ ops. 0 < ops_count (ops_as ops)) }
+        ensures sound { IfSome result (λ ops. CanGoOn (ops_as ops)) }
+        ensures none { IfNone result ((self.old.rest ≡ []) × (self.new ≡ self.old)) }
+    {
+        let count = self.rest.count();
+        if count == 0 {
+            return None;
+        }
+        self.last.seq += count as u32;
+        Some(mem::replace(&mut self.rest, RunOps::Deletions { at: 0, count: 0 }))
+    }
+
     /// Hands out the next event, of which there is one. Its parent is put into the room.
     pub(crate) fn next(&mut self, room: Vec<Id>) -> Result<Event, NoMem>
         requires { self.old.rest ≡ [] → ⊥ }
@@ -133,10 +149,23 @@ pub(crate) fn next_of(opened: &mut Option<OpenRun>, room: Vec<Id>) -> Result<Eve
 /// Hands out the operation of the next event of a run, if there is one.
 pub(crate) fn go_on_in(opened: &mut Option<OpenRun>) -> Option<Op>
     ensures some { IfSome result (λ op. IsOpOf op opened.old opened.new) }
-    ensures none { IfNone result (opened.new ≡ opened.old) }
+    ensures none { IfNone result ((events_behind opened.old ≡ []) × (opened.new ≡ opened.old)) }
 {
     match opened {
         Some(run) => run.go_on(),
+        None => None,
+    }
+}
+
+/// Hands out the operations of all events of a run that are still behind, if there is one.
+pub(crate) fn go_on_run_in<'a>(opened: &mut Option<OpenRun<'a>>) -> Option<RunOps<'a>>
+    ensures all { IfSome result (λ ops. IsRestIn (ops_in (ops_as ops)) opened.old opened.new) }
+    ensures some { IfSome result (λ ops. 0 < ops_count (ops_as ops)) }
+    ensures sound { IfSome result (λ ops. CanGoOn (ops_as ops)) }
+    ensures none { IfNone result ((events_behind opened.old ≡ []) × (opened.new ≡ opened.old)) }
+{
+    match opened {
+        Some(run) => run.go_on_run(),
         None => None,
     }
 }

@@ -1,13 +1,16 @@
 //! Reading an event file one event at a time.
 
-ghost use Rattle.std.specs.Prelude.{◌≡◌, ◌≤◌, [], true, length, drop, None, IfOk, IfSome, IfNone, MatchResult};
+ghost use Rattle.std.specs.Prelude.{◌≡◌, ◌<◌, ◌≤◌, [], true, length, drop, None, IfOk, IfSome, IfNone, MatchResult};
 ghost use Rattle.ew_model.specs.Ids.{name_eq};
 ghost use Rattle.ew_model.specs.Distinct.{AreDistinct};
 ghost use Rattle.file_words.specs.FileFaults.{finding_of};
+ghost use Rattle.file_words.specs.FileRuns.{ops_count, ops_in};
 ghost use Rattle.file_words.specs.FileVersions.{version_of, is_version, read_of_version, content_found, file_found};
 ghost use Rattle.event_file.specs.Faults.{IsFault};
+ghost use Rattle.event_file.specs.OpenRuns.{CanGoOn};
 ghost use Rattle.event_file.specs.Reading.{Gives, Stops};
-ghost use Rattle.event_file.specs.Rest.{IsNext, GoesOnBy};
+ghost use Rattle.event_file.specs.Rest.{IsNext, GoesOnBy, GoOnBy};
+ghost use Rattle.event_file.specs.Runs.{ops_as};
 ghost use Rattle.event_file.specs.Versions.{rest_of, read_start, records_of};
 
 use crate::event_records::EventRecords;
@@ -16,6 +19,7 @@ use crate::format::{DIGEST_LEN, MAGIC, RUNS_VERSION, SHORTEST, VERSION};
 use crate::input::Input;
 use crate::names::read_names;
 use crate::progress::Progress;
+use crate::run_ops::RunOps;
 use crate::run_reader::RunReader;
 use ew_model::event::{Event, Op};
 use ew_model::id::Id;
@@ -113,6 +117,22 @@ impl<'a> EventReader<'a> {
         match &mut self.records {
             Records::Events(records) => records.go_on(),
             Records::Runs(records) => records.go_on(),
+        }
+    }
+
+    /// The operations of the events of a run that `next` began and that are still behind, all at once: those that so many calls of
+    /// `go_on` hand out. There is one, each character is a scalar, and each index of insertions a number of 32 bits. None where no
+    /// event of a run is behind, as always in a file that has a record for each event: then nothing has changed, and `next` tells
+    /// more. When it is None isn't promised.
+    pub fn go_on_run(&mut self) -> Option<RunOps<'a>>
+        ensures all { IfSome result (λ ops. GoOnBy (ops_in (ops_as ops)) self.old self.new) }
+        ensures some { IfSome result (λ ops. 0 < ops_count (ops_as ops)) }
+        ensures sound { IfSome result (λ ops. CanGoOn (ops_as ops)) }
+        ensures none { IfNone result (self.new ≡ self.old) }
+    {
+        match &mut self.records {
+            Records::Events(_) => None,
+            Records::Runs(records) => records.go_on_run(),
         }
     }
 }

@@ -22,9 +22,9 @@ pub(crate) struct FileRun<'a> {
     pub(crate) ops: RunOps<'a>,
 }
 
-/// Operations that take one step.
+/// Operations that take one step. Contracts see them by `ops_as`.
 #[derive(Drop)]
-pub(crate) enum RunOps<'a> {
+pub enum RunOps<'a> {
     /// The characters stand at rising indices. Each has four bytes, the lowest first.
     Insertions { at: u32, text: &'a [u8] },
     /// All at one index.
@@ -54,7 +54,7 @@ impl<'a> RunOps<'a> {
     }
 
     /// How many operations these are.
-    pub(crate) fn count(&self) -> usize
+    pub fn count(&self) -> usize
         ensures { result ≡ ops_count (ops_as self.now) }
     {
         match self {

@@ -2,11 +2,12 @@
 
 ghost use Rattle.std.specs.Prelude.{◌<◌};
 
-use event_file::{EventReader, FileFault, decode, encode, encode_runs, version_of};
+use event_file::{EventReader, FileFault, RunOps, decode, encode, encode_runs, version_of};
 use ew_model::NoMem;
 use ew_model::event::Event;
 use sha2::{Digest, Sha256};
 use std::alloc::Global;
+use std::fmt::Write;
 use trial_rows::bytes::{bytes_of, changed};
 use trial_rows::fault::Fault;
 use trial_rows::show;
@@ -20,6 +21,7 @@ pub fn answer(alloc: Global, digits: &str, asked: &str) -> Result<String, Fault>
         "read" => read(alloc, &content, rest),
         "cut" => cut(alloc, &content),
         "alone" => alone(alloc, &content, rest),
+        "at_once" => at_once(alloc, &content, rest),
         "written" => written(alloc, &content, rest),
         "digest" => Ok(hex::encode(alloc, &Sha256::digest(&content)[..])?),
         _ => Err(Fault::Unreadable),
@@ -120,6 +122,36 @@ fn is_alone(reader: &mut EventReader, event: &Event) -> Result<bool, Fault> {
     match read_with(reader.next())? {
         Some(next) if next.same(event) => Ok(false),
         _ => Err(Fault::Unreadable),
+    }
+}
+
+/// Reads the changed content, closed by its digest: an event, and then the rest of its run at once, as long as there is one. Answers
+/// what was handed out at once.
+fn at_once(alloc: Global, content: &[u8], words: &str) -> Result<String, Fault> {
+    let content = changed(alloc, content, words)?;
+    let file = closed(alloc, &content)?;
+    let mut reader = read_with(EventReader::new(alloc, &file, 10))?;
+    let mut shown = String::new(alloc);
+    for _ in 0..10 {
+        if read_with(reader.next())?.is_none() {
+            break;
+        }
+        if let Some(ops) = reader.go_on_run() {
+            show::space(&mut shown)?;
+            show_run(&mut shown, &ops)?;
+        }
+    }
+    Ok(shown)
+}
+
+/// Shows the kind of the operations, their first index, and how many they are.
+fn show_run(shown: &mut String, ops: &RunOps) -> Result<(), NoMem> {
+    let count = ops.count();
+    match ops {
+        RunOps::Insertions { at, .. } => write!(shown, "insert {at} {count}"),
+        RunOps::Deletions { at, .. } => write!(shown, "delete {at} {count}"),
+        RunOps::BackDeletions { at, .. } => write!(shown, "back {at} {count}"),
+        RunOps::Mark { .. } => shown.push_str("mark"),
     }
 }
 
