@@ -1,5 +1,5 @@
 -- The command table: what a command line answers over a map of files and an input.
-use Rattle.std.specs.Prelude.{ℕ, pos, ◌-◌, Bool, true, false, List, [], ◌∷◌, length, find, Option, None, Some, option_and_then, if◌then◌else◌, nat_lt, ◌==◌, codes, encode_utf8_all}
+use Rattle.std.specs.Prelude.{ℕ, pos, ◌-◌, Bool, true, false, List, [], ◌∷◌, length, find, Option, None, Some, option_and_then, if◌then◌else◌, nat_lt, ◌==◌, slice_index, codes, encode_utf8_all}
 use Rattle.std.specs.List.{list_any}
 use Rattle.std.specs.Option.{option_map}
 use Rattle.std.specs.Str.{bytes_eq}
@@ -22,7 +22,7 @@ use Rattle.ew_model.specs.Cuts.{latest_cut}
 use Rattle.file_words.specs.FileFaults.{FileFinding}
 use Rattle.file_words.specs.FileFaults.FileFinding.{IsFile, Short, BadMagic, BadVersion, BadDigest, BadRecord, TooMany}
 use Rattle.file_words.specs.FileRuns.{file2_of}
-use Rattle.file_words.specs.FileVersions.{file_found, version_of}
+use Rattle.file_words.specs.FileVersions.{file_found}
 use Rattle.ew_outside.specs.Files.{Files}
 use Rattle.history_definitions.specs.Summary.{summary_of}
 use Rattle.peer_definitions.specs.declared.frame.Frame.TheVariants.{Have}
@@ -284,17 +284,15 @@ merge_reply name limits events others = outcome_reply name limits (length events
 abbrev pub over_both : (List Event → List Event → Reply) → Opened → Opened → Reply
 over_both reply file other = over_events (λ events. over_events (reply events) other) file
 
--- the version that the bytes of a file name; bytes that aren't loaded name none
-abbrev pub named_version : File → Option ℕ
-named_version (whole bytes) = version_of bytes
-named_version file = None
+-- the version that the bytes of a file name, which is 0 where none is loaded
+abbrev pub named_version : File → ℕ
+named_version (whole bytes) = slice_index bytes 7
+named_version file = 0
 
--- the version that events were read of is told with their number, and where it is 1, their file of version 2 is stored; bytes that
--- name no version are no event file
-abbrev pub upgraded_reply : Text → List Event → Option ℕ → Reply
-upgraded_reply name events (Some version) =
+-- the version that events were read of is told with their number, and where it is 1, their file of version 2 is stored
+abbrev pub upgraded_reply : Text → List Event → ℕ → Reply
+upgraded_reply name events version =
     if version == 1 then stores (upgraded_text version (length events)) name (file2_of events) else prints (upgraded_text version (length events))
-upgraded_reply name events None = refuses (no_event_file name)
 
 -- a file is upgraded from the version that its bytes name
 abbrev pub upgrade_reply : Text → LimitNumbers → File → Reply

@@ -10,7 +10,6 @@ ghost use Rattle.ew_outside.specs.Counts.{Asks, next};
 ghost use Rattle.opened_files.specs.Touches.{TouchesAtMost, file_touches};
 ghost use Rattle.opened_files.specs.Views.{IsTakenReply, FailedLoadsBy, MissesBy, ShelfCauses, reply_view, reply_status};
 
-use command_texts::refusal::Refusal;
 use command_texts::texts::upgraded_text;
 use ew_model::NoMem;
 use ew_model::limits::Limits;
@@ -28,11 +27,8 @@ fn upgraded_plan(alloc: Global, name: &str, file: &Versioned) -> Result<Reply, N
     ensures plan { IfOk result IsTakenReply }
     ensures found { IfOk result (λ p. reply_status p ≢ 3) }
 {
-    let Some(version) = file.version else {
-        return Ok(Reply::Refuses(Refusal::NoEventFile(String::from_str(alloc, name)?)));
-    };
-    let out = upgraded_text(alloc, version, file.replica.count())?;
-    if version == 1 {
+    let out = upgraded_text(alloc, file.version, file.replica.count())?;
+    if file.version == 1 {
         store_reply(alloc, name, &file.replica, out)
     } else {
         Ok(Reply::Prints(out))

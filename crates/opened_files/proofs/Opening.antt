@@ -1,6 +1,7 @@
 -- Files that are opened by what is read of them.
-use Rattle.std.proofs.Common.{◌≡◌, ◌∙◌, ℕ, List, Option, Some, None, IfSome, ⊎_elim, inl, inr, refl, sym, ap, subst}
+use Rattle.std.proofs.Common.{◌≡◌, ◌∙◌, ℕ, zero, suc, List, [], ◌∷◌, slice_get, slice_index, Option, Some, None, IfSome, ⊎_elim, inl, inr, refl, sym, ap, subst}
 use Rattle.std.specs.FinMap.{get}
+use Rattle.std.specs.Prelude.{unwrap_or}
 use Rattle.ew_model.specs.declared.event.Event.{Event}
 use Rattle.ew_model.specs.Limits.{LimitNumbers, most_file_bytes}
 use Rattle.ew_model.specs.Verdicts.{first_bad}
@@ -14,6 +15,12 @@ use Rattle.opened_files.specs.declared.open.FileEvents.{FileEvents}
 use Rattle.opened_files.specs.declared.open.Found.{Found}
 use Rattle.opened_files.specs.declared.open.Found.TheVariants as found
 use Rattle.opened_files.specs.declared.open.Versioned.{Versioned}
+
+-- a number of a list, or 0 behind its end
+pub number_or : (xs : List ℕ) (i : ℕ) → unwrap_or (slice_get xs i) 0 ≡ slice_index xs i
+number_or [] i = refl
+number_or (x ∷ xs) zero = refl
+number_or (x ∷ xs) (suc i) = number_or xs i
 
 -- bytes that were read are what the shelf has
 pub loaded_whole : (name : Text) (limits : LimitNumbers) (bytes : List ℕ) (f : Found FileEvents) → IsReadAs name limits bytes f → IsLoadedAs name limits (whole bytes) f

@@ -1,6 +1,6 @@
 -- Files as they are read, before their events are judged.
-use Rattle.std.specs.Prelude.{◌≡◌, List, ℕ}
-use Rattle.file_words.specs.FileVersions.{file_found, version_of}
+use Rattle.std.specs.Prelude.{◌≡◌, List, ℕ, slice_index}
+use Rattle.file_words.specs.FileVersions.{file_found}
 use Rattle.ew_model.specs.Limits.{LimitNumbers}
 use Rattle.command_table.specs.Loads.{File, whole}
 use Rattle.command_table.specs.Table.{Text, opened_as, read_as, refused}
@@ -14,7 +14,7 @@ use Rattle.opened_files.specs.declared.open.Found.TheVariants as found
 
 -- the events of a file were given within these limits, and its bytes name the version; or it is refused for what these are found to be
 abbrev pub IsReadAs : Text → LimitNumbers → List ℕ → Found FileEvents → Type 0
-IsReadAs name limits bytes (found.Open file) = HoldsFile (file_found limits.events bytes) file.given × (file.given.limits ≡ limits) × (file.version ≡ version_of bytes)
+IsReadAs name limits bytes (found.Open file) = HoldsFile (file_found limits.events bytes) file.given × (file.given.limits ≡ limits) × (file.version ≡ slice_index bytes 7)
 IsReadAs name limits bytes (found.Refused why) =
     (read_as name limits (file_found limits.events bytes) ≡ refused (refusal_view why)) × IsFileStatus (refusal_status (refusal_view why))
 

@@ -1,5 +1,5 @@
 -- What the code's values stand for.
-use Rattle.std.specs.Prelude.{◌≡◌, ◌≤◌, ⊤, ℕ, List, [], Option, Result, Ok, Err, ◌⊎◌, string_bytes}
+use Rattle.std.specs.Prelude.{◌≡◌, ◌≤◌, ⊤, ℕ, List, [], Result, Ok, Err, ◌⊎◌, string_bytes}
 use Rattle.ew_outside.specs.Counts.{Rose}
 use Rattle.ew_outside.specs.Seen.{SourceSeen}
 use Rattle.ew_model.specs.declared.event.Event.{Event}
@@ -36,7 +36,7 @@ abbrev pub versioned_view : Found Versioned → Opened
 versioned_view f = found_view (λ made. made.replica.held) f
 
 -- the version is this, where the file is open
-abbrev pub IsOfVersion : Option ℕ → Found Versioned → Type 0
+abbrev pub IsOfVersion : ℕ → Found Versioned → Type 0
 IsOfVersion version (found.Open made) = made.version ≡ version
 IsOfVersion version (found.Refused why) = ⊤
 

@@ -41,14 +41,14 @@ pub enum Found<T> {
 /// The events of a file, and the version that its bytes name.
 #[derive(Drop)]
 pub struct FileEvents {
-    pub version: Option<u8>,
+    pub version: u8,
     pub given: Loading,
 }
 
 /// The replica of a file's events, and the version that its bytes name.
 #[derive(Drop)]
 pub struct Versioned {
-    pub version: Option<u8>,
+    pub version: u8,
     pub replica: Replica,
 }
 
@@ -142,7 +142,7 @@ fn read(
 {
     match give_events(alloc, bytes, limits) {
         Ok(given) => Ok(Found::Open(FileEvents {
-            version: version_of(bytes),
+            version: version_of(bytes).unwrap_or(0),
             given,
         })),
         Err(fault) => Ok(Found::Refused(file_refusal(alloc, name, limits, fault)?)),

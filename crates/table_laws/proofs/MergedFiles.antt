@@ -219,7 +219,7 @@ read_again limits events numbers good one =
 pub stored_here : (files : Files) (name bytes : List ℕ) → get (insert files name bytes) name ≡ Some bytes
 stored_here files name bytes = get-insert nat_list_cmp_total files name bytes name ∙ ap (λ (b : Bool). if b then Some bytes else get files name) (names_equal.refl name)
 
-stored_elsewhere : (files : Files) (name other bytes : List ℕ) → name_eq other name ≡ false → get (insert files name bytes) other ≡ get files other
+pub stored_elsewhere : (files : Files) (name other bytes : List ℕ) → name_eq other name ≡ false → get (insert files name bytes) other ≡ get files other
 stored_elsewhere files name other bytes apart = get-insert nat_list_cmp_total files name bytes other ∙ ap (λ (b : Bool). if b then Some bytes else get files other) apart
 
 -- events that were stored are opened

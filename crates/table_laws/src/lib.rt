@@ -34,6 +34,7 @@ pub fn law_merge_same_events()
 {}
 
 /// Where an upgrade is done, its file, of whichever version it was, is of version 2 afterwards and opens as the events that it opened as before.
+/// Files of other names stay, and where the version was 2, no file changes.
 pub fn law_upgrade()
     ensures { UpgradesKeep }
 {}
