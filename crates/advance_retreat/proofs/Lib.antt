@@ -14,6 +14,7 @@ pub mod Losses
 pub mod Marking
 pub mod Moving
 pub mod Nodes
+pub mod Placing
 pub mod Putting
 pub mod Recorded
 pub mod Resting

@@ -1,5 +1,6 @@
 pub mod Conditions
 pub mod Hanging
 pub mod Kept
+pub mod Placing
 pub mod Refusals
 pub mod Standing

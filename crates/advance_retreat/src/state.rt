@@ -1,6 +1,6 @@
 //! The state of a walker.
 
-ghost use Rattle.std.specs.Prelude.{◌≡◌, ℕ, None, ◌+◌, ◌-◌, ◌*◌, ◌<◌, ◌≤◌, ◌^◌, ◌↔◌, nat_eq, nat_lt, ◌&&◌, true, false, List, [], ◌∷◌, ◌++◌, length, reverse, Err, IfOk, OnOk, OnErr};
+ghost use Rattle.std.specs.Prelude.{◌≡◌, ℕ, None, ◌+◌, ◌-◌, ◌*◌, ◌<◌, ◌≤◌, ◌^◌, ◌↔◌, nat_eq, nat_lt, ◌&&◌, true, false, List, [], ◌∷◌, ◌++◌, length, reverse, Err, IfSome, IfNone, IfOk, OnOk, OnErr};
 ghost use Rattle.std.specs.List.{AllByRecursion, range_with_len};
 ghost use Rattle.ew_model.specs.Operations.{next_operation};
 ghost use Rattle.ew_model.specs.Entries.{visible};
@@ -15,6 +15,7 @@ ghost use Rattle.advance_retreat.specs.Kept.{with_lost, with_deletion, with_mark
 ghost use Rattle.character_runs.specs.States.{HasRoom};
 ghost use Rattle.character_runs.specs.Laid.{records_in};
 ghost use Rattle.advance_retreat.specs.Standing.{most, StandsFor};
+ghost use Rattle.advance_retreat.specs.Placing.{AreInOrder, DeletesOf, IsNoDeletion};
 ghost use Rattle.advance_retreat.specs.Refusals.{lost_after, one_more};
 ghost use Rattle.advance_retreat.specs.Conditions.{MayInsert, MayDelete, MayMark, MayAdvanceTo, MayRetreatFrom, MayAdvanceEach, MayRetreatEach, Advanced, Retreated, PartAdvanced, PartRetreated, AllPrepared};
 ghost use Rattle.advance_retreat.specs.Hanging.{MayHang, Puts};
@@ -457,6 +458,25 @@ impl State {
                 Ok(last)
             }
         }
+    }
+
+    /// The positions of the inserted characters, deleted ones too, in the order of the tree: where the base has no characters.
+    pub fn order(&mut self) -> Result<Vec<u32>, NoMem>
+        requires { (events : List (Applied ℕ)) × (prepared : List ℕ) × StandsFor self.old 0 events prepared }
+        ensures order { (events : List (Applied ℕ)) (prepared : List ℕ) → StandsFor self.old 0 events prepared → IfOk result (λ ps. AreInOrder (tree_of nat_eq 0 events) ps.items) }
+        ensures same { self.new ≡ self.old }
+    {
+        self.tree.event_positions()
+    }
+
+    /// The position of the insertion whose character the deletion at a position deletes, where the base has no characters. None
+    /// exactly where no applied event at the position is a deletion.
+    pub fn target_of(&self, lv: u32) -> Option<u32>
+        requires { (events : List (Applied ℕ)) × (prepared : List ℕ) × StandsFor self.now 0 events prepared }
+        ensures some { (events : List (Applied ℕ)) (prepared : List ℕ) → StandsFor self.now 0 events prepared → IfSome result (DeletesOf (tree_of nat_eq 0 events) lv) }
+        ensures none { (events : List (Applied ℕ)) (prepared : List ℕ) → StandsFor self.now 0 events prepared → IfNone result (IsNoDeletion (tree_of nat_eq 0 events) lv) }
+    {
+        self.targets.other(lv)
     }
 
     /// Forgets all events: what they leave of the text is the base from now on.

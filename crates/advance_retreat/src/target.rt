@@ -5,6 +5,7 @@ ghost use Rattle.std.specs.Ordering.{nat_cmp};
 ghost use Rattle.std.specs.BTreeMap.{get};
 ghost use Rattle.advance_retreat.specs.declared.target.Target.{Target as One};
 ghost use Rattle.advance_retreat.specs.Kept.{target_at, place_in, is_next, found_in, AreWithin};
+ghost use Rattle.advance_retreat.specs.Placing.{other_event};
 
 use character_runs::Positions;
 use ew_model::NoMem;
@@ -76,6 +77,16 @@ impl Targets {
         }
     }
 
+    /// The event whose character the one at a position is about, where that is another: the event at the position deletes it.
+    pub fn other(&self, lv: u32) -> Option<u32>
+        ensures { result ≡ other_event lv (target_at self.now lv) }
+    {
+        match self.node(lv) {
+            Some(node) => other_event(node, lv),
+            None => None,
+        }
+    }
+
     /// Whether each applied event is at one of these positions. Says no, too, where the positions behind the first don't go on by
     /// one.
     pub fn are_within(&self, at: Positions) -> bool
@@ -105,6 +116,16 @@ impl Targets {
     {
         let _ = self.applied.pop();
         forget(&mut self.others, lv);
+    }
+}
+
+/// The event whose node it is, where that is another than the one at a position.
+fn other_event(node: Node, lv: u32) -> Option<u32>
+    ensures { result ≡ other_event lv (Some node) }
+{
+    match node {
+        Node::Root | Node::Base(_) => None,
+        Node::Event(n) => { if n == lv { None } else { Some(n) } }
     }
 }
 

@@ -9,6 +9,7 @@ ghost use Rattle.fugue_place.specs.declared.neighbour.Place.{Place};
 ghost use Rattle.fugue_place.specs.Attachments.{is_attached, is_there, has_id, AreAttached};
 ghost use Rattle.fugue_place.specs.Neighbours.{has_beyond, IsPlaceOfNew};
 ghost use Rattle.advance_retreat.specs.declared.target.Target.{Target};
+ghost use Rattle.character_runs.specs.EventPositions.{event_positions};
 ghost use Rattle.character_runs.specs.States.{is_of, visible_in, shown_in, base_records, changed_at, HasRoom};
 ghost use Rattle.character_runs.specs.Laid.{records_in};
 ghost use Rattle.character_runs.specs.Loose.{loose_in};
@@ -183,6 +184,14 @@ impl Tree {
     {
         self.characters.rest();
         self.rights.rest(at.from, at.to);
+    }
+
+    /// The positions of the events whose characters these are, in order.
+    pub fn event_positions(&mut self) -> Result<Vec<u32>, NoMem>
+        ensures positions { IfOk result (λ ps. ps.items ≡ event_positions self.old.records) }
+        ensures same { self.new ≡ self.old }
+    {
+        self.characters.event_positions()
     }
 
     /// Attaches the node of a new event, and puts its character beside its neighbour. Answers its index in the text.

@@ -12,6 +12,7 @@ pub mod CutRuns
 pub mod Cuts
 pub mod EmptyRuns
 pub mod Entered
+pub mod EventPositions
 pub mod EventSpans
 pub mod Exchanged
 pub mod ExchangedChars

@@ -1,5 +1,6 @@
 pub mod Cursors
 pub mod Entering
+pub mod EventPositions
 pub mod Labelled
 pub mod Laid
 pub mod Loose

@@ -12,6 +12,7 @@ ghost use Rattle.character_runs.specs.declared.change.Change.TheVariants as chan
 ghost use Rattle.character_runs.specs.Cursors.{IsCursor, MayBeCursor, GaveEnd, SettleSame, last_of, shorter, with_end, settled};
 ghost use Rattle.character_runs.specs.States.{is_of, knows, visible_in, shown_in, base_records, changed_at, HasRoom};
 ghost use Rattle.character_runs.specs.Entering.{attached_by, run_of, IsNewChild};
+ghost use Rattle.character_runs.specs.EventPositions.{event_positions};
 ghost use Rattle.character_runs.specs.Laid.{AreLabelled, chars_in, records_in};
 ghost use Rattle.character_runs.specs.Loose.{loose_in, is_one};
 ghost use Rattle.character_runs.specs.Replacing.{ArePart, changed_in};
@@ -187,6 +188,14 @@ impl Characters {
         ensures loose { (among : Nodes → Bool) → loose_in among self.new.runs ≡ loose_in among self.old.runs }
     {
         self.rest_by::<Brand>(Blank::new(1));
+    }
+
+    /// The positions of the events whose characters these are, in order.
+    pub fn event_positions(&mut self) -> Result<Vec<u32>, NoMem>
+        ensures positions { IfOk result (λ ps. ps.items ≡ event_positions self.old.records) }
+        ensures same { self.new ≡ self.old }
+    {
+        self.event_positions_by::<Brand>(Blank::new(1))
     }
 }
 
@@ -481,6 +490,19 @@ impl Characters {
         settle(&mut self.runs, &self.cursor, &mut self.pending, &mut visits);
         self.cursor = None;
         self.visible = self.runs.rest(self.visible, &mut visits);
+    }
+
+    fn event_positions_by<L: Ledger>(&mut self, blank: Blank) -> Result<Vec<u32>, NoMem>
+        requires name { blank.name ≡ L.name }
+        requires parts { blank.parts ≡ L.parts }
+        requires some { 0 < blank.parts }
+        ensures positions { IfOk result (λ ps. ps.items ≡ event_positions self.old.records) }
+        ensures same { self.new ≡ self.old }
+    {
+        let mut visits: Steps<L> = Steps::new(blank);
+        settle(&mut self.runs, &self.cursor, &mut self.pending, &mut visits);
+        self.cursor = None;
+        self.runs.event_positions(&mut visits)
     }
 }
 

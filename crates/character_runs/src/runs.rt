@@ -10,6 +10,7 @@ ghost use Rattle.character_runs.specs.Laid.{AreLabelled, chars_in};
 mod changing;
 mod child;
 mod entering;
+mod event_positions;
 mod exchanging;
 mod inserting;
 mod parting;

@@ -7,7 +7,9 @@ pub mod Fronts
 pub mod Judging
 pub mod Lines
 pub mod Loops
+pub mod NamedAlike
 mod OwnChanges
+pub mod Placings
 pub mod Replays
 pub mod Sides
 pub mod Sinces
@@ -16,3 +18,4 @@ pub mod Standings
 pub mod Steps
 pub mod Turning
 pub mod WalkedEvents
+pub mod WholeWalks

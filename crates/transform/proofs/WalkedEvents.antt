@@ -18,7 +18,7 @@ use Rattle.transform.specs.Reaching.{over_since}
 abbrev has_name : List (Applied ℕ) → ℕ → Bool
 has_name events n = list_any (λ (c : Applied ℕ). nat_eq c.name n) events
 
-long : (before : List Event) (x : Event) → length (before ++ x ∷ []) ≡ suc (length before)
+pub long : (before : List Event) (x : Event) → length (before ++ x ∷ []) ≡ suc (length before)
 long [] x = refl
 long (y ∷ before) x = ap suc (long before x)
 

@@ -1,5 +1,6 @@
 pub mod Answering
 pub mod Changing
 pub mod Moving
+pub mod Placing
 pub mod Reaching
 pub mod Walking

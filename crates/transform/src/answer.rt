@@ -1,4 +1,4 @@
-//! What a walk answers.
+//! What walks answer.
 
 use ew_model::text_op::TextOp;
 
@@ -9,4 +9,13 @@ pub struct Walk {
     pub ops: Vec<TextOp>,
     /// The position of the first event whose index is out of range, and the length of the text at its parents.
     pub stopped: Option<(u32, u32)>,
+}
+
+/// Where everything stands in the tree of a whole history.
+#[derive(Drop)]
+pub struct Placed {
+    /// The positions of the insertions, in the order of the tree; those of deleted characters too.
+    pub order: Vec<u32>,
+    /// The position of each deletion with that of the insertion whose character it deletes, in the order of the history.
+    pub targets: Vec<(u32, u32)>,
 }

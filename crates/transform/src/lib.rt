@@ -5,11 +5,13 @@ pub mod answer;
 mod apply;
 mod cut;
 mod moves;
+pub mod placing;
 pub mod replaying;
 mod turn;
 pub mod walking;
 
 pub use advance_retreat::State;
-pub use answer::Walk;
+pub use answer::{Placed, Walk};
+pub use placing::placed;
 pub use replaying::replay;
 pub use walking::walk;

@@ -73,7 +73,7 @@ fn reach<L: Ledger>(
 }
 
 /// Prepares the ancestors of the event at a position. Where its one parent is the event before it, they are prepared already.
-fn prepare<L: Ledger>(
+pub fn prepare<L: Ledger>(
     graph: &Graph,
     state: &mut State,
     position: u32,

@@ -1,6 +1,6 @@
 //! New labels for the runs of a state.
 
-ghost use Rattle.std.specs.Prelude.{◌≡◌, ◌<◌, ℕ, List, ◌⊎◌, IfSome, IfNone, IfOk, OnOk, OnErr, IsTrue, IsSome, Some, ◌↔◌, length, Contains};
+ghost use Rattle.std.specs.Prelude.{◌≡◌, ◌<◌, ℕ, List, ◌⊎◌, zip, IfSome, IfNone, IfOk, OnOk, OnErr, IsTrue, IsSome, Some, ◌↔◌, length, Contains};
 ghost use Rattle.order_tree.specs.Pairs.{labels, runs, IsRising, HasRoom, AreGivenIn};
 ghost use Rattle.walker_record.specs.Stretches.{Stretch};
 ghost use Rattle.character_runs.specs.Labelled.{label_of, Sets};
@@ -15,6 +15,25 @@ use std::sync::ledger::Ledger;
 use walker_record::Record;
 
 impl Runs {
+    /// Gives all runs new labels, and answers of each the old label, the new, and the run, in order. After an error for want of memory
+    /// nothing has changed.
+    pub fn relabel_each<L: Ledger>(
+        &mut self,
+        visits: &mut Steps<L>,
+    ) -> Result<Vec<(u64, (u64, Record))>, NoMem>
+        requires { AreLabelled self.old.tree.pairs self.old.labels }
+        ensures laid { AreLabelled self.new.tree.pairs self.new.labels }
+        ensures runs { runs self.new.tree.pairs ≡ runs self.old.tree.pairs }
+        ensures given { IfOk result (λ given. given.items ≡ zip (labels self.old.tree.pairs) self.new.tree.pairs) }
+        ensures room { OnOk result ((label : ℕ) → (label ≡ 0) ⊎ Contains (labels self.new.tree.pairs) label → HasRoom self.new.tree.pairs label) }
+        ensures err { OnErr result (self.new ≡ self.old) }
+    {
+        self.facts();
+        let given = self.tree.relabel(visits)?;
+        note_each(&mut self.labels, &given);
+        Ok(given)
+    }
+
     /// Gives all runs new labels. After an error for want of memory nothing has changed.
     fn relabel<L: Ledger>(&mut self, visits: &mut Steps<L>) -> Result<(), NoMem>
         requires { AreLabelled self.old.tree.pairs self.old.labels }
@@ -23,9 +42,7 @@ impl Runs {
         ensures room { OnOk result ((label : ℕ) → (label ≡ 0) ⊎ Contains (labels self.new.tree.pairs) label → HasRoom self.new.tree.pairs label) }
         ensures err { OnErr result (self.new ≡ self.old) }
     {
-        self.facts();
-        let given = self.tree.relabel(visits)?;
-        note_each(&mut self.labels, &given);
+        self.relabel_each(visits)?;
         Ok(())
     }
 

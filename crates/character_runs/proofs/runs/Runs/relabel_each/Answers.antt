@@ -1,5 +1,5 @@
 use Rattle.character_runs.proofs.Renamed.{all_given}
-use Rattle.character_runs.proofs.runs.Runs.relabel.Goals as goal
+use Rattle.character_runs.proofs.runs.Runs.relabel_each.Goals as goal
 
 pub note_each-requires : goal.note_each-requires
 note_each-requires g c =
