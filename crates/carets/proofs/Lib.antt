@@ -1,0 +1,3 @@
+mod UpTo
+mod Held
+mod Sides
