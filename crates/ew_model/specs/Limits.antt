@@ -19,7 +19,7 @@ pub record AreLimits (n : LimitNumbers) : Type 0 where
 
 -- the limits of the program
 abbrev pub program_limits : LimitNumbers
-program_limits = record { events = 1000000; waiting = 65536; input = 16777216; body = 1048576 }
+program_limits = record { events = 16777216; waiting = 65536; input = 16777216; body = 1048576 }
 
 -- the most bytes of a file of so many events: 48, at most 33 for each agent's name, and at most 107 for each event
 abbrev pub most_file_bytes : ℕ → ℕ

@@ -69,12 +69,12 @@ impl Limits {
         })
     }
 
-    /// The limits of the program: 1,000,000 events, 65,536 that wait, 16,777,216 bytes of input, 1,048,576 of a body.
+    /// The limits of the program: 16,777,216 events, 65,536 that wait, 16,777,216 bytes of input, 1,048,576 of a body.
     pub fn program() -> Limits
         ensures { result ≡ program_limits }
     {
         Limits {
-            events: 1_000_000,
+            events: MOST_EVENTS,
             waiting: 65_536,
             input: 16_777_216,
             body: 1_048_576,

@@ -19,7 +19,7 @@ unfolding opened is_reduced follows_its_agent id_rows parent_rows size_rows rang
 judging = 0
 
 abbrev pub program : LimitNumbers
-program = record { events = 1000000; waiting = 65536; input = 16777216; body = 1048576 }
+program = record { events = 16777216; waiting = 65536; input = 16777216; body = 1048576 }
 
 abbrev rulings : Outcome → List Ruling
 rulings o = map (λ a. a.ruling) o.answers
