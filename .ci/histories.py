@@ -5,7 +5,7 @@ from collections import namedtuple
 
 from egw_bytes import DELETE, FALLING, INSERT, MARK, content, content_2, record, run, with_digest
 
-MOST_EVENTS = 1_000_000
+MOST_EVENTS = 16_777_216
 MOST_INPUT = 16_777_216
 MOST_FILE = 48 + 140 * MOST_EVENTS
 

@@ -19,7 +19,7 @@ from itertools import accumulate, islice
 sys.dont_write_bytecode = True
 sys.path.insert(0, str(pathlib.Path(__file__).parent.parent / "tools"))
 
-from second_reader import DELETE, INSERT, LEFT, MAX_EVENTS, RIGHT, Draws, Event, file_bytes, parse_up_to  # noqa: E402
+from second_reader import DELETE, INSERT, LEFT, MAX_MADE, RIGHT, Draws, Event, file_bytes, parse_up_to  # noqa: E402
 
 PROGRAM, FOLDER = map(pathlib.Path, sys.argv[1:3])
 NAMES = ("p0", "p1", "p2")
@@ -275,7 +275,7 @@ def report(seed, count, first, second, simulated):
 
 
 def main():
-    count, seeds = parse_up_to(MAX_EVENTS)(sys.argv[3]), list(dict.fromkeys(map(parse_up_to(2**64 - 1), sys.argv[4:])))
+    count, seeds = parse_up_to(MAX_MADE)(sys.argv[3]), list(dict.fromkeys(map(parse_up_to(2**64 - 1), sys.argv[4:])))
     if None in (count, *seeds):
         print("made histories: the words are the number of edits, at most 1000000, and seeds below 2^64")
         return 2

@@ -20,7 +20,7 @@ import stat
 import struct
 import sys
 
-MAX_EVENTS, MAX_FILE, MAX_INPUT, MAX_PARENTS = 1000000, 140000048, 16777216, 16
+MAX_EVENTS, MAX_FILE, MAX_INPUT, MAX_PARENTS, MAX_MADE = 16777216, 2348810288, 16777216, 16, 1000000
 MAX_NUMBER = 4294967295
 MAX_WAITING, MAX_BODY, MAX_HAVE, PIECE = 65536, 1048576, 4 + 37 * MAX_EVENTS, 4096
 EVENT_ROOM = 664
@@ -1143,7 +1143,7 @@ COMMANDS = {'new': (run_new, 1, {}), 'edit': (run_edit, 1, {'--agent': (1, parse
             'log': (run_log, 1, {}), 'marks': (run_marks, 1, {}), 'replay': (run_replay, 1, {}),
             'check': (run_check, 1, {}), 'ask': (run_ask, 1, {}), 'serve': (run_serve, 1, {}),
             'upgrade': (run_upgrade, 1, {}), 'merge': (run_merge, 2, {}), 'net': (run_net, 0, {}),
-            'make': (run_make, 0, {'--seed': (1, parse_up_to(2 ** 64 - 1)), '--count': (1, parse_up_to(MAX_EVENTS, '-'))})}
+            'make': (run_make, 0, {'--seed': (1, parse_up_to(2 ** 64 - 1)), '--count': (1, parse_up_to(MAX_MADE, '-'))})}
 
 
 def take(words):

@@ -13,29 +13,17 @@ use Rattle.advance_retreat.specs.Kept.{Kept, target_at}
 use Rattle.character_runs.specs.Replacing.{changed_among, is_event_in}
 use Rattle.advance_retreat.specs.Standing.{StandsFor}
 use Rattle.advance_retreat.specs.Conditions.{MayAdvanceEach, MayRetreatEach, Advanced, Retreated, PartAdvanced, PartRetreated}
-use Rattle.character_runs.proofs.Entered.{on_err}
 use Rattle.character_runs.proofs.EventSpans.{none_between, none_among, in_turn, event_low, low_apart, event_high, high_apart}
 use Rattle.advance_retreat.proofs.Moving.{with_records, changed_state, advanced_by, retreated_by}
+use Rattle.ew_model.proofs.Ranges.{range_joined, range_first}
+use Rattle.ew_model.proofs.Outcomes.{on_err}
 
 -- POSITIONS
-pub range_joined : (from count more : ℕ) → range_with_len from (count + more) ≡ range_with_len from count ++ range_with_len (from + count) more
-range_joined from zero more =
-    let none : 0 + more ≡ more = omega arith in
-    let start : from ≡ from + 0 = omega arith in
-    λ i. range_with_len (start i) (none i)
-range_joined from (suc count) more =
-    let long : suc count + more ≡ suc (count + more) = omega arith in
-    let start : from + 1 + count ≡ from + suc count = omega arith in
-    ap (range_with_len from) long ∙ ap (λ ps. from ∷ ps) (range_joined (from + 1) count more ∙ ap (λ (n : ℕ). range_with_len (from + 1) count ++ range_with_len n more) start)
-
 pub range_parted : (low mid high : ℕ) → low ≤ mid → mid ≤ high → range_with_len low (high - low) ≡ range_with_len low (mid - low) ++ range_with_len mid (high - mid)
 range_parted low mid high le more =
     let long : high - low ≡ (mid - low) + (high - mid) = omega (arith, le, more) in
     let start : low + (mid - low) ≡ mid = omega (arith, le) in
     ap (range_with_len low) long ∙ range_joined low (mid - low) (high - mid) ∙ ap (λ (n : ℕ). range_with_len low (mid - low) ++ range_with_len n (high - mid)) start
-
-pub range_first : (low high : ℕ) → low < high → range_with_len low (high - low) ≡ low ∷ range_with_len (low + 1) (high - (low + 1))
-range_first low high lt = let long : high - low ≡ suc (high - (low + 1)) = omega (arith, lt) in ap (range_with_len low) long
 
 pub falling_parted : (low mid high : ℕ) → low ≤ mid → mid ≤ high → reverse (range_with_len low (high - low)) ≡ reverse (range_with_len mid (high - mid)) ++ reverse (range_with_len low (mid - low))
 falling_parted low mid high le more = ap reverse (range_parted low mid high le more) ∙ reverse-append (range_with_len low (mid - low)) (range_with_len mid (high - mid))

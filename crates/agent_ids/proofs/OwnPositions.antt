@@ -19,7 +19,8 @@ use Rattle.history_definitions.specs.Agents.{with_name, agents_of, count_of}
 use Rattle.agent_ids.specs.IdRuns.{id_with, ids_from}
 use Rattle.agent_ids.specs.Table.{positions_from, positions_of, AreAgents}
 use Rattle.agent_ids.proofs.Agents.{names_tested, names_alike, one_name, agents_push, agents_few, count_cons, is_agent, AreDistinct, agents_distinct}
-use Rattle.agent_ids.proofs.RunLists.{range_more, block_more}
+use Rattle.agent_ids.proofs.RunLists.{block_more}
+use Rattle.ew_model.proofs.Ranges.{range_more}
 
 -- as many as the agent has ids
 positions-length-from : (n : ℕ) (ids : List Id) (agent : List ℕ) → length (positions_from n ids agent) ≡ count_of ids agent

@@ -9,19 +9,9 @@ use Rattle.std.proofs.lemmas.List.{take-append-le}
 use Rattle.std.proofs.lemmas.List.FromFn.{length-range_with_len}
 use Rattle.agent_ids.specs.declared.positions.PositionRun.{PositionRun}
 use Rattle.agent_ids.specs.PositionRuns.{first_seq, positions_in, ArePositionRuns, goes_on_at}
-use Rattle.agent_ids.proofs.RunLists.{range_more}
+use Rattle.ew_model.proofs.Ranges.{range_more, read_range, skip_range}
 
 -- neighbouring numbers
-read_range : (a n : ℕ) (rest : List ℕ) (p : ℕ) → p < n → slice_get (range_with_len a n ++ rest) p ≡ Some (a + p)
-read_range a zero rest p l = absurd (omega (arith, l))
-read_range a (suc n) rest zero l = let e : a ≡ a + 0 = omega arith in ap Some e
-read_range a (suc n) rest (suc p) l = let e : a + 1 + p ≡ a + suc p = omega arith in read_range (a + 1) n rest p (omega (arith, l)) ∙ ap Some e
-
-skip_range : (a n : ℕ) (rest : List ℕ) (p q : ℕ) → q ≡ n + p → slice_get (range_with_len a n ++ rest) q ≡ slice_get rest p
-skip_range a zero rest p q e = let same : q ≡ p = omega (arith, e) in ap (slice_get rest) same
-skip_range a (suc n) rest p zero e = absurd (omega (arith, e))
-skip_range a (suc n) rest p (suc q) e = skip_range (a + 1) n rest p q (omega (arith, e))
-
 take_range : (a n m : ℕ) → m ≤ n → take m (range_with_len a n) ≡ range_with_len a m
 take_range a n zero l = refl
 take_range a zero (suc m) l = absurd (omega (arith, l))

@@ -10,14 +10,11 @@ use Rattle.ew_model.specs.Ids.{id_eq}
 use Rattle.ew_model.proofs.IdLaws.{is_same_id}
 use Rattle.agent_ids.specs.declared.runs.IdRun.{IdRun}
 use Rattle.agent_ids.specs.IdRuns.{id_runs, id_with, last_in, is_next, ids_in, last_of, IsApart, AreRuns, goes_on, with_more, with_more_by, shortened}
+use Rattle.ew_model.proofs.Ranges.{range_more}
 
 -- so many ids of an agent, from a number on
 abbrev pub block : List ℕ → ℕ → ℕ → List Id
 block agent seq n = map (id_with agent) (range_with_len seq n)
-
-pub range_more : (a n : ℕ) → range_with_len a (suc n) ≡ range_with_len a n ++ (a + n) ∷ []
-range_more a zero = let e : a ≡ a + 0 = omega arith in ap (λ (k : ℕ). k ∷ []) e
-range_more a (suc n) = let e : a + 1 + n ≡ a + suc n = omega arith in ap (λ xs. a ∷ xs) (range_more (a + 1) n ∙ ap (λ k. range_with_len (a + 1) n ++ k ∷ []) e)
 
 pub block_more : (agent : List ℕ) (seq n : ℕ) → block agent seq (suc n) ≡ block agent seq n ++ id_with agent (seq + n) ∷ []
 block_more agent seq n = ap (map (id_with agent)) (range_more seq n) ∙ map-append (id_with agent) (range_with_len seq n) ((seq + n) ∷ [])

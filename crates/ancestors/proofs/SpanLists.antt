@@ -8,6 +8,7 @@ use Rattle.std.proofs.lemmas.Option.{same_Some, slice_get_within}
 use Rattle.ew_model.proofs.PositionCuts.{last_cases}
 use Rattle.ancestors.specs.declared.spans.Span.{Span}
 use Rattle.ancestors.specs.Spans.{positions_in, positions_of, AreDescending}
+use Rattle.ew_model.proofs.Ranges.{range_joined}
 
 pub positions_push : (spans : List Span) (s : Span) → positions_of (spans ++ s ∷ []) ≡ positions_in s ++ positions_of spans
 positions_push [] s = sym (append-nil (positions_in s))
@@ -72,16 +73,6 @@ descending_last spans s h = (
 pub record Lowered (old new : List Span) (span : Span) : Type 0 where
   pub positions : positions_of new ≡ positions_in span ++ positions_of old
   pub order : AreDescending new
-
-range_joined : (from count more : ℕ) → range_with_len from (count + more) ≡ range_with_len from count ++ range_with_len (from + count) more
-range_joined from zero more =
-    let none : 0 + more ≡ more = omega arith in
-    let start : from ≡ from + 0 = omega arith in
-    λ i. range_with_len (start i) (none i)
-range_joined from (suc count) more =
-    let long : suc count + more ≡ suc (count + more) = omega arith in
-    let start : from + 1 + count ≡ from + suc count = omega arith in
-    ap (range_with_len from) long ∙ ap (λ ps. from ∷ ps) (range_joined (from + 1) count more ∙ ap (λ (n : ℕ). range_with_len (from + 1) count ++ range_with_len n more) start)
 
 -- a span that ends where another one begins
 positions_joined : (span x : Span) → span.from < span.to → x.from < x.to → x.from ≡ span.to → positions_in (record { from = span.from; to = x.to }) ≡ positions_in span ++ positions_in x

@@ -5,17 +5,11 @@ use Rattle.ew_model.specs.Arrival.{Answer, Desk, Judgement, Outcome, arrive, at_
 use Rattle.ew_model.specs.Limits.{LimitNumbers}
 use Rattle.ew_model.specs.Verdicts.{Ruling, first_row, later_rows, verdict}
 use Rattle.ew_model.specs.Verdicts.Ruling.{Repeat, Clash, SelfParent, TooManyParents, ParentsUnsorted, Unknown, PoolFull, NotReduced, Skipped, GraphFull, OutOfRange, Good}
-use Rattle.ew_model.proofs.ArrivalLaws.{judgements_end, next_less}
+use Rattle.ew_model.proofs.ArrivalLaws.{judgements_end, next_less, nothing_left}
 use Rattle.ew_model.proofs.JoinedJudgements.{none_made}
 use Rattle.ew_model.proofs.RoundLaws.{then}
 use Rattle.ew_model.proofs.RoundSteps.{enough}
 use Rattle.arrival_laws.specs.Parts.{AreItsParts, PartsAreTheWhole}
-
--- nothing comes any more
-nothing_left : (limits : LimitNumbers) (d : Desk) (o : Option Event) (coming : List Event) → d.coming ≡ coming → judge_ready limits true d o ≡ None → (o ≡ None) × (d.coming ≡ [])
-nothing_left limits d None [] is h = (refl, is)
-nothing_left limits d None (x ∷ coming) is h = let none : judge_coming limits true d (x ∷ coming) ≡ None = ap (judge_coming limits true d) (sym is) ∙ h in absurd cc
-nothing_left limits d (Some x) coming is h = absurd cc
 
 -- the waiting event that is judged next, if one is
 abbrev ready_on : Desk → Option Event

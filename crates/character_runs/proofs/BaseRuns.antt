@@ -9,11 +9,12 @@ use Rattle.character_runs.specs.States.{single, base_records, is_visible, visibl
 use Rattle.character_runs.specs.Labelled.{label_of, Sets}
 use Rattle.character_runs.specs.Laid.{AreLabelled, AreCounted, record_of, records_of, chars_in}
 use Rattle.character_runs.proofs.CutRuns.{alike, set_own, set_other, label_is, run_is}
-use Rattle.character_runs.proofs.Lists.{count-append, length-push}
+use Rattle.character_runs.proofs.Lists.{length-push}
 use Rattle.character_runs.proofs.Moves.{in_one}
 use Rattle.character_runs.proofs.Places.{same_steps}
 use Rattle.character_runs.proofs.RunChars.{node_on_none}
 use Rattle.character_runs.proofs.Standings.{some_same, none_some}
+use Rattle.ew_model.proofs.ListTests.{count-append}
 
 -- ITS CHARACTERS
 last_in : (n i : ℕ) → map record_of (states_from (Base i) (suc n) 1 true) ≡ map record_of (states_from (Base i) n 1 true) ++ single (Base (i + n)) 1 true ∷ []

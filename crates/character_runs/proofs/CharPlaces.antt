@@ -22,7 +22,7 @@ use Rattle.character_runs.proofs.Moves.{is_first}
 use Rattle.character_runs.proofs.PartedRuns.{Parted, parted, lower_is}
 use Rattle.character_runs.proofs.Places.{on_on}
 use Rattle.character_runs.proofs.RunChars.{node_on_none, length-records_of, chars-append, char_at}
-use Rattle.character_runs.proofs.Splits.{none_by}
+use Rattle.ew_model.proofs.Outcomes.{none_by}
 
 -- in a run
 or_right : (a b : Bool) → b ≡ true → (a || b) ≡ true

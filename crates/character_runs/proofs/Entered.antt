@@ -17,7 +17,6 @@ use Rattle.character_runs.specs.States.{is_of, shown_in}
 use Rattle.character_runs.specs.Laid.{Stands, AreLabelled, BeginsRun, EndsRun, record_of, records_of, chars_in}
 use Rattle.character_runs.specs.Spots.{Comes}
 use Rattle.character_runs.proofs.Moves.{is_first}
-use Rattle.character_runs.proofs.Lists.{count-append}
 use Rattle.character_runs.proofs.PartedRuns.{Parted, parted, lower_is}
 use Rattle.character_runs.proofs.ChangedPairs.{changed_is, moves_changed}
 use Rattle.character_runs.proofs.JoinedRuns.{joined_laid}
@@ -26,14 +25,11 @@ use Rattle.character_runs.proofs.OpenedChars.{around_empty, lower_opened}
 use Rattle.character_runs.proofs.RunChars.{counted_in, length-records_of, chars-append, shown-chars}
 use Rattle.character_runs.proofs.RunsAt.{run_held}
 use Rattle.character_runs.proofs.CharPlaces.{stands_not, none_of, up_to_chars, index_behind, index_ahead}
+use Rattle.ew_model.proofs.ListTests.{count-append}
 
 pub if_ok_then : {X E : Type 0} (r : Result X E) (P Q : X → Type 0) → ((x : X) → P x → Q x) → IfOk r P → IfOk r Q
 if_ok_then (Ok x) P Q f p = f x p
 if_ok_then (Err e) P Q f p = tt
-
-pub on_err : {X E : Type 0} (r : Result X E) (P : Type 0) → P → OnErr r P
-on_err (Ok x) P p = tt
-on_err (Err e) P p = p
 
 pub on_err_then : {X E : Type 0} (r : Result X E) (P Q : Type 0) → (P → Q) → OnErr r P → OnErr r Q
 on_err_then (Ok x) P Q f p = tt

@@ -1,6 +1,6 @@
 -- The last labelled node up to another.
-use Rattle.std.proofs.Common.{rules, ◌≡◌, ℕ, ◌≤◌, true, false, List, [], ◌∷◌, ◌++◌, Option, Some, None, IfSome, IsSome}
-use Rattle.std.specs.Ordering.{nat_cmp, is_gt}
+use Rattle.std.proofs.Common.{◌≡◌, ℕ, true, List, [], ◌∷◌, ◌++◌, Option, Some, None, IfSome, IsSome}
+use Rattle.std.specs.Ordering.{nat_cmp}
 use Rattle.std.specs.BTreeMap.{BTreeMap, get}
 use Rattle.std.specs.BTreeMap.Range.{IsRangeOf}
 use Rattle.std.specs.declared.ops.Bound.TheVariants.{Included, Unbounded}
@@ -10,6 +10,7 @@ use Rattle.ew_model.specs.declared.node.Node.{Node}
 use Rattle.ew_model.specs.declared.node.Node.TheVariants.{Root, Base, Event}
 use Rattle.character_runs.specs.declared.labels.Labels.{Labels}
 use Rattle.character_runs.specs.Labelled.{label_of, is_up_to, IsLast, IsLastIn}
+use Rattle.ew_model.proofs.ListTests.{le_not_gt}
 
 last_base : (t : Labels) (i label : ℕ) → IsLastIn (get nat_cmp t.base) i label → IsLast t (Base i) label
 last_base t i label h = record {
@@ -44,9 +45,6 @@ some_base t i (Some label) h = last_base t i label h
 pub some_event : (t : Labels) (i : ℕ) (found : Option ℕ) → IfSome found (IsLastIn (get nat_cmp t.events) i) → IfSome found (IsLast t (Event i))
 some_event t i None h = h
 some_event t i (Some label) h = last_event t i label h
-
-le_not_gt : (a b : ℕ) → a ≤ b → is_gt (nat_cmp a b) ≡ false
-le_not_gt a b le = search (rules, le)
 
 -- the last entry of the range up to a number
 pub last_of_range : (m : BTreeMap ℕ ℕ) (n : ℕ) (r rest : List (ℕ × ℕ)) (k label : ℕ) → IsRangeOf nat_cmp Unbounded (Included n) m r → r ≡ rest ++ (k, label) ∷ [] → IsLastIn (get nat_cmp m) n label

@@ -3,10 +3,9 @@ use Rattle.std.proofs.Common.{◌≡◌, ℕ, zero, suc, ◌+◌, ◌<◌, ◌�
 use Rattle.std.specs.List.{list_any}
 use Rattle.std.proofs.Math.Seq.{take-length}
 use Rattle.std.proofs.lemmas.Bool.{false≢true}
-use Rattle.std.proofs.lemmas.List.Elements.{filter-append}
 use Rattle.std.proofs.lemmas.List.Folds.{list_any-append}
 use Rattle.fugue_place.proofs.ListLaws.{one_more}
-use Rattle.std.proofs.lemmas.List.{length-append}
+use Rattle.ew_model.proofs.ListTests.{count-append}
 
 -- COUNTS
 abbrev pub count : {X : Type 0} → (X → Bool) → List X → ℕ
@@ -19,9 +18,6 @@ length-push (y ∷ xs) x = ap suc (length-push xs x)
 length-one : {X : Type 0} (b : Bool) (x : X) → length (cond b (x ∷ []) []) ≡ cond b 1 0
 length-one true x = refl
 length-one false x = refl
-
-pub count-append : {X : Type 0} (p : X → Bool) (xs ys : List X) → count p (xs ++ ys) ≡ count p xs + count p ys
-count-append p xs ys = ap length (filter-append p xs ys) ∙ length-append (filter p xs) (filter p ys)
 
 count-one : {X : Type 0} (p : X → Bool) (x : X) → count p (x ∷ []) ≡ cond (p x) 1 0
 count-one p x = length-one (p x) x

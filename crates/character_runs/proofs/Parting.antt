@@ -15,10 +15,6 @@ pub on_ok : {T E : Type 0} (r : Result T E) (P : Type 0) → P → OnOk r P
 on_ok (Ok x) P p = p
 on_ok (Err e) P p = tt
 
-pub on_ok_then : {T E : Type 0} (r : Result T E) (P Q : Type 0) → (P → Q) → OnOk r P → OnOk r Q
-on_ok_then (Ok x) P Q f p = f p
-on_ok_then (Err e) P Q f p = tt
-
 module _ (ps : List (ℕ × Stretch)) (t : Labels) (laid : AreLabelled ps t) where
   has_label : (v : Node) (own : ℕ) → Stands ps own 0 v → label_of t v ≡ Some own
   has_label v own s = ap (label_of t) (sym s.node ∙ node_on_none s.run.from) ∙ laid.known own s.run s.held s.inside

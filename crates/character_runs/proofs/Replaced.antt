@@ -9,11 +9,12 @@ use Rattle.character_runs.specs.declared.change.Change.{Change}
 use Rattle.character_runs.specs.States.{is_of, changed as after_change, changed_at}
 use Rattle.character_runs.specs.Laid.{chars_in}
 use Rattle.character_runs.specs.Replacing.{one_if, Replaces}
-use Rattle.character_runs.proofs.Lists.{count, count-append}
+use Rattle.character_runs.proofs.Lists.{count}
 use Rattle.character_runs.proofs.PartedRuns.{Parted, parted}
 use Rattle.character_runs.proofs.ChangedPairs.{changed_is}
 use Rattle.character_runs.proofs.AlteredChars.{one_record}
 use Rattle.character_runs.proofs.RunChars.{chars-append}
+use Rattle.ew_model.proofs.ListTests.{count-append}
 
 -- a run of one character, for another
 module _ (ps : List (ℕ × Stretch)) (rising : IsRising ps) (label : ℕ) (was : Stretch) (held : Contains ps (label, was)) (single : was.len ≡ 1) where

@@ -18,6 +18,7 @@ use Rattle.character_runs.proofs.PartedRuns.{Parted, parted, same_run}
 use Rattle.character_runs.proofs.CutPairs.{cut_is, moves_cut}
 use Rattle.character_runs.proofs.CutRuns.{cut_laid, cut_begins, alike, set_own, set_other, run_is}
 use Rattle.character_runs.proofs.CutChars.{cut_chars}
+use Rattle.ew_model.proofs.Outcomes.{none_by}
 
 pub runs-append : (xs ys : List (ℕ × Stretch)) → runs (xs ++ ys) ≡ runs xs ++ runs ys
 runs-append [] ys = refl
@@ -48,10 +49,6 @@ sets_twice t m u v a b one two w = two w ∙ by (node_eq v w) refl
     by : (c : Bool) → node_eq v w ≡ c → (if c then b else label_of m w) ≡ (if c then b else label_of t w)
     by true e = refl
     by false e = set_other t m v a one w e
-
-pub none_by : (o : Option ℕ) → ((l : ℕ) → o ≡ Some l → ⊥) → o ≡ None
-none_by None h = refl
-none_by (Some l) h = absurd (h l refl)
 
 module _ (G : Ghosts Stretch) (chars : (s : Stretch) → G.chars s ≡ chars_of s) (ps qs : List (ℕ × Stretch)) (t u : Labels) (label own n : ℕ) (v : Node)
     (laid : AreLabelled ps t) (rising : IsRising ps) (s : Stands ps label n v) (some : 0 < n) (cut : IsCut G ps qs label n own) (above : label < own)

@@ -1,5 +1,5 @@
 -- Where a node's character stands.
-use Rattle.std.proofs.Common.{rules, ◌≡◌, ℕ, ◌+◌, ◌-◌, ◌≤◌, true, Option, IsSome, IfSome, IfNone, List, None, Some, Contains, refl, sym, ap, ◌∙◌, subst, arith}
+use Rattle.std.proofs.Common.{rules, ◌≡◌, ℕ, ◌+◌, ◌-◌, ◌≤◌, true, Option, IsSome, IfSome, List, None, Some, Contains, refl, sym, ap, ◌∙◌, subst, arith}
 use Rattle.std.proofs.lemmas.Bool.{false≢true, leb-true, le-leb}
 use Rattle.ew_model.specs.declared.node.Node.{Node}
 use Rattle.ew_model.specs.declared.node.Node.TheVariants.{Root, Base, Event}
@@ -70,10 +70,6 @@ module _ (ps : List (ℕ × Stretch)) (t : Labels) (laid : AreLabelled ps t) whe
       let some : s.run.from ≡ Root → ⊥ = laid.rooted own s.run s.held in
       let reach : is_up_to s.run.from v ≡ true = subst (λ (w : Node). is_up_to s.run.from w ≡ true) s.node (up_to_on s.run.from n some) in
       none_some own (sym (none s.run.from reach) ∙ first)
-
-pub if_none : {A : Type 0} (o : Option A) (P : Type 0) → P → IfNone o P
-if_none None P h = h
-if_none (Some x) P h = tt
 
 pub if_some_both : {A : Type 0} (o : Option A) (P Q R : A → Type 0) → ((x : A) → P x → Q x → R x) → IfSome o P → IfSome o Q → IfSome o R
 if_some_both None P Q R f h k = tt

@@ -1,5 +1,5 @@
 -- SO MANY EVENTS in a chain on the last one are as many single events.
-use Rattle.std.proofs.Common.{◌≡◌, ℕ, zero, suc, ◌+◌, ◌-◌, ◌<◌, ◌≤◌, Bool, true, false, cond, not, ◌||◌, ◌&&◌, ⊎_elim, nat_eq, List, [], ◌∷◌, ◌++◌, length, filter, take, slice_get, slice_index_or, Some, refl, sym, ap, ◌∙◌, subst, arith, append-nil, append_assoc, length-append}
+use Rattle.std.proofs.Common.{◌≡◌, ℕ, zero, suc, ◌+◌, ◌-◌, ◌<◌, ◌≤◌, Bool, true, false, cond, not, ◌||◌, ◌&&◌, ⊎_elim, nat_eq, List, [], ◌∷◌, ◌++◌, length, filter, take, slice_get, Some, refl, sym, ap, ◌∙◌, subst, arith, append-nil, append_assoc, length-append}
 use Rattle.std.specs.List.{AllByRecursion, range_with_len}
 use Rattle.std.proofs.Math.Seq.{take-length}
 use Rattle.std.proofs.lemmas.Bool.{eqb-true, eq-eqb, ne_eqb}
@@ -13,7 +13,7 @@ use Rattle.ew_model.specs.CutChange.{stays_behind}
 use Rattle.ew_model.specs.PositionCuts.{is_frontier}
 use Rattle.ew_model.proofs.PositionCuts.{last_cases, last_at}
 use Rattle.ew_model.proofs.PositionEvents.{history_push}
-use Rattle.ew_model.proofs.PositionFrontier.{frontier_push, frontier_below}
+use Rattle.ew_model.proofs.PositionFrontier.{frontier_push, frontier_below, one_parent}
 use Rattle.ew_model.proofs.SortingLaws.{all_from, all_filter}
 use Rattle.critical.specs.declared.spans.CutSpan.{CutSpan}
 use Rattle.critical.specs.KeptCuts.{KeptCuts, inner_cuts, kept_for, chain_parents, with_chain, with_count, with_whole, with_first}
@@ -23,13 +23,7 @@ use Rattle.critical.proofs.InnerCuts.{inner_of}
 use Rattle.critical.proofs.Ranges.{single}
 use Rattle.critical.proofs.Searching.{stays_low}
 use Rattle.critical.proofs.SpanChanges.{lengthened}
-
-pub one_parent : (position parent : ℕ) → parent < position → AreParents position (parent ∷ [])
-one_parent position parent less = record { rising = λ k h. absurd (omega (arith, h)); lower = λ k d h. low k d h; few = omega arith }
-  where
-    low : (k d : ℕ) → k < 1 → slice_index_or (parent ∷ []) k d < position
-    low zero d h = less
-    low (suc k) d h = absurd (omega (arith, h))
+use Rattle.ew_model.proofs.Ranges.{read_range, skip_range}
 
 -- one position is reduced
 itself : (a c : Bool) → a ≡ true → ((a || c) && true) && true ≡ true
@@ -143,16 +137,6 @@ chain_apart (suc n) history last good end others =
     ∙ (λ i. record { cuts = kept.cuts; heads = kept.heads; count = more i })
 
 -- THE LAST SPAN with so many cuts more
-read_range : (a n : ℕ) (rest : List ℕ) (p : ℕ) → p < n → slice_get (range_with_len a n ++ rest) p ≡ Some (a + p)
-read_range a zero rest p l = absurd (omega (arith, l))
-read_range a (suc n) rest zero l = let e : a ≡ a + 0 = omega arith in ap Some e
-read_range a (suc n) rest (suc p) l = let e : a + 1 + p ≡ a + suc p = omega arith in read_range (a + 1) n rest p (omega (arith, l)) ∙ ap Some e
-
-skip_range : (a n : ℕ) (rest : List ℕ) (p q : ℕ) → q ≡ n + p → slice_get (range_with_len a n ++ rest) q ≡ slice_get rest p
-skip_range a zero rest p q e = let same : q ≡ p = omega (arith, e) in ap (slice_get rest) same
-skip_range a (suc n) rest p zero e = absurd (omega (arith, e))
-skip_range a (suc n) rest p (suc q) e = skip_range (a + 1) n rest p q (omega (arith, e))
-
 -- the last of the cuts is that of the last span
 pub ends_at : (spans : List CutSpan) (low k p : ℕ) → RiseFrom low spans → length (cuts_in spans) ≡ suc k → slice_get (cuts_in spans) k ≡ Some p → ends_before spans (p + 1) ≡ true
 ends_at [] low k p r long there = absurd (omega (arith, long))

@@ -8,10 +8,6 @@ use Rattle.ew_model.specs.Sets.{Among}
 abbrev pub single : ℕ → List ℕ
 single k = k ∷ []
 
-pub range_more : (a n : ℕ) → range_with_len a (suc n) ≡ range_with_len a n ++ (a + n) ∷ []
-range_more a zero = let e : a ≡ a + 0 = omega arith in ap single e
-range_more a (suc n) = let e : a + 1 + n ≡ a + suc n = omega arith in ap (λ xs. a ∷ xs) (range_more (a + 1) n ∙ ap (λ k. range_with_len (a + 1) n ++ k ∷ []) e)
-
 -- those below a bound
 pub range_inside : (a n e : ℕ) → a + n ≤ e → filter (λ k. nat_lt k e) (range_with_len a n) ≡ range_with_len a n
 range_inside a zero e l = refl

@@ -13,8 +13,9 @@ use Rattle.ew_model.proofs.SortingLaws.{all_at, all_from}
 use Rattle.critical.specs.declared.spans.CutSpan.{CutSpan}
 use Rattle.critical.specs.CutRuns.{span_count}
 use Rattle.critical.specs.Spans.{cuts_in, heads_in, RiseFrom, EndBelow, ends_before, with_last, shortened}
-use Rattle.critical.proofs.Ranges.{single, among_range, range_more, range_inside, range_outside, range_part, take_singles, take_over}
+use Rattle.critical.proofs.Ranges.{single, among_range, range_inside, range_outside, range_part, take_singles, take_over}
 use Rattle.critical.proofs.SpanSearches.{block, block_among, held_by_one, begins_high}
+use Rattle.ew_model.proofs.Ranges.{range_more}
 
 -- spans with one cut more
 pub record Grown (spans new : List CutSpan) (given more : List (List ℕ)) (low cut : ℕ) (last : List ℕ) : Type 0 where

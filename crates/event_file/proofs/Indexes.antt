@@ -24,6 +24,7 @@ use Rattle.file_words.proofs.FileRecords.{id_eq_exact}
 use Rattle.event_file.specs.Known.{known_by, known_run}
 use Rattle.event_file.specs.SeenIds.{count_for, IsInRange, IsCovered, IsSeen, HasOneOf}
 use Rattle.event_file.proofs.SeenCounts.{place_within, seen_at}
+use Rattle.file_words.proofs.RunReading.{agent_there}
 
 -- an agent at a place up to that of the next is open
 pub open_at : (agents : List (List ℕ)) (events : List Event) (used place : ℕ) (Has : Id → Type 0) → IsIndexed agents events used Has → place ≤ used → slice_get (open_agents agents events) place ≡ slice_get agents place
@@ -105,16 +106,6 @@ held_more events x more Has New old up y = (to, from)
     from e = elim (or_cases (is_held events y) (list_any (id_eq y) (ids_from x.agent x.seq (suc more))) (sym (held_parts events x more y) ∙ e)) [
       | inl t ↦ (up y).1 (inl ((old y).1 t))
       | inr t ↦ (let a = among_ids x.agent x.seq (suc more) y t in (up y).1 (inr (record { agent = a.0; from = a.1; to = (let high = a.2 in omega (arith, high)) })))
-    ]
-
-agent_there : (before : List Event) (e : Event) → list_any (name_eq e.id.agent) (agents_of (before ++ e ∷ [])) ≡ true
-agent_there before e =
-    let used = agents_of before in
-    let there = list_any (name_eq e.id.agent) in
-    ap there (agents_push before e)
-    ∙ elim (cases_Bool (there used)) [
-      | inl t ↦ ap there (known_agent used e t) ∙ t
-      | inr f ↦ ap there (next_agent used e f) ∙ list_any-append (name_eq e.id.agent) used (e.id.agent ∷ []) ∙ or_right (there used) _ (or_left (name_eq e.id.agent e.id.agent) false (names_equal.refl e.id.agent))
     ]
 
 same_agents_behind : (n : ℕ) (agent : List ℕ) (seq : ℕ) (before : List Event) → list_any (name_eq agent) (agents_of before) ≡ true → agents_of (before ++ map known_by (ids_from agent seq n)) ≡ agents_of before

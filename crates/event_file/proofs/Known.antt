@@ -17,23 +17,12 @@ use Rattle.file_words.specs.FileRuns.{ids_from}
 use Rattle.event_file.specs.IdRuns.{short_run, last_short}
 use Rattle.event_file.proofs.IdRuns.{length_run}
 use Rattle.event_file.specs.Known.{known_by, id_by, known_run, known, AreWithin}
-use Rattle.history_definitions.specs.Chains.{last_id}
 
 -- the id at a place
 pub known_at : (agents : List (List ℕ)) (ids : List ShortId) (i : ℕ) (x : ShortId) → slice_get ids i ≡ Some x → slice_get (ids_of (known agents ids)) i ≡ Some (id_by agents x)
 known_at agents [] i x at = none_is_some x at
 known_at agents (y ∷ ids) zero x at = ap (λ z. Some (id_by agents z)) (some_is y x at)
 known_at agents (y ∷ ids) (suc i) x at = known_at agents ids i x at
-
--- the last id, with one event more
-pub last_more : (events : List Event) (e : Event) → last_id (events ++ e ∷ []) ≡ Some e.id
-last_more events e =
-    let count : length (events ++ e ∷ []) - 1 ≡ length events = omega (arith, length-append events (e ∷ [])) in
-    ap (slice_get (ids_of (events ++ e ∷ []))) count ∙ at_end events
-  where
-    at_end : (es : List Event) → slice_get (ids_of (es ++ e ∷ [])) (length es) ≡ Some e.id
-    at_end [] = refl
-    at_end (f ∷ es) = at_end es
 
 -- no id stands behind the last
 pub none_known : (agents : List (List ℕ)) (ids : List ShortId) (i : ℕ) → slice_get ids i ≡ None → slice_get (ids_of (known agents ids)) i ≡ None

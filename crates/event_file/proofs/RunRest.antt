@@ -17,6 +17,7 @@ use Rattle.file_words.specs.FileFaults.{Reader, done, stops, go_on, ◌>>=◌, f
 use Rattle.file_words.specs.FileFaults.RecordFault.{AgentNumber, IdTwice, ParentCount, KindBad, RunJoin, RunLength, Scalar}
 use Rattle.file_words.specs.FileRuns.{RunOps, FileRun, ops_count, ops_in, run_events, read_text, read_one_mark, first_op, is_next_id, are_only, joins, indices_fit, may_be_count, ids_from, are_new, read_ops_of, read_run_ops, read_run_record, read_runs, read_run_events}
 use Rattle.file_words.specs.FileRuns.RunOps.{Insertions, Deletions, BackDeletions, OneMark}
+use Rattle.file_words.proofs.RunFields.{IsCount, count_is}
 use Rattle.file_words.proofs.FileFields.{go_ok, tested_ok, then_again}
 use Rattle.file_words.proofs.FileRuns.{ops_long}
 use Rattle.history_definitions.specs.Chains.{next_id, event_behind}
@@ -100,32 +101,19 @@ pub record IsFit (before : List Event) (left : ℕ) (x : Id) (ops : RunOps) : Ty
   pub new : are_new before x 1 ≡ true → are_new before x (ops_count ops) ≡ true
   pub sound : CanGoOn ops
 
-record IsCount (left : ℕ) (x : Id) (kind at count : ℕ) : Type 0 where
-  some : 0 < count
-  few : count ≤ left
-  fits : x.seq + count ≤ 2 ^ 32
-  indices : indices_fit kind at count ≡ true
-
-count_is : (left : ℕ) (x : Id) (kind at count : ℕ) → may_be_count left x kind at count ≡ true → IsCount left x kind at count
-count_is left x kind at count h =
-    let fewest = cond (eqb kind 3) 1 0 in
-    let a = ltb fewest count in
-    let b = leb count left in
-    let c = leb (x.seq + count) (2 ^ 32) in
-    let p = and_parts (a && b && c) (indices_fit kind at count) h in
-    let q = and_parts (a && b) c p.0 in
-    let r = and_parts a b q.0 in
-    let less = ltb-true fewest count r.0 in
-    record { some = omega (arith, less); few = leb-true count left r.1; fits = leb-true (x.seq + count) (2 ^ 32) q.1; indices = p.1 }
+-- a run of so many events has one at least
+counted : (b : Bool) (count : ℕ) → cond b 1 0 < count → 0 < count
+counted true count some = omega (arith, some)
+counted false count some = some
 
 kinds_fit : (before : List Event) (left : ℕ) (x : Id) (kind at count : ℕ) (bytes : List ℕ) (y : RunOps × List ℕ) → IsCount left x kind at count → are_new before x count ≡ true → read_ops_of kind at count bytes ≡ Ok y → IsFit before left x y.0
 kinds_fit before left x kind at count bytes y c new e = by_kind (eqb kind 0) (eqb kind 1) refl e
   where
     of : (ops : RunOps) (rest : List ℕ) → ops_count ops ≡ count → CanGoOn ops → done ops rest ≡ Ok y → IsFit before left x y.0
     of ops rest same sound f =
-        let some = c.some in
+        let some = counted (eqb kind 3) count c.some in
         let few = c.few in
-        let fits = c.fits in
+        let fits = c.numbered in
         subst (λ (p : RunOps × List ℕ). IsFit before left x p.0) (let is : (ops, rest) ≡ y = cc in is)
         (record { some = omega (arith, some, same); few = λ _. omega (arith, few, same); fits = λ _. omega (arith, fits, same); new = λ _. ap (are_new before x) same ∙ new; sound = sound })
 

@@ -1,5 +1,5 @@
 -- Events that are put one behind the other give the records of their history's runs.
-use Rattle.std.proofs.Common.{◌≡◌, ℕ, zero, suc, ◌+◌, ◌-◌, Bool, true, false, eqb, ◌&&◌, inl, inr, List, [], ◌∷◌, ◌++◌, length, drop, flat_map, Option, Some, None, refl, sym, ap, subst, ◌∙◌, append_assoc, append-nil, add-one, arith}
+use Rattle.std.proofs.Common.{◌≡◌, ℕ, zero, suc, ◌+◌, ◌-◌, true, false, eqb, ◌&&◌, inl, inr, List, [], ◌∷◌, ◌++◌, length, drop, flat_map, Option, Some, None, refl, sym, ap, subst, ◌∙◌, append_assoc, append-nil, add-one, arith}
 use Rattle.std.specs.Prelude.{slice_get}
 use Rattle.std.specs.Option.{option_map, option_map_or}
 use Rattle.std.specs.List.{list_any, position_or_len, AllByRecursion}
@@ -25,6 +25,7 @@ use Rattle.event_file.specs.Places.{agent_place, place_of, places_of}
 use Rattle.event_file.specs.RunWriting.{PlacedRun, RunsPut, none_put, all_put, last_ops, head_of, are_only_last, goes_on, goes_on_last, lengthened, longer_put, begun_put, event_put}
 use Rattle.event_file.proofs.Tables.{numbered_bytes}
 use Rattle.event_file.proofs.Asked.{asked, all_new}
+use Rattle.ew_model.proofs.ListTests.{same_truth}
 
 -- ---- a run by places
 
@@ -49,13 +50,8 @@ record_parts history r =
 
 -- ---- an event continues a run where it goes on from it by places
 
-same_test : (a b : Bool) → (a ≡ true → b ≡ true) → (b ≡ true → a ≡ true) → a ≡ b
-same_test true b f g = sym (f refl)
-same_test false true f g = g refl
-same_test false false f g = refl
-
 same_agents : (agents : List (List ℕ)) (a b : List ℕ) → list_any (name_eq a) agents ≡ true → list_any (name_eq b) agents ≡ true → eqb (position_or_len (name_eq a) agents) (position_or_len (name_eq b) agents) ≡ name_eq a b
-same_agents agents a b there_a there_b = same_test (eqb (position_or_len (name_eq a) agents) (position_or_len (name_eq b) agents)) (name_eq a b) one_name one_place
+same_agents agents a b there_a there_b = same_truth (eqb (position_or_len (name_eq a) agents) (position_or_len (name_eq b) agents)) (name_eq a b) one_name one_place
   where
     one_name : eqb (position_or_len (name_eq a) agents) (position_or_len (name_eq b) agents) ≡ true → name_eq a b ≡ true
     one_name h =
@@ -67,7 +63,7 @@ same_agents agents a b there_a there_b = same_test (eqb (position_or_len (name_e
     one_place h = eq-eqb (position_or_len (name_eq a) agents) (position_or_len (name_eq b) agents) (ap (λ n. position_or_len (name_eq n) agents) (name_exact a b h))
 
 same_parent : (history : List Event) (n : ℕ) (x y : Id) → IsWritable history → slice_get (ids_of history) n ≡ Some x → is_held history y ≡ true → eqb (suc (place_of history y)) (suc n) ≡ id_eq x y
-same_parent history n x y w at held = same_test (eqb (suc (place_of history y)) (suc n)) (id_eq x y) one_id one_place
+same_parent history n x y w at held = same_truth (eqb (suc (place_of history y)) (suc n)) (id_eq x y) one_id one_place
   where
     one_id : eqb (suc (place_of history y)) (suc n) ≡ true → id_eq x y ≡ true
     one_id h =

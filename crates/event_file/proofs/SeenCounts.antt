@@ -1,6 +1,6 @@
 -- Ids told by counts of their agents' numbers and by ranges: how they are found, and how more are added.
 use Rattle.std.proofs.Common.{◌≡◌, ◌↔◌, ℕ, zero, suc, ◌+◌, ◌<◌, ◌≤◌, Bool, true, false, cond, ◌⊎◌, inl, inr, List, [], ◌∷◌, ◌++◌, length, take, get_or, replicate, set, Option, Some, None, refl, sym, ap, ◌∙◌, subst, arith, ltb-true, ltb-false}
-use Rattle.std.specs.Prelude.{nat_lt, nat_le, slice_get, IsTrue, IsSome}
+use Rattle.std.specs.Prelude.{nat_lt, slice_get, IsTrue, IsSome}
 use Rattle.std.specs.List.{list_any}
 use Rattle.std.specs.Ordering.{nat_cmp, ordering_then, is_eq, is_gt, is_lt}
 use Rattle.std.specs.declared.cmp.Ordering.{Ordering}
@@ -12,7 +12,6 @@ use Rattle.std.specs.BTreeMap.Range.{IsRangeOf}
 use Rattle.std.specs.declared.ops.Bound.TheVariants.{Included, Unbounded}
 use Rattle.std.proofs.lemmas.Bool.{cases_Bool, cond-true, cond-false, or_parts}
 use Rattle.std.proofs.lemmas.Map.Keys.{le_from_not_gt, ge_from_not_lt}
-use Rattle.std.proofs.Common.{rules}
 use Rattle.ew_model.specs.declared.id.Id.{Id}
 use Rattle.ew_model.specs.Ids.{name_eq, id_cmp, id_eq}
 use Rattle.ew_model.specs.Distinct.{AreDistinct}
@@ -21,6 +20,7 @@ use Rattle.ew_model.proofs.IdLaws.{names_equal, name_exact}
 use Rattle.file_words.proofs.FileRecords.{id_eq_exact}
 use Rattle.ew_model.proofs.TextLaws.{ids_equal}
 use Rattle.event_file.specs.SeenIds.{count_for, IsInRange, IsCovered, AreParted, IsSeen, HasOneOf}
+use Rattle.ew_model.proofs.ListTests.{le_not_gt}
 
 -- no number is below 0
 none_counted : (agents : List (List ℕ)) (n : ℕ) (name : List ℕ) → count_for agents (replicate n 0) name ≡ 0
@@ -256,9 +256,6 @@ by_count false count table first more le none = λ x r s. none x r (only x r s)
 
 pub first_below : (count : ℕ) (table : Id → Option ℕ) (first : Id) (more : ℕ) → first.seq < count → HasOneOf true count table first more
 first_below count table first more less = (first, alone first more, inl less)
-
-le_not_gt : (a b : ℕ) → a ≤ b → is_gt (nat_cmp a b) ≡ false
-le_not_gt a b le = search (rules, le)
 
 not_gt_then : (p r : Ordering) → is_eq p ≡ true → is_gt r ≡ false → is_gt (ordering_then p r) ≡ false
 not_gt_then Less r e f = refl

@@ -10,7 +10,7 @@ use Rattle.ew_model.specs.declared.event.Event.{Event}
 use Rattle.ew_model.specs.Ancestors.{ids_of}
 use Rattle.ew_model.specs.Graph.{is_named}
 use Rattle.std.specs.Char.{IsScalar}
-use Rattle.ew_model.specs.Edits.{chain_of, insertions_at, deletions_at}
+use Rattle.ew_model.specs.Edits.{chain_of, insertions_at}
 use Rattle.ew_model.specs.Positions.{IsHistoryOfParents, frontier_of, parent_positions}
 use Rattle.ew_model.specs.Sound.{IsSoundOp, IsSound, AreSound}
 use Rattle.ew_model.proofs.EntryLaws.{all_joined}
@@ -26,9 +26,10 @@ use Rattle.frontier.specs.Heads.{heads_after}
 use Rattle.event_graph.specs.GoingOn.{chain_behind}
 use Rattle.event_graph.specs.Keeping.{IsAdmitted, bare_events, IsKeptOf}
 use Rattle.event_graph.proofs.Admitted.{laid, more}
-use Rattle.event_graph.proofs.GoingOn.{last_alone, last_pushed, good_behind, sound_behind}
+use Rattle.event_graph.proofs.GoingOn.{last_alone, good_behind, sound_behind}
 use Rattle.event_graph.proofs.Grown.{bare_grown, parents_grown}
 use Rattle.event_graph.proofs.Kept.{agreement, length_events, length_parents}
+use Rattle.history_definitions.proofs.LastIds.{last_pushed}
 
 -- THE HEADS behind them: the last of them, where the last event before was the only head
 pub only_along : (n : ℕ) (history : List (List ℕ)) (last : ℕ) → IsHistoryOfParents history → suc last ≡ length history → frontier_of history ≡ last ∷ [] → frontier_of (history ++ chain_parents last n) ≡ (last + n) ∷ []
@@ -69,10 +70,6 @@ others_along (suc n) history last good end some = sym (heads_along n history las
 pub insertions_sound : (at : ℕ) (text : List ℕ) → at + length text ≤ 2 ^ 32 → AllByRecursion IsScalar text → AllByRecursion IsSoundOp (insertions_at at text)
 insertions_sound at [] fit can = tt
 insertions_sound at (ch ∷ text) fit can = ((omega (arith, fit), can.0), insertions_sound (at + 1) text (omega (arith, fit)) can.1)
-
-pub deletions_sound : (at n : ℕ) → at < 2 ^ 32 → AllByRecursion IsSoundOp (deletions_at at n)
-deletions_sound at zero small = tt
-deletions_sound at (suc n) small = (small, deletions_sound at n small)
 
 pub back_sound : (at n : ℕ) → at < 2 ^ 32 → AllByRecursion IsSoundOp (back_deletions_at at n)
 back_sound at zero small = tt

@@ -1,5 +1,5 @@
 -- No row holds for an event that goes on right behind the last one.
-use Rattle.std.proofs.Common.{◌≡◌, ℕ, zero, suc, ◌+◌, ◌-◌, ◌<◌, ◌≤◌, ◌^◌, nat_lt, Bool, true, false, not, cond, ◌&&◌, ◌||◌, List, [], ◌∷◌, ◌++◌, find, length, length-append, position, Option, Some, None, option_map, refl, sym, ap, ◌∙◌, subst, arith, nat_cmp, IsSorted}
+use Rattle.std.proofs.Common.{◌≡◌, ℕ, zero, suc, ◌+◌, ◌-◌, ◌<◌, ◌≤◌, ◌^◌, nat_lt, Bool, true, false, not, cond, ◌&&◌, ◌||◌, List, [], ◌∷◌, ◌++◌, find, length, position, Option, Some, None, option_map, refl, sym, ap, ◌∙◌, subst, arith, nat_cmp, IsSorted}
 use Rattle.std.specs.Prelude.{slice_get}
 use Rattle.std.specs.Bool.{then_some}
 use Rattle.std.specs.List.Sorted.{IsPermutation}
@@ -38,14 +38,6 @@ use Rattle.event_graph.proofs.Numbers.{below_count, numbered_ids}
 use Rattle.event_graph.proofs.Places.{place_of}
 use Rattle.event_graph.proofs.RowLaws.{first_row-alone, row_in-none}
 use Rattle.event_graph.proofs.Soundness.{next_sound}
-
--- the last event of a history is the one that came behind the others
-pub last_pushed : (history : List Event) (e : Event) → last_id (history ++ e ∷ []) ≡ Some e.id
-last_pushed [] e = refl
-last_pushed (f ∷ history) e =
-    let long = length-append history (e ∷ []) in
-    let place : length (f ∷ (history ++ e ∷ [])) - 1 ≡ suc (length (history ++ e ∷ []) - 1) = omega (arith, long) in
-    ap (slice_get (ids_of (f ∷ (history ++ e ∷ [])))) place ∙ last_pushed history e
 
 -- where there are events, there is a last one
 pub last_there : (history : List Event) → 0 < length history → (x : Id) × (last_id history ≡ Some x)

@@ -1,7 +1,6 @@
 -- The events at the positions of spans, taken into a part one span after another.
 use Rattle.std.proofs.Common.{◌≡◌, ℕ, suc, ◌+◌, ◌-◌, ◌<◌, ◌≤◌, ◌^◌, List, [], ◌∷◌, ◌++◌, length, take, get_or, Option, Some, sym, ap, ◌∙◌, subst, arith, append-nil, append_assoc, length-append, All}
 use Rattle.std.specs.Prelude.{slice_get}
-use Rattle.std.specs.List.{range_with_len}
 use Rattle.std.specs.Option.{option_to_list}
 use Rattle.std.proofs.Math.Seq.{take-length}
 use Rattle.std.proofs.lemmas.Grind.{flat_map-append}
@@ -85,10 +84,6 @@ span_turn history part spans left d some within next =
     let cut : positions_of (take left spans) ≡ positions_in (get_or spans (left - 1) d) ++ positions_of (take (left - 1) spans) =
     ap (λ n. positions_of (take n spans)) (sym last) ∙ ap positions_of (take_more spans (left - 1) d (omega (arith, some, within))) ∙ positions_push (take (left - 1) spans) (get_or spans (left - 1) d) in
     turn_of history part (get_or spans (left - 1) d) (positions_of (take (left - 1) spans)) (positions_of (take left spans)) cut next
-
--- a range begins with its lowest number
-pub range_first : (low high : ℕ) → low < high → range_with_len low (high - low) ≡ low ∷ range_with_len (low + 1) (high - (low + 1))
-range_first low high less = let long : high - low ≡ suc (high - (low + 1)) = omega (arith, less) in ap (range_with_len low) long
 
 -- before the first span all are next
 pub all_next : (history : List Event) (spans : List Span) (part : List Event) → part ≡ [] → AreNext history [] (positions_of spans) → AreNext history part (positions_of (take (length spans) spans))

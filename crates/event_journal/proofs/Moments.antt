@@ -1,6 +1,6 @@
 -- How calls of a disk follow each other.
-use Rattle.std.proofs.Common.{◌≡◌, ◌≤◌, ◌<◌, ◌+◌, inl, inr, ⊎_elim, ℕ, List, [], ◌∷◌, ◌++◌, length, take, drop, Option, None, Some, Result, Ok, Err, refl, sym, subst, arith}
-use Rattle.std.specs.Prelude.{IfSome, OnOk}
+use Rattle.std.proofs.Common.{◌≡◌, ◌≤◌, ◌<◌, ◌+◌, inl, inr, ⊎_elim, ℕ, List, [], ◌∷◌, ◌++◌, length, take, drop, Option, None, Some, refl, sym, subst, arith}
+use Rattle.std.specs.Prelude.{IfSome}
 use Rattle.std.proofs.lemmas.List.{length-append, length-take}
 use Rattle.event_journal.specs.Disk.{written, Passes, StaysWithin, LeavesJust, LeavesNoMore, LeavesTorn, IsTorn}
 use Rattle.event_journal.specs.Writing.{staged, IsTornTwice}
@@ -78,10 +78,6 @@ module _ {D : Type 0} (moment : D → ℕ) (left_since : D → ℕ → List ℕ 
       let kept : LeavesJust (staged bytes gate piece) now = subst (λ o. IfSome o (λ b. LeavesJust b now)) is durable in
       let torn = subst (λ o. IfSome o (λ b. LeavesJust b now → StaysWithin moment left_since mid new (IsTorn gate 1 b))) is second in
       joined old mid new (IsTorn (gate + 1) (length piece) bytes) (IsTorn gate 1 (staged bytes gate piece)) (IsTornTwice gate piece bytes) (first just) (torn kept) (λ c t. inl t) (λ c t. inr t)
-
-pub ok_then : {T E : Type 0} (r : Result T E) (P Q : Type 0) → (P → Q) → OnOk r P → OnOk r Q
-ok_then (Ok x) P Q f h = f h
-ok_then (Err e) P Q f h = h
 
 staged_room : (bytes : List ℕ) (gate : ℕ) (piece : List ℕ) → gate < length bytes → gate ≤ length (staged bytes gate piece)
 staged_room bytes gate piece inside =

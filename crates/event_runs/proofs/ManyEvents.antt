@@ -1,11 +1,10 @@
 -- SO MANY SINGLE EVENTS that the last run takes in are that run with so many events more.
-use Rattle.std.proofs.Common.{◌≡◌, ℕ, zero, suc, ◌+◌, ◌-◌, ◌<◌, ◌^◌, inl, List, [], ◌∷◌, ◌++◌, length, slice_get, slice_index_or, drop, set, Some, refl, sym, ap, ◌∙◌, subst, arith, append-nil, append_assoc}
+use Rattle.std.proofs.Common.{◌≡◌, ℕ, zero, suc, ◌+◌, ◌-◌, ◌<◌, ◌^◌, inl, List, [], ◌∷◌, ◌++◌, length, slice_get, drop, set, Some, refl, sym, ap, ◌∙◌, subst, arith, append-nil, append_assoc}
 use Rattle.std.specs.List.{flat_map}
 use Rattle.std.proofs.lemmas.List.{get_or_append_left, length-set, length-drop}
 use Rattle.std.proofs.lemmas.Option.{same_Some}
 use Rattle.ew_model.specs.declared.event.Op.{Op}
 use Rattle.ew_model.specs.declared.event.Op.TheVariants.{Ins, Del, Mark}
-use Rattle.ew_model.specs.Positions.{AreParents}
 use Rattle.event_runs.specs.declared.runs.Run.{Run}
 use Rattle.event_runs.specs.declared.runs.RunKind.{RunKind}
 use Rattle.event_runs.specs.declared.runs.RunKind.TheVariants.{Insertions, Deletions, BackDeletions, Marks}
@@ -19,6 +18,7 @@ use Rattle.event_runs.proofs.Kept.{told_with, one_of, one_start, one_before, one
 use Rattle.event_runs.proofs.RunEvents.{events_same, length-events_in}
 use Rattle.event_runs.proofs.RunLines.{HasMore, more_in, labelled_more}
 use Rattle.event_runs.proofs.StepOps.{Takes, TakesAll, takes_from, inserted_from, labels_from}
+use Rattle.ew_model.proofs.PositionFrontier.{one_parent}
 
 -- runs with one event more, whatever its characters and labels
 pub grown : (runs new : List Run) (lists more : List (List ℕ)) (s : Run) (parents : List ℕ) → AreRuns 0 0 runs lists s.start s.chars_before → s.more ≡ 0 → HasMore runs new lists more s parents 0 0 s.start s.chars_before
@@ -94,13 +94,6 @@ record Stay : Type 0 where
   runs : List Run
   count : ℕ
   events : List BareEvent
-
-pub one_parent : (position parent : ℕ) → parent < position → AreParents position (parent ∷ [])
-one_parent position parent less = record { rising = λ k h. absurd (omega (arith, h)); lower = λ k d h. low k d h; few = omega arith }
-  where
-    low : (k d : ℕ) → k < 1 → slice_index_or (parent ∷ []) k d < position
-    low zero d h = less
-    low (suc k) d h = absurd (omega (arith, h))
 
 module _ (lists : List (List ℕ)) (place : ℕ) where
   -- one event more

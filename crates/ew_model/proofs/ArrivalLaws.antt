@@ -170,3 +170,9 @@ pub judgements_end : (limits : LimitNumbers) (in_range : Bool) (n : ℕ) (d : De
 judgements_end limits in_range zero d h = nothing_left_to_judge limits in_range d d.waiting d.coming refl refl h
 judgements_end limits in_range (suc n) d h =
     judgements_by limits in_range n d (next_judgement limits in_range d) refl (λ j e. judgements_end limits in_range n j.desk (omega (arith, next_less limits in_range d j e)))
+
+-- nothing comes any more where no judgement is left
+pub nothing_left : (limits : LimitNumbers) (d : Desk) (o : Option Event) (coming : List Event) → d.coming ≡ coming → judge_ready limits true d o ≡ None → (o ≡ None) × (d.coming ≡ [])
+nothing_left limits d None [] is h = (refl, is)
+nothing_left limits d None (x ∷ coming) is h = let none : judge_coming limits true d (x ∷ coming) ≡ None = ap (judge_coming limits true d) (sym is) ∙ h in absurd cc
+nothing_left limits d (Some x) coming is h = absurd cc

@@ -1,7 +1,10 @@
 -- The operations of an edit: each is in range, and together they put in or take out the characters at the index.
-use Rattle.std.proofs.Common.{◌≡◌, ℕ, zero, suc, ◌+◌, ◌≤◌, List, [], ◌∷◌, ◌++◌, map, length, take, drop, insert, remove, refl, sym, ap, ◌∙◌, append_assoc, length-append, arith}
+use Rattle.std.proofs.Common.{◌≡◌, ℕ, zero, suc, ◌+◌, ◌<◌, ◌≤◌, ◌^◌, List, [], ◌∷◌, ◌++◌, map, length, take, drop, insert, remove, refl, sym, ap, ◌∙◌, append_assoc, length-append, add-zero, arith}
+use Rattle.std.specs.List.{AllByRecursion}
 use Rattle.std.proofs.lemmas.List.{take-append-drop, length-take-le, take_at, drop_at, drop-drop}
 use Rattle.std.proofs.lemmas.List.Edits.{length-insert, length-remove}
+use Rattle.ew_model.specs.declared.event.Op.TheVariants.{Ins}
+use Rattle.ew_model.specs.Sound.{IsSoundOp}
 use Rattle.ew_model.specs.Operations.{changed_by_all}
 use Rattle.ew_model.specs.TextLaws.{own_change, AllFit}
 use Rattle.ew_model.specs.Edits.{Edit, insertions_at, deletions_at, ops_of, needed_length}
@@ -61,3 +64,15 @@ pub edit_long : (edit : Edit) → length (ops_of edit) ≡ size_of edit
 edit_long (Insert at text) = insertions_long at text
 edit_long (Delete at count) = deletions_long at count
 edit_long (Mark label) = refl
+
+-- one character more is one insertion more
+pub insertions_push : (at : ℕ) (text : List ℕ) (ch : ℕ) → insertions_at at (text ++ ch ∷ []) ≡ insertions_at at text ++ Ins (at + length text) ch ∷ []
+insertions_push at [] ch = ap (λ k. Ins k ch ∷ []) (sym (add-zero at))
+insertions_push at (x ∷ text) ch =
+    let next : (at + 1) + length text ≡ at + suc (length text) = omega arith in
+    ap (λ ops. Ins at x ∷ ops) (insertions_push (at + 1) text ch ∙ ap (λ k. insertions_at (at + 1) text ++ Ins k ch ∷ []) next)
+
+-- deletions can be made at an index that fits
+pub deletions_sound : (at n : ℕ) → at < 2 ^ 32 → AllByRecursion IsSoundOp (deletions_at at n)
+deletions_sound at zero few = tt
+deletions_sound at (suc n) few = (few, deletions_sound at n few)

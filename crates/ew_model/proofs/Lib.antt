@@ -58,6 +58,7 @@ pub mod MoveLaws
 pub mod NameLaws
 pub mod NewNodes
 pub mod OperationLaws
+pub mod Outcomes
 pub mod OwnIndex
 pub mod PathOrder
 pub mod PlaceLaws
@@ -73,6 +74,7 @@ pub mod PositionSides
 pub mod PositionVersions
 pub mod PositionWalk
 pub mod PrefixLaws
+pub mod Ranges
 pub mod ReachSteps
 pub mod ReadLaws
 pub mod RecordLaws

@@ -1,8 +1,8 @@
 -- Tests of the elements of a list.
-use Rattle.std.proofs.Common.{◌≡◌, Bool, true, false, cond, ◌&&◌, ◌⊎◌, inl, inr, ⊎_elim, List, [], ◌∷◌, refl, sym, ap, ◌∙◌, ◌||◌, ◌++◌, map, filter, reverse, append-nil}
+use Rattle.std.proofs.Common.{rules, is_gt, nat_cmp, ◌≡◌, ℕ, ◌≤◌, Bool, true, false, cond, ◌&&◌, ◌⊎◌, inl, inr, ⊎_elim, List, [], ◌∷◌, refl, sym, ap, ◌∙◌, ◌||◌, ◌++◌, map, filter, reverse, length, ◌+◌, append-nil}
 use Rattle.std.specs.List.{list_any, list_all}
 use Rattle.std.proofs.lemmas.Bool.{false≢true, false_from_ne_true, and_parts, or_cases, or_left, or_right}
-use Rattle.std.proofs.lemmas.List.{reverse-append}
+use Rattle.std.proofs.lemmas.List.{reverse-append, length-append}
 use Rattle.std.proofs.lemmas.List.Elements.{filter-append}
 use Rattle.ew_model.specs.Sets.{Among}
 
@@ -86,3 +86,11 @@ filter_reversed p (x ∷ xs) =
     at : (b : Bool) → reverse (filter p xs) ++ cond b (x ∷ []) [] ≡ reverse (cond b (x ∷ filter p xs) (filter p xs))
     at true = sym (reverse-append (x ∷ []) (filter p xs))
     at false = append-nil (reverse (filter p xs))
+
+-- those of two lists that pass are counted one list after another
+pub count-append : {X : Type 0} (p : X → Bool) (xs ys : List X) → length (filter p (xs ++ ys)) ≡ length (filter p xs) + length (filter p ys)
+count-append p xs ys = ap length (filter-append p xs ys) ∙ length-append (filter p xs) (filter p ys)
+
+-- a number up to another one isn't above it
+pub le_not_gt : (a b : ℕ) → a ≤ b → is_gt (nat_cmp a b) ≡ false
+le_not_gt a b le = search (rules, le)

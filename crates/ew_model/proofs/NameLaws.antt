@@ -1,8 +1,8 @@
 -- What is read as a name is kept as one, and the place of a bad byte tells whether bytes are a name.
-use Rattle.std.proofs.Common.{◌≡◌, ℕ, ◌+◌, ◌-◌, ◌≤◌, ◌<◌, Bool, true, false, not, cond, ◌&&◌, List, [], ◌∷◌, ◌++◌, length, take, drop, nat_le, nat_lt, nat_eq, Option, Some, None, position, refl, sym, ap, ◌∙◌, arith, length-append, length-drop}
+use Rattle.std.proofs.Common.{◌≡◌, ltb, leb, ℕ, ◌+◌, ◌-◌, ◌≤◌, ◌<◌, Bool, true, false, not, cond, ◌&&◌, List, [], ◌∷◌, ◌++◌, length, take, drop, nat_le, nat_lt, nat_eq, Option, Some, None, position, refl, sym, ap, ◌∙◌, arith, length-append, length-drop}
 use Rattle.std.specs.Prelude.{replicate}
 use Rattle.std.specs.List.{list_all, position_or_len, prefix_len}
-use Rattle.std.proofs.lemmas.Bool.{ltb-true, ltb-false, lt-ltb, le-leb, eqb-false, and_parts}
+use Rattle.std.proofs.lemmas.Bool.{leb-true, ltb-true, ltb-false, lt-ltb, le-leb, eqb-false, and_parts}
 use Rattle.std.proofs.lemmas.List.{length-replicate, take_at, drop-replicate}
 use Rattle.ew_model.specs.Padding.{IsPadded}
 use Rattle.ew_model.specs.Names.{is_name, is_name_byte, begins_with_dash, bad_place}
@@ -86,3 +86,10 @@ no_name_from b k some =
     split : (a c d : Bool) → (c && d) ≡ false → (a && c && d) ≡ false
     split true c d h = h
     split false c d h = refl
+
+-- a name is short
+pub name_short : (name : List ℕ) → is_name name ≡ true → length name ≤ 32
+name_short name good =
+    let few = ltb 0 (length name) && leb (length name) 32 in
+    let parts = and_parts (ltb 0 (length name)) (leb (length name) 32) (and_parts few (list_all is_name_byte name) (and_parts (few && list_all is_name_byte name) (not (begins_with_dash name)) good).0).0 in
+    leb-true (length name) 32 parts.1

@@ -1,5 +1,5 @@
 -- The frontier, as events come.
-use Rattle.std.proofs.Common.{◌≡◌, ℕ, ◌<◌, not, nat_eq, List, [], ◌∷◌, ◌++◌, map, filter, length, ap, ◌∙◌, subst, arith}
+use Rattle.std.proofs.Common.{◌≡◌, ℕ, zero, suc, ◌<◌, not, slice_index_or, nat_eq, List, [], ◌∷◌, ◌++◌, map, filter, length, ap, ◌∙◌, subst, arith}
 use Rattle.std.specs.List.{All}
 use Rattle.std.proofs.lemmas.Cmp.{nat_eq_equiv}
 use Rattle.std.proofs.lemmas.List.Elements.{All-from_recursion}
@@ -32,3 +32,11 @@ frontier_below history =
     All-from_recursion (λ p. p < length history) (frontier_of history)
     (all_from (λ p. p < length history) (frontier_of history) (λ p m.
     let most_touches = (positions_bound 0 history p (among_filter (λ q. not (has_child position_of parents_of nat_eq (events_from 0 history) q)) (map position_of (events_from 0 history)) p m).0).1 in omega (arith, most_touches)))
+
+-- one position below an event can be its parents
+pub one_parent : (position parent : ℕ) → parent < position → AreParents position (parent ∷ [])
+one_parent position parent less = record { rising = λ k h. absurd (omega (arith, h)); lower = λ k d h. low k d h; few = omega arith }
+  where
+    low : (k d : ℕ) → k < 1 → slice_index_or (parent ∷ []) k d < position
+    low zero d h = less
+    low (suc k) d h = absurd (omega (arith, h))

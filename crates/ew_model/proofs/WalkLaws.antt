@@ -18,17 +18,17 @@ use Rattle.ew_model.proofs.RenameLaws.{KnowAlike, Namesakes, names, same_over, r
 use Rattle.ew_model.proofs.ClearingLaw.{cuts_clear, cuts_keep_lengths}
 
 -- positions, from n on, beside the ids of the events
-abbrev pairs : ℕ → List Event → List (ℕ × Id)
+abbrev pub pairs : ℕ → List Event → List (ℕ × Id)
 pairs n [] = []
 pairs n (e ∷ events) = (n, e.id) ∷ pairs (suc n) events
 
-pairs-push : (n : ℕ) (events : List Event) (e : Event) → pairs n (events ++ e ∷ []) ≡ pairs n events ++ (n + length events, e.id) ∷ []
+pub pairs-push : (n : ℕ) (events : List Event) (e : Event) → pairs n (events ++ e ∷ []) ≡ pairs n events ++ (n + length events, e.id) ∷ []
 pairs-push n [] e = let same : n ≡ n + 0 = omega arith in λ i. (same i, e.id) ∷ []
 pairs-push n (f ∷ events) e =
     let same : suc n + length events ≡ n + suc (length events) = omega arith in
     ap (λ ps. (n, f.id) ∷ ps) (pairs-push (suc n) events e ∙ ap (λ m. pairs (suc n) events ++ (m, e.id) ∷ []) same)
 
-above : (n : ℕ) (events : List Event) (p : ℕ × Id) → Among p (pairs n events) → n ≤ p.0
+pub above : (n : ℕ) (events : List Event) (p : ℕ × Id) → Among p (pairs n events) → n ≤ p.0
 above n [] p m = absurd m
 above n (e ∷ events) p m =
     ⊎_elim
@@ -57,12 +57,12 @@ know_kept true ids n e events ps q none rest = (
 know_kept false ids n e events ps q none rest = (none ∙ sym q, rest)
 
 -- the positions of known events are known as their ids are
-know_pairs : (ids : List Id) (n : ℕ) (events : List Event) → KnowAlike nat_eq id_eq (positions_among ids n events) ids (pairs n events)
+pub know_pairs : (ids : List Id) (n : ℕ) (events : List Event) → KnowAlike nat_eq id_eq (positions_among ids n events) ids (pairs n events)
 know_pairs ids n [] = tt
 know_pairs ids n (e ∷ events) =
     know_kept (is_among ids e.id) ids n e events (positions_among ids (suc n) events) refl (none_before ids n (suc n) events (omega arith)) (know_pairs ids (suc n) events)
 
-walked_namesakes : (k : ℕ) (below between later : List Event) → Namesakes nat_eq id_eq (pairs k between) (walked_after k below between later) (applied_after (below ++ between) later)
+pub walked_namesakes : (k : ℕ) (below between later : List Event) → Namesakes nat_eq id_eq (pairs k between) (walked_after k below between later) (applied_after (below ++ between) later)
 walked_namesakes k below between [] = tt
 walked_namesakes k below between (e ∷ later) = (
   refl,
@@ -80,7 +80,7 @@ walks_answer history k good sound critical =
     ∙ cuts_clear history k good sound critical
 
 -- the pairs of names are the positions beside the ids
-names_are : (k : ℕ) (below between later : List Event) → names nat_eq id_eq (pairs k between) (walked_after k below between later) (applied_after (below ++ between) later) ≡ pairs k (between ++ later)
+pub names_are : (k : ℕ) (below between later : List Event) → names nat_eq id_eq (pairs k between) (walked_after k below between later) (applied_after (below ++ between) later) ≡ pairs k (between ++ later)
 names_are k below between [] = ap (pairs k) (sym (append-nil between))
 names_are k below between (e ∷ later) =
     (λ i. names nat_eq id_eq (sym (pairs-push k between e) i) (walked_after k below (between ++ e ∷ []) later) (applied_after (append_assoc below between (e ∷ []) i) later))

@@ -1,5 +1,5 @@
 -- The runs of a history hold its events.
-use Rattle.std.proofs.Common.{◌≡◌, ℕ, zero, suc, ◌+◌, ◌-◌, ◌<◌, Bool, true, false, cond, eqb, ◌&&◌, ◌||◌, inl, inr, List, [], ◌∷◌, ◌++◌, length, flat_map, refl, sym, ap, ◌∙◌, append_assoc, add-zero, arith}
+use Rattle.std.proofs.Common.{◌≡◌, ℕ, zero, suc, ◌+◌, ◌-◌, ◌<◌, Bool, true, false, cond, eqb, ◌&&◌, ◌||◌, inl, inr, List, [], ◌∷◌, ◌++◌, length, flat_map, refl, sym, ap, ◌∙◌, append_assoc, arith}
 use Rattle.std.proofs.lemmas.Bool.{cases_Bool, and_parts, eqb-true, cond-true, cond-false}
 use Rattle.std.proofs.lemmas.List.{length-append}
 use Rattle.ew_model.specs.declared.id.Id.{Id}
@@ -8,7 +8,7 @@ use Rattle.ew_model.specs.declared.event.Op.TheVariants.{Ins, Del, Mark}
 use Rattle.ew_model.specs.declared.event.Event.{Event}
 use Rattle.ew_model.specs.Ids.{name_eq}
 use Rattle.ew_model.specs.Edits.{chain_of, insertions_at, deletions_at}
-use Rattle.ew_model.proofs.EditTexts.{insertions_long, deletions_long}
+use Rattle.ew_model.proofs.EditTexts.{insertions_long, deletions_long, insertions_push}
 use Rattle.ew_model.proofs.IdLaws.{name_exact}
 use Rattle.ew_model.proofs.PathOrder.{id_exact}
 use Rattle.ew_model.proofs.GapLaws.{eq_from}
@@ -38,12 +38,6 @@ ops_long (Insertions at text) = insertions_long at text
 ops_long (Deletions at count) = deletions_long at count
 ops_long (BackDeletions at count) = back_long at count
 ops_long (OneMark label) = refl
-
-insertions_push : (at : ℕ) (text : List ℕ) (ch : ℕ) → insertions_at at (text ++ ch ∷ []) ≡ insertions_at at text ++ Ins (at + length text) ch ∷ []
-insertions_push at [] ch = ap (λ k. Ins k ch ∷ []) (sym (add-zero at))
-insertions_push at (x ∷ text) ch =
-    let next : (at + 1) + length text ≡ at + suc (length text) = omega arith in
-    ap (λ ops. Ins at x ∷ ops) (insertions_push (at + 1) text ch ∙ ap (λ k. insertions_at (at + 1) text ++ Ins k ch ∷ []) next)
 
 deletions_push : (at n : ℕ) → deletions_at at (suc n) ≡ deletions_at at n ++ Del at ∷ []
 deletions_push at zero = refl

@@ -10,7 +10,7 @@ use Rattle.ew_model.specs.Ids.{id_eq, name_eq}
 use Rattle.ew_model.specs.Ancestors.{ids_of, is_held}
 use Rattle.ew_model.specs.Names.{is_name}
 use Rattle.ew_model.specs.Sound.{IsSoundId, IsSoundOp, AreSound}
-use Rattle.ew_model.specs.Edits.{chain_of, insertions_at, deletions_at}
+use Rattle.ew_model.specs.Edits.{chain_of, insertions_at}
 use Rattle.ew_model.specs.Writable.{agents_of, are_writable_after}
 use Rattle.ew_model.proofs.AgentLaws.{agents_push, known_agent}
 use Rattle.ew_model.proofs.EditLaws.{chain_long}
@@ -23,6 +23,7 @@ use Rattle.file_words.proofs.FileRecords.{id_eq_exact, MayFollow}
 use Rattle.file_words.proofs.FileEvents.{ids_push, writable_first, writable_parts}
 use Rattle.file_words.proofs.FileRuns.{steady_some, ops_long}
 use Rattle.file_words.proofs.RunFields.{AreScalars, AreSoundOps}
+use Rattle.ew_model.proofs.EditTexts.{deletions_sound}
 
 -- ---- ids
 
@@ -143,10 +144,6 @@ chain_sound agent n parents (op ∷ ops) name few sound can =
 insertions_sound : (at : ℕ) (text : List ℕ) → at + length text ≤ 2 ^ 32 → AreScalars text → AllByRecursion IsSoundOp (insertions_at at text)
 insertions_sound at [] few scalars = tt
 insertions_sound at (ch ∷ text) few scalars = ((omega (arith, few), sym (scalar_is ch) ∙ scalars.0), insertions_sound (at + 1) text (omega (arith, few)) scalars.1)
-
-deletions_sound : (at n : ℕ) → at < 2 ^ 32 → AllByRecursion IsSoundOp (deletions_at at n)
-deletions_sound at zero few = tt
-deletions_sound at (suc n) few = (few, deletions_sound at n few)
 
 back_sound : (at n : ℕ) → at < 2 ^ 32 → AllByRecursion IsSoundOp (back_deletions_at at n)
 back_sound at zero few = tt

@@ -112,7 +112,7 @@ pub record IsCount (left : ℕ) (x : Id) (kind at count : ℕ) : Type 0 where
   pub numbered : x.seq + count ≤ 2 ^ 32
   pub indices : indices_fit kind at count ≡ true
 
-count_is : (left : ℕ) (x : Id) (kind at count : ℕ) → may_be_count left x kind at count ≡ true → IsCount left x kind at count
+pub count_is : (left : ℕ) (x : Id) (kind at count : ℕ) → may_be_count left x kind at count ≡ true → IsCount left x kind at count
 count_is left x kind at count h =
     let a = ltb (cond (eqb kind 3) 1 0) count in
     let b = leb count left in

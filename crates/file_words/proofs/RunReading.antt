@@ -37,7 +37,7 @@ settings_after (e ∷ events) agents before s sound h =
     let w = writable_parts before e events h in
     subst (IsSetting agents) (append_assoc before (e ∷ []) events) (settings_after events agents (before ++ e ∷ []) (setting_after agents before e s sound.0 w.0) sound.1 w.1)
 
-agent_there : (before : List Event) (e : Event) → list_any (name_eq e.id.agent) (agents_of (before ++ e ∷ [])) ≡ true
+pub agent_there : (before : List Event) (e : Event) → list_any (name_eq e.id.agent) (agents_of (before ++ e ∷ [])) ≡ true
 agent_there before e =
     let used = agents_of before in
     let there = list_any (name_eq e.id.agent) in

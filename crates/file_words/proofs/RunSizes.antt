@@ -1,7 +1,7 @@
 -- No file in runs has more bytes than a file of so many events may have.
-use Rattle.std.proofs.Common.{◌≡◌, ℕ, ◌*◌, ◌≤◌, Bool, true, false, cond, not, ltb, leb, ◌&&◌, List, [], ◌∷◌, ◌++◌, length, fold, flat_map, Option, Some, None, sym, ap, subst, ◌∙◌, arith}
-use Rattle.std.specs.List.{list_any, list_all, position_or_len, AllByRecursion}
-use Rattle.std.proofs.lemmas.Bool.{and_parts, leb-true}
+use Rattle.std.proofs.Common.{◌≡◌, ℕ, ◌*◌, ◌≤◌, Bool, true, false, cond, List, [], ◌∷◌, ◌++◌, length, fold, flat_map, Option, Some, None, sym, ap, subst, ◌∙◌, arith}
+use Rattle.std.specs.List.{list_any, position_or_len, AllByRecursion}
+use Rattle.std.proofs.lemmas.Bool.{leb-true}
 use Rattle.std.proofs.lemmas.List.{length-append}
 use Rattle.sha2.specs.Sha256.{sha256}
 use Rattle.sha2.proofs.Facts256.{length-sha256}
@@ -9,7 +9,6 @@ use Rattle.ew_model.specs.declared.id.Id.{Id}
 use Rattle.ew_model.specs.declared.event.Event.{Event}
 use Rattle.ew_model.specs.Ancestors.{ids_of}
 use Rattle.ew_model.specs.Ids.{id_eq, name_eq}
-use Rattle.ew_model.specs.Names.{is_name, is_name_byte, begins_with_dash}
 use Rattle.ew_model.specs.Sound.{AreSound}
 use Rattle.ew_model.specs.Bytes.{four_bytes, name_bytes}
 use Rattle.ew_model.specs.Writable.{with_agent, agents_of, are_writable_after}
@@ -25,14 +24,9 @@ use Rattle.file_words.proofs.RunFields.{AreSoundOps}
 use Rattle.file_words.proofs.RunEvents.{run_count, run_back, run_sound_back}
 use Rattle.file_words.proofs.RunReading.{events_in, AreBehind, behind_parts, sound_front, sound_behind}
 use Rattle.file_words.proofs.VersionReading.{content2_is}
+use Rattle.ew_model.proofs.NameLaws.{name_short}
 
 -- ---- names
-
-name_short : (name : List ℕ) → is_name name ≡ true → length name ≤ 32
-name_short name good =
-    let few = ltb 0 (length name) && leb (length name) 32 in
-    let parts = and_parts (ltb 0 (length name)) (leb (length name) 32) (and_parts few (list_all is_name_byte name) (and_parts (few && list_all is_name_byte name) (not (begins_with_dash name)) good).0).0 in
-    leb-true (length name) 32 parts.1
 
 abbrev AreShort : List (List ℕ) → Type 0
 AreShort names = AllByRecursion (λ name. length name ≤ 32) names

@@ -133,23 +133,23 @@ text_long : (first names count rest : List ℕ) → length first ≡ 4 → lengt
 text_long first names count rest four_first four_count =
     omega (arith, length-append first (names ++ (count ++ rest)), length-append names (count ++ rest), length-append count rest, four_first, four_count)
 
-again_1 : (most : ℕ) (events : List Event) → AreSound events → IsWritable events → length events ≤ most → file_found most (file_of events) ≡ IsFile events
+plain_file_again : (most : ℕ) (events : List Event) → AreSound events → IsWritable events → length events ≤ most → file_found most (file_of events) ≡ IsFile events
 unfolding file_of
-again_1 most events sound writable few =
+plain_file_again most events sound writable few =
     found_again most events 1 (file_content events) (events_text events) refl (content_is events)
     (text_long (four_bytes (length (agents_of events))) (flat_map name_bytes (agents_of events)) (four_bytes (length events)) _ refl refl)
     (events_again most events sound writable few)
 
-again_2 : (most : ℕ) (events : List Event) → AreSound events → IsWritable events → length events ≤ most → file_found most (file2_of events) ≡ IsFile events
+pub run_file_again : (most : ℕ) (events : List Event) → AreSound events → IsWritable events → length events ≤ most → file_found most (file2_of events) ≡ IsFile events
 unfolding file2_of
-again_2 most events sound writable few =
+run_file_again most events sound writable few =
     found_again most events 2 (file2_content events) (run_events_text events) refl (content2_is events)
     (text_long (four_bytes (length (agents_of events))) (flat_map name_bytes (agents_of events)) (four_bytes (length events)) _ refl refl)
     (run_events_again most events sound writable few)
 
 given : (most : ℕ) (bytes : List ℕ) (events : List Event) → IsFileOf most events bytes ⊎ IsRunFileOf most events bytes → file_found most bytes ≡ IsFile events
-given most bytes events (inl f) = ap (file_found most) f.spelled ∙ again_1 most events f.sound f.writable f.few
-given most bytes events (inr f) = ap (file_found most) f.spelled ∙ again_2 most events f.sound f.writable f.few
+given most bytes events (inl f) = ap (file_found most) f.spelled ∙ plain_file_again most events f.sound f.writable f.few
+given most bytes events (inr f) = ap (file_found most) f.spelled ∙ run_file_again most events f.sound f.writable f.few
 
 pub both_versions_read : BothVersionsAreRead
 both_versions_read most bytes events fits = (λ e. taken most bytes events fits e, λ f. given most bytes events f)
@@ -157,7 +157,7 @@ both_versions_read most bytes events fits = (λ e. taken most bytes events fits 
 pub run_files_differ : RunFilesDiffer
 run_files_differ xs ys sound_xs sound_ys writable_xs writable_ys e =
     let most = 2 ^ 32 in
-    file_is xs ys (sym (again_2 most xs sound_xs writable_xs (omega (arith, writable_xs.few))) ∙ ap (file_found most) e ∙ again_2 most ys sound_ys writable_ys (omega (arith, writable_ys.few)))
+    file_is xs ys (sym (run_file_again most xs sound_xs writable_xs (omega (arith, writable_xs.few))) ∙ ap (file_found most) e ∙ run_file_again most ys sound_ys writable_ys (omega (arith, writable_ys.few)))
 
 -- ---- version 1 alone
 

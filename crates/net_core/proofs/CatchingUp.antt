@@ -4,13 +4,13 @@ use Rattle.std.proofs.lemmas.Bool.{cases_Bool, cond-true, false≢true}
 use Rattle.ew_model.specs.declared.event.Event.{Event}
 use Rattle.ew_model.specs.declared.id.Id.{Id}
 use Rattle.ew_model.specs.Ancestors.{is_held}
-use Rattle.ew_model.specs.Arrival.{Desk, Judgement, arrive, desk_of, is_ready, judge_coming, judge_ready, judgements, most_judgements, next_judgement}
+use Rattle.ew_model.specs.Arrival.{Desk, Judgement, arrive, desk_of, is_ready, judgements, most_judgements, next_judgement}
 use Rattle.ew_model.specs.ArrivalLaw.{NoneReady}
 use Rattle.ew_model.specs.Ids.{id_eq}
 use Rattle.ew_model.specs.Limits.{LimitNumbers}
 use Rattle.ew_model.specs.Sets.{Among}
 use Rattle.ew_model.specs.Verdicts.Ruling.{GraphFull}
-use Rattle.ew_model.proofs.ArrivalLaws.{judgements_end, next_less}
+use Rattle.ew_model.proofs.ArrivalLaws.{judgements_end, next_less, nothing_left}
 use Rattle.ew_model.proofs.CoverLaws.{ids_within, pass_all}
 use Rattle.ew_model.proofs.RoundLaws.{then}
 use Rattle.ew_model.proofs.RulingLaws.{ready_more}
@@ -32,15 +32,10 @@ abbrev IsCaught : Desk → Event → Type 0
 IsCaught d e = Among e d.held ⊎ (Among e d.waiting × (is_ready d.held e ≡ true))
 
 -- nothing is left to judge
-both_none : (limits : LimitNumbers) (d : Desk) (o : Option Event) (coming : List Event) → d.coming ≡ coming → judge_ready limits true d o ≡ None → (o ≡ None) × (d.coming ≡ [])
-both_none limits d None [] is h = (refl, is)
-both_none limits d None (x ∷ coming) is h = let none : judge_coming limits true d (x ∷ coming) ≡ None = ap (judge_coming limits true d) (sym is) ∙ h in absurd cc
-both_none limits d (Some x) coming is h = absurd cc
-
 none_left : (limits : LimitNumbers) (d : Desk) → next_judgement limits true d ≡ None → (d.coming ≡ []) × (d.is_settling ≡ true → NoneReady d.held d.waiting)
 unfolding next_judgement
 none_left limits d h =
-    let parts = both_none limits d (cond d.is_settling (find (is_ready d.held) d.waiting) None) d.coming refl h in
+    let parts = nothing_left limits d (cond d.is_settling (find (is_ready d.held) d.waiting) None) d.coming refl h in
     (parts.1, λ settling. find_none (is_ready d.held) d.waiting (sym (cond-true _ _ _ settling) ∙ parts.0))
 
 -- the known events are held where none that waits is ready

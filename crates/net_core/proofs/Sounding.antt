@@ -19,7 +19,7 @@ use Rattle.ew_model.specs.Sound.{AreSound, IsSound, IsSoundId, IsSoundOp}
 use Rattle.ew_model.proofs.CoverLaws.{event_of}
 use Rattle.ew_model.proofs.EditHeads.{head_held}
 use Rattle.ew_model.proofs.EditLaws.{edits_are_good}
-use Rattle.ew_model.proofs.EditTexts.{deletions_long, insertions_long}
+use Rattle.ew_model.proofs.EditTexts.{deletions_long, insertions_long, deletions_sound}
 use Rattle.ew_model.proofs.EntryLaws.{all_joined}
 use Rattle.ew_model.proofs.IdLaws.{is_same_id}
 use Rattle.ew_model.proofs.MarkEvents.{joins_long}
@@ -43,10 +43,6 @@ ins_sound at (ch ∷ text) few scalars = let parts = and_parts _ (all_scalars te
   ins_sound
       (at + 1) text (omega (arith, few)) parts.1,
 )
-
-del_sound : (at n : ℕ) → at < 2 ^ 32 → AllByRecursion IsSoundOp (deletions_at at n)
-del_sound at zero few = tt
-del_sound at (suc n) few = (few, del_sound at n few)
 
 -- the heads are ids of events that are held
 heads_sound : (history : List Event) → AreSound history → AllByRecursion IsSoundId (sort_by id_cmp (heads history))
@@ -113,7 +109,7 @@ module _ (limits : LimitNumbers) (held waiting : List Event) (agent : List ℕ) 
       ops_made (insertions_at at text) (let long = insertions_long at text in omega (arith, small.1, long)) (ins_sound at text (omega (arith, small.0, small.1)) can)
   made_sound (edits.Edit.Delete at n) can none =
       let small = edit_is_small limits held waiting agent (edits.Edit.Delete at n) kept are.few_events none in
-      ops_made (deletions_at at n) (let long = deletions_long at n in omega (arith, small.1, long)) (del_sound at n (omega (arith, small.0)))
+      ops_made (deletions_at at n) (let long = deletions_long at n in omega (arith, small.1, long)) (deletions_sound at n (omega (arith, small.0)))
   made_sound (edits.Edit.Mark label) can none =
       let room = (edits_are_good limits held agent (edits.Edit.Mark label) kept.orderly.good kept.few none).1 in
       mark_made label can (omega (arith, room, are.few_events))

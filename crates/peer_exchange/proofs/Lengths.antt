@@ -4,13 +4,11 @@ use Rattle.std.specs.List.{AllByRecursion}
 use Rattle.std.proofs.lemmas.List.{length-append, length-take}
 use Rattle.std.proofs.Math.Nat.{div-mul-le_self}
 use Rattle.ew_model.specs.declared.id.Id.{Id}
-use Rattle.ew_model.specs.declared.event.Op.{Op}
-use Rattle.ew_model.specs.declared.event.Op.TheVariants.{Ins, Del, Mark}
 use Rattle.ew_model.specs.declared.event.Event.{Event}
 use Rattle.ew_model.specs.Bytes.{four_bytes, name_bytes, op_bytes}
 use Rattle.ew_model.specs.Kept.{ReplicaState}
 use Rattle.ew_model.specs.Limits.{LimitNumbers, AreLimits}
-use Rattle.ew_model.specs.Sound.{IsSoundId, IsSoundOp, IsSound, AreSound}
+use Rattle.ew_model.specs.Sound.{IsSoundId, IsSound, AreSound}
 use Rattle.ew_model.specs.Verdicts.{IsGoodAfter, IsGood}
 use Rattle.ew_model.proofs.GoodLaws.{next_from_good}
 use Rattle.ew_model.proofs.SortingLaws.{all_filter}
@@ -21,10 +19,11 @@ use Rattle.peer_definitions.specs.declared.frame.Frame.{Frame}
 use Rattle.peer_definitions.specs.declared.frame.Frame.TheVariants.{Have, Events, Done, Took, Clash, Bye}
 use Rattle.peer_frames.specs.Laws.{IsTaken}
 use Rattle.peer_definitions.specs.Spelling.{AgentCount, id_bytes, event_bytes, count_bytes, events_body, body_of, names_ascend, IsSoundCount, IsSoundFrame}
-use Rattle.peer_frames.proofs.ShortNames.{four_long, id_short, ids_short, name_short, op_short}
+use Rattle.peer_frames.proofs.ShortNames.{four_long, id_short, ids_short, op_short}
 use Rattle.peer_definitions.specs.Answering.{question, frame_for}
 use Rattle.peer_definitions.specs.Pieces.{frame_room, pieces_from, pieces}
 use Rattle.peer_exchange.proofs.Ascending.{summary_up, summary_some, summary_few}
+use Rattle.ew_model.proofs.NameLaws.{name_short}
 
 -- no event with at most 16 parents has more bytes than this
 event_short : (e : Event) → IsSound e → length e.parents ≤ 16 → length (event_bytes e) ≤ 664

@@ -1,22 +1,15 @@
 -- How long names, ids, operations and events are in bytes.
-use Rattle.std.proofs.Common.{◌≡◌, ℕ, ◌*◌, ◌<◌, ◌≤◌, nat_le, nat_lt, not, true, ◌&&◌, List, [], ◌∷◌, ◌++◌, length, flat_map, refl, arith}
-use Rattle.std.specs.List.{list_all, AllByRecursion}
-use Rattle.std.proofs.lemmas.Bool.{and_parts, leb-true}
+use Rattle.std.proofs.Common.{◌≡◌, ℕ, ◌*◌, ◌<◌, ◌≤◌, List, [], ◌∷◌, length, flat_map, refl, arith}
+use Rattle.std.specs.List.{AllByRecursion}
 use Rattle.std.proofs.lemmas.List.{length-append}
 use Rattle.ew_model.specs.declared.id.Id.{Id}
 use Rattle.ew_model.specs.declared.event.Op.{Op}
 use Rattle.ew_model.specs.declared.event.Op.TheVariants.{Ins, Del, Mark}
 use Rattle.ew_model.specs.declared.event.Event.{Event}
 use Rattle.ew_model.specs.Bytes.{four_bytes, name_bytes, op_bytes}
-use Rattle.ew_model.specs.Names.{is_name, is_name_byte, begins_with_dash}
 use Rattle.ew_model.specs.Sound.{IsSoundId, IsSoundOp}
 use Rattle.peer_definitions.specs.Spelling.{id_bytes, event_bytes}
-
-pub name_short : (name : List ℕ) → is_name name ≡ true → length name ≤ 32
-name_short name h =
-    let sizes = nat_lt 0 (length name) && nat_le (length name) 32 in
-    let letters = list_all is_name_byte name in
-    leb-true (length name) 32 (and_parts (nat_lt 0 (length name)) (nat_le (length name) 32) (and_parts sizes letters (and_parts (sizes && letters) (not (begins_with_dash name)) h).0).0).1
+use Rattle.ew_model.proofs.NameLaws.{name_short}
 
 pub four_long : (n : ℕ) → length (four_bytes n) ≡ 4
 four_long n = refl

@@ -1,22 +1,17 @@
 -- The operations of an edit, one more after another.
-use Rattle.std.proofs.Common.{◌≡◌, ℕ, zero, suc, ◌+◌, ◌-◌, ◌<◌, List, [], ◌∷◌, ◌++◌, length, take, replicate, get_or, refl, sym, ap, ◌∙◌, add-zero, arith}
+use Rattle.std.proofs.Common.{◌≡◌, ℕ, zero, suc, ◌+◌, ◌-◌, ◌<◌, List, [], ◌∷◌, ◌++◌, length, take, replicate, get_or, refl, sym, ap, ◌∙◌, arith}
 use Rattle.std.proofs.lemmas.List.{take_more, length-take-le}
 use Rattle.ew_model.specs.declared.event.Op.{Op}
 use Rattle.ew_model.specs.declared.event.Op.TheVariants.{Ins, Del}
 use Rattle.ew_model.specs.Edits.{insertions_at, deletions_at}
-
-insertions_at-push : (at : ℕ) (text : List ℕ) (ch : ℕ) → insertions_at at (text ++ ch ∷ []) ≡ insertions_at at text ++ Ins (at + length text) ch ∷ []
-insertions_at-push at [] ch = ap (λ k. Ins k ch ∷ []) (sym (add-zero at))
-insertions_at-push at (x ∷ text) ch =
-    let next : (at + 1) + length text ≡ at + suc (length text) = omega arith in
-    ap (λ ops. Ins at x ∷ ops) (insertions_at-push (at + 1) text ch ∙ ap (λ k. insertions_at (at + 1) text ++ Ins k ch ∷ []) next)
+use Rattle.ew_model.proofs.EditTexts.{insertions_push}
 
 -- one more character gives one more insertion
 pub insertions_more : (at : ℕ) (text : List ℕ) (i ch : ℕ) → i < length text → ch ≡ get_or text i 0 → insertions_at at (take i text) ++ Ins (at + i) ch ∷ [] ≡ insertions_at at (take (i + 1) text)
 insertions_more at text i ch within is =
     sym (
     ap (insertions_at at) (take_more text i 0 within ∙ ap (λ c. take i text ++ c ∷ []) (sym is))
-    ∙ insertions_at-push at (take i text) ch
+    ∙ insertions_push at (take i text) ch
     ∙ ap (λ k. insertions_at at (take i text) ++ Ins (at + k) ch ∷ []) (length-take-le i text (omega arith)))
 
 deletions_alike : (at n : ℕ) → deletions_at at n ≡ replicate n (Del at)

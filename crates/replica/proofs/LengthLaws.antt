@@ -7,11 +7,12 @@ use Rattle.ew_model.specs.Ids.{id_eq}
 use Rattle.ew_model.specs.Tree.{Noted, Applied, grow, applied, applied_after}
 use Rattle.ew_model.specs.Operations.{next_operation, operations_after, operations_of, operations, changed_by, changed_by_all}
 use Rattle.ew_model.specs.Texts.{text_of}
-use Rattle.ew_model.specs.Verdicts.{IsGoodAfter, IsGood}
+use Rattle.ew_model.specs.Verdicts.{IsGood}
 use Rattle.ew_model.proofs.GoodLaws.{operations_make_text}
 use Rattle.ew_model.proofs.TextLengths.{length_operations}
 use Rattle.replica.specs.Lengths.{lengths_after, prefix_lengths, lengths_through}
 use Rattle.replica.proofs.Beginnings.{no_text}
+use Rattle.transform.proofs.WholeWalks.{front_good}
 
 -- the lengths after events in two parts
 lengths_after-append : (before xs ys : List Event) → lengths_after before (xs ++ ys) ≡ lengths_after before xs ++ lengths_after (before ++ xs) ys
@@ -67,16 +68,6 @@ lengths_alike before text (e ∷ events) (op ∷ ops) h =
     } in
     λ i. length (sym first i) ∷ lengths_alike (before ++ e ∷ []) (changed_by op text) events ops more i
 
--- the front of a good history is good
-good_front : (held events : List Event) (n : ℕ) → IsGoodAfter held events → IsGoodAfter held (take n events)
-good_front held events zero h = tt
-good_front held [] (suc n) h = tt
-good_front held (e ∷ events) (suc n) h = (h.0, good_front (held ++ e ∷ []) events n h.1)
-
-pub front_is_good : (history : List Event) (n : ℕ) → IsGood history → IsGood (take n history)
-unfolding IsGood
-front_is_good history n good = good_front [] history n good
-
 -- and its operations are the first of all
 applied_front : (before events : List Event) (n : ℕ) → applied_after before (take n events) ≡ take n (applied_after before events)
 applied_front before events zero = refl
@@ -95,7 +86,7 @@ operations_front history n = ap (operations_after id_eq 0 []) (applied_front [] 
 history_leads : (history : List Event) → IsGood history → LeadAlike [] [] history (operations history)
 history_leads history good = record {
   long = sym (length_operations history);
-  texts = λ n. operations_make_text (take n history) (front_is_good history n good) ∙ ap (λ ops. changed_by_all ops []) (operations_front history n);
+  texts = λ n. operations_make_text (take n history) (front_good history n good) ∙ ap (λ ops. changed_by_all ops []) (operations_front history n);
 }
 
 -- the lengths that the operations of a good history lead through are those of its fronts

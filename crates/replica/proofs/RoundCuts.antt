@@ -16,8 +16,9 @@ use Rattle.replica.specs.Counting.{Counted}
 use Rattle.replica.specs.Desks.{LeadsToEnd}
 use Rattle.replica.specs.Fronts.{IsFront}
 use Rattle.replica.specs.Lengths.{prefix_lengths}
-use Rattle.replica.proofs.LengthLaws.{front_is_good, length-prefix_lengths}
+use Rattle.replica.proofs.LengthLaws.{length-prefix_lengths}
 use Rattle.replica.proofs.RoundWays.{round_is}
+use Rattle.transform.proofs.WholeWalks.{front_good}
 
 -- What was held before a round, and what is held when all is judged: the round begins its walk at this cut.
 pub record BeginsAt (held graph : List Event) (cut : ℕ) : Type 0 where
@@ -34,7 +35,7 @@ begins_at held graph count cut good front all is =
     record {
       critical = ap (is_critical graph) is ∙ latest_critical graph count;
       below = within;
-      good = subst IsGood (sym same) (front_is_good held cut good);
+      good = subst IsGood (sym same) (front_good held cut good);
       text = sym same;
     }
 

@@ -12,7 +12,8 @@ use Rattle.fugue_place.specs.Attachments.{node_eq, is_attached, is_there, AreAtt
 use Rattle.fugue_place.specs.Neighbours.{is_child, side_eq}
 use Rattle.fugue_place.proofs.NodeLaws.{node_same, node_itself}
 use Rattle.right_children.specs.Rights.{one_if, Counted, parent_of, known_right, right_parent, AreRights, Shifts, MayShift}
-use Rattle.right_children.proofs.RightCounts.{count-append, count_moved, count_unmoved, count_same, count_has, count-cons, any_counted, not_there}
+use Rattle.right_children.proofs.RightCounts.{count_moved, count_unmoved, count_same, count_has, count-cons, any_counted, not_there}
+use Rattle.ew_model.proofs.ListTests.{count-append}
 
 -- the attached child whose node it is
 pub attached_as : (xs : List Attached) (v : Node) → is_attached xs v ≡ true → (a : Attached) × Among a xs × (a.node ≡ v)

@@ -1,5 +1,5 @@
 -- Numbers in a script: which words spell one.
-use Rattle.std.proofs.Common.{◌≡◌, ◌≢◌, ℕ, ◌<◌, ◌≤◌, ◌^◌, ◌⊎◌, inl, inr, List, [], ◌∷◌, length, get_or, Result, Ok, Err, Option, Some, None, IfSome, IfNone, MatchResult, Bor, sym, ap, subst, ◌∙◌, arith}
+use Rattle.std.proofs.Common.{◌≡◌, ◌≢◌, ℕ, ◌<◌, ◌≤◌, ◌^◌, ◌⊎◌, inl, inr, List, [], ◌∷◌, length, get_or, Result, Ok, Err, Some, None, IfSome, IfNone, MatchResult, Bor, sym, ap, subst, ◌∙◌, arith}
 use Rattle.std.specs.Fmt.{decimal}
 use Rattle.std.specs.Result.{result_ok}
 use Rattle.std.specs.Str.{IsUtf8}
@@ -82,7 +82,3 @@ module _ {E : Type 0} (word : List ℕ) where
   pub unparsed : (r : Result ℕ E) → ParsesUnsigned 32 10 word r → IfNone (result_ok r) (SpellsNone word)
   unparsed (Ok n) h = tt
   unparsed (Err x) h = λ n small e. failed x n (parse-decimal 32 n word (Err x) small (is_wide n small) (sym e) h)
-
-pub if_none : {X : Type 0} (found : Option X) (P : Type 0) → P → IfNone found P
-if_none None P p = p
-if_none (Some x) P p = tt

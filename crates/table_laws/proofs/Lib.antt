@@ -4,5 +4,4 @@ pub mod Joined
 pub mod MergedFiles
 pub mod Merges
 pub mod Pasts
-pub mod RunFiles
 pub mod Upgrades

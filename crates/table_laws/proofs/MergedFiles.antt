@@ -25,7 +25,7 @@ use Rattle.ew_model.proofs.IdLaws.{names_equal}
 use Rattle.ew_model.proofs.FirstBadLaws.{good_has_no_bad}
 use Rattle.file_words.proofs.FileReading.{file_is}
 use Rattle.file_words.proofs.RunSizes.{run_files_short}
-use Rattle.file_words.proofs.VersionReading.{both_versions_read}
+use Rattle.file_words.proofs.VersionReading.{both_versions_read, run_file_again}
 use Rattle.ew_model.proofs.LimitsKept.{arrivals_keep}
 use Rattle.ew_model.proofs.WritableLaws.{good_is_writable}
 use Rattle.ew_outside.specs.Files.{Files}
@@ -37,7 +37,6 @@ use Rattle.command_table.specs.Table.{Text, Reply, prints, stores, refuses, Open
 use Rattle.command_table.specs.Refusals.{too_many_events, refusal_status}
 use Rattle.ew_model.proofs.MergeByAnswers.{merge_unless_clash}
 use Rattle.table_laws.proofs.Merges.{none_ends, appended_none}
-use Rattle.table_laws.proofs.RunFiles.{run_file_again}
 use Rattle.replica.proofs.Beginnings.{good_from_none_bad}
 use Rattle.ew_model.proofs.ListPlaces.{some_is}
 

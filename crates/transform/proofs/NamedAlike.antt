@@ -1,86 +1,22 @@
 -- A walk over a whole history leaves the entries of the history, under the events' positions.
-use Rattle.std.proofs.Common.{◌≡◌, ℕ, zero, suc, ◌+◌, ◌<◌, ◌≤◌, nat_eq, Bool, true, false, cond, ◌||◌, inl, inr, ⊎_elim, List, [], ◌∷◌, ◌++◌, length, map, Some, refl, sym, ap, ◌∙◌, subst, append_assoc, append-nil, arith, eq-eqb, ne_eqb}
+use Rattle.std.proofs.Common.{◌≡◌, ℕ, zero, suc, ◌+◌, ◌<◌, ◌≤◌, nat_eq, true, false, inl, inr, ⊎_elim, List, [], ◌∷◌, ◌++◌, length, map, Some, refl, sym, ap, ◌∙◌, subst, arith}
 use Rattle.std.specs.Prelude.{slice_get}
-use Rattle.std.specs.List.{list_any, AllZip}
+use Rattle.std.specs.List.{AllZip}
 use Rattle.std.proofs.lemmas.Bool.{false≢true}
 use Rattle.ew_model.specs.declared.id.Id.{Id}
 use Rattle.ew_model.specs.declared.event.Op.{Op}
 use Rattle.ew_model.specs.declared.event.Op.TheVariants.{Ins, Del, Mark}
 use Rattle.ew_model.specs.declared.event.Event.{Event}
 use Rattle.ew_model.specs.Sets.{Among}
-use Rattle.ew_model.specs.Ids.{id_eq, is_among}
-use Rattle.ew_model.specs.Ancestors.{ids_of, ancestors}
-use Rattle.ew_model.specs.Entries.{Entry}
+use Rattle.ew_model.specs.Ids.{id_eq}
+use Rattle.ew_model.specs.Ancestors.{ids_of}
 use Rattle.ew_model.specs.Records.{inserts_as}
 use Rattle.ew_model.specs.Tree.{Applied, Noted, act_by, tree, tree_on, tree_of, applied_after}
-use Rattle.ew_model.specs.Walks.{positions_among, walked_after, walked_from}
-use Rattle.ew_model.proofs.SortingLaws.{all_at, all_from}
-use Rattle.ew_model.proofs.RenameLaws.{KnowAlike, Namesakes, SameNote, names, renamed_notes}
+use Rattle.ew_model.specs.Walks.{walked_after, walked_from}
+use Rattle.ew_model.proofs.RenameLaws.{SameNote, names, renamed_notes}
 use Rattle.ew_model.proofs.RunLaws.{id_same}
 use Rattle.transform.proofs.WalkedEvents.{long}
-
--- positions, from n on, beside the ids of the events
-abbrev pub pairs : ℕ → List Event → List (ℕ × Id)
-pairs n [] = []
-pairs n (e ∷ events) = (n, e.id) ∷ pairs (suc n) events
-
-pairs-push : (n : ℕ) (events : List Event) (e : Event) → pairs n (events ++ e ∷ []) ≡ pairs n events ++ (n + length events, e.id) ∷ []
-pairs-push n [] e = let same : n ≡ n + 0 = omega arith in λ i. (same i, e.id) ∷ []
-pairs-push n (f ∷ events) e =
-    let same : suc n + length events ≡ n + suc (length events) = omega arith in
-    ap (λ ps. (n, f.id) ∷ ps) (pairs-push (suc n) events e ∙ ap (λ m. pairs (suc n) events ++ (m, e.id) ∷ []) same)
-
-above : (n : ℕ) (events : List Event) (p : ℕ × Id) → Among p (pairs n events) → n ≤ p.0
-above n [] p m = absurd m
-above n (e ∷ events) p m =
-    ⊎_elim
-    (λ first. let same : p.0 ≡ n = ap (λ (q : ℕ × Id). q.0) first in omega (arith, same))
-    (λ rest. let more : suc n ≤ p.0 = above (suc n) events p rest in omega (arith, more))
-    m
-
-none_kept : (b : Bool) (m n : ℕ) (ps : List ℕ) → m < n → list_any (nat_eq m) ps ≡ false → list_any (nat_eq m) (cond b (n ∷ ps) ps) ≡ false
-none_kept true m n ps h rest = ap (λ c. c || list_any (nat_eq m) ps) (ne_eqb m n (λ same. omega (arith, h, same))) ∙ rest
-none_kept false m n ps h rest = rest
-
--- no position before n is among them
-none_before : (ids : List Id) (m n : ℕ) (events : List Event) → m < n → list_any (nat_eq m) (positions_among ids n events) ≡ false
-none_before ids m n [] h = refl
-none_before ids m n (e ∷ events) h = none_kept (is_among ids e.id) m n (positions_among ids (suc n) events) h (none_before ids m (suc n) events (omega (arith, h)))
-
-know_kept : (b : Bool) (ids : List Id) (n : ℕ) (e : Event) (events : List Event) (ps : List ℕ) → is_among ids e.id ≡ b → list_any (nat_eq n) ps ≡ false → KnowAlike nat_eq id_eq ps ids (pairs (suc n) events) → KnowAlike nat_eq id_eq (cond b (n ∷ ps) ps) ids (pairs n (e ∷ events))
-know_kept true ids n e events ps q none rest = (
-  ap (λ c. c || list_any (nat_eq n) ps) (eq-eqb n n refl) ∙ sym q,
-  all_from (λ (p : ℕ × Id). list_any (nat_eq p.0) (n ∷ ps) ≡ is_among ids p.1) (pairs (suc n) events)
-      (λ p m.
-      let far : suc n ≤ p.0 = above (suc n) events p m in
-      ap (λ c. c || list_any (nat_eq p.0) ps) (ne_eqb p.0 n (λ same. omega (arith, far, same)))
-      ∙ all_at (λ (p : ℕ × Id). list_any (nat_eq p.0) ps ≡ is_among ids p.1) (pairs (suc n) events) p rest m),
-)
-know_kept false ids n e events ps q none rest = (none ∙ sym q, rest)
-
--- the positions of known events are known as their ids are
-know_pairs : (ids : List Id) (n : ℕ) (events : List Event) → KnowAlike nat_eq id_eq (positions_among ids n events) ids (pairs n events)
-know_pairs ids n [] = tt
-know_pairs ids n (e ∷ events) =
-    know_kept (is_among ids e.id) ids n e events (positions_among ids (suc n) events) refl (none_before ids n (suc n) events (omega arith)) (know_pairs ids (suc n) events)
-
-walked_namesakes : (k : ℕ) (below between later : List Event) → Namesakes nat_eq id_eq (pairs k between) (walked_after k below between later) (applied_after (below ++ between) later)
-walked_namesakes k below between [] = tt
-walked_namesakes k below between (e ∷ later) = (
-  refl,
-  know_pairs (ancestors (below ++ between) e.parents) k between,
-  subst (λ seen. Namesakes nat_eq id_eq seen (walked_after k below (between ++ e ∷ []) later) (applied_after ((below ++ between) ++ e ∷ []) later)) (pairs-push k between e)
-      (subst (λ w. Namesakes nat_eq id_eq (pairs k (between ++ e ∷ [])) (walked_after k below (between ++ e ∷ []) later) (applied_after w later)) (sym (append_assoc below between (e ∷ [])))
-      (walked_namesakes k below (between ++ e ∷ []) later)),
-)
-
--- the pairs of names are the positions beside the ids
-names_are : (k : ℕ) (below between later : List Event) → names nat_eq id_eq (pairs k between) (walked_after k below between later) (applied_after (below ++ between) later) ≡ pairs k (between ++ later)
-names_are k below between [] = ap (pairs k) (sym (append-nil between))
-names_are k below between (e ∷ later) =
-    (λ i. names nat_eq id_eq (sym (pairs-push k between e) i) (walked_after k below (between ++ e ∷ []) later) (applied_after (append_assoc below between (e ∷ []) i) later))
-    ∙ names_are k below (between ++ e ∷ []) later
-    ∙ ap (pairs k) (append_assoc between (e ∷ []) later)
+use Rattle.ew_model.proofs.WalkLaws.{pairs, above, walked_namesakes, names_are}
 
 -- THE NOTES
 -- the notes of a walk over a whole history are those of the history, each under the position of its event

@@ -1,16 +1,13 @@
 -- Where the characters of a whole history stand, by the state of a walk that forgot nothing.
 use Rattle.std.proofs.Common.{◌≡◌, ℕ, suc, ◌+◌, ◌<◌, nat_eq, List, [], ◌∷◌, ◌++◌, length, map, take, Option, Some, None, IfSome, IfNone, option_map, inl, inr, refl, sym, ap, ◌∙◌, subst, append-nil, arith}
 use Rattle.std.specs.Prelude.{slice_get}
-use Rattle.std.specs.List.{AllZip}
 use Rattle.std.proofs.lemmas.List.{length-map, map-append, take_all}
 use Rattle.std.proofs.lemmas.List.Elements.{filter_map-append}
 use Rattle.std.proofs.lemmas.Option.{slice_get-map}
 use Rattle.ew_model.specs.declared.id.Id.{Id}
 use Rattle.ew_model.specs.declared.event.Event.{Event}
-use Rattle.ew_model.specs.declared.node.Node.{Node}
 use Rattle.ew_model.specs.declared.node.Node.TheVariants.{Event as event}
 use Rattle.ew_model.specs.Sets.{Among}
-use Rattle.ew_model.specs.Ids.{id_eq}
 use Rattle.ew_model.specs.Ancestors.{ids_of}
 use Rattle.ew_model.specs.Entries.{Inserted, Entry, insertions, order}
 use Rattle.ew_model.specs.Entries.Entry.{Insertion, Deletion, Mark}
@@ -20,7 +17,6 @@ use Rattle.ew_model.specs.Walks.{walked_from}
 use Rattle.ew_model.proofs.ListParts.{element_there, take_next}
 use Rattle.ew_model.proofs.PrefixLaws.{ordered_among}
 use Rattle.ew_model.proofs.OperationLaws.{got}
-use Rattle.ew_model.proofs.RenameLaws.{SameNote}
 use Rattle.ew_model.proofs.RunLaws.{Fits}
 use Rattle.advance_retreat.specs.Kept.{Kept}
 use Rattle.advance_retreat.specs.Placing.{AreInOrder, DeletesOf, IsNoDeletion}
@@ -30,10 +26,9 @@ use Rattle.advance_retreat.proofs.Keeping.{notes, grown}
 use Rattle.advance_retreat.proofs.Nodes.{IsOfTree, about_char, same_event, same_name}
 use Rattle.advance_retreat.proofs.Placing.{char_event}
 use Rattle.transform.specs.Placing.{order_ids, AreAt, deletion_by, deletions_in, ids_at, ArePairsAt, AreTargets, with_target}
-use Rattle.transform.proofs.NamedAlike.{pairs, same_notes, same_entries, notes_at, paired_at, applied_of, own_id, name_at, walked_long}
-
-some_same : {X : Type 0} (x y : X) → Some x ≡ Some y → x ≡ y
-some_same x y e = cc
+use Rattle.transform.proofs.NamedAlike.{same_notes, same_entries, notes_at, paired_at, applied_of, own_id, name_at, walked_long}
+use Rattle.ew_model.proofs.WalkLaws.{pairs}
+use Rattle.ew_model.proofs.ListPlaces.{some_is}
 
 -- the pairs are those of the events before a position
 abbrev pub AreFirst : List Event → ℕ → List (ℕ × ℕ) → Type 0
@@ -111,7 +106,7 @@ module _ (history : List Event) (s : Kept) (prepared : List ℕ) (st : StandsFor
       let name : Some n.0.name ≡ Some p =
       sym (slice_get-map (λ (m : Noted ℕ). m.name) ns p ∙ ap (option_map (λ (m : Noted ℕ). m.name)) n.1)
       ∙ ap (λ (xs : List ℕ). slice_get xs p) st.placed ∙ name_at history p within in
-      let named : n.0.name ≡ p = some_same n.0.name p name in
+      let named : n.0.name ≡ p = some_is n.0.name p name in
       let m = notes_at (pairs 0 history) ns ms p n.0 (same_notes history) n.1 in
       record {
         by_position = n.0;

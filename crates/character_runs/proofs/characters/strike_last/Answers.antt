@@ -6,10 +6,10 @@ use Rattle.character_runs.specs.declared.cursor.Struck.{Struck}
 use Rattle.character_runs.specs.Cursors.{GaveEnd, last_of, shorter, with_end}
 use Rattle.character_runs.specs.States.{changed_at}
 use Rattle.character_runs.specs.Laid.{AreLabelled, chars_in}
-use Rattle.character_runs.proofs.Entered.{on_err}
 use Rattle.character_runs.proofs.GivenEnds.{some_each, none_then, some_ended, some_told}
 use Rattle.character_runs.proofs.Settled.{settle_again}
 use Rattle.character_runs.proofs.characters.strike_last.Goals as goal
+use Rattle.ew_model.proofs.Outcomes.{on_err}
 
 pub returns-in_err-struck-in-None-clause-err : goal.returns-in_err-struck-in-None-clause-err
 returns-in_err-struck-in-None-clause-err g c =

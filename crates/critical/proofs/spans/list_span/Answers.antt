@@ -1,7 +1,7 @@
 use Rattle.std.proofs.Common.{◌≡◌, ◌∙◌, ◌+◌, ◌-◌, ◌∷◌, ◌++◌, [], ℕ, suc, List, sym, ap, arith, append_assoc}
 use Rattle.std.specs.List.{range_with_len}
-use Rattle.critical.proofs.Ranges.{range_more}
 use Rattle.critical.proofs.spans.list_span.Goals as goal
+use Rattle.ew_model.proofs.Ranges.{range_more}
 
 pub loop-k-preserved : goal.loop-k-preserved
 loop-k-preserved c =

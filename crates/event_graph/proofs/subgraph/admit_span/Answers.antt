@@ -2,8 +2,9 @@ use Rattle.std.proofs.Common.{◌∙◌, ◌++◌, ◌-◌, ◌+◌, List, ap, s
 use Rattle.std.specs.List.{range_with_len}
 use Rattle.ew_model.specs.declared.event.Event.{Event}
 use Rattle.event_graph.specs.Subgraphs.{events_at}
-use Rattle.event_graph.proofs.SpanEvents.{AreNext, range_first, step}
+use Rattle.event_graph.proofs.SpanEvents.{AreNext, step}
 use Rattle.event_graph.proofs.subgraph.admit_span.Goals as goal
+use Rattle.ew_model.proofs.Ranges.{range_first}
 
 pub admit-requires-clause-good : goal.admit-requires-clause-good
 admit-requires-clause-good c =

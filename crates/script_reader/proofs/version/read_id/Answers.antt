@@ -1,6 +1,6 @@
 use Rattle.script_reader.proofs.IdReading.{NameCut, no_name_no_id, no_number_no_id}
-use Rattle.script_reader.proofs.Numbers.{if_none}
 use Rattle.script_reader.proofs.version.read_id.Goals as goal
+use Rattle.ew_model.proofs.Outcomes.{if_none}
 
 pub returns-in_err-ok-clause-none : goal.returns-in_err-ok-clause-none
 returns-in_err-ok-clause-none c =

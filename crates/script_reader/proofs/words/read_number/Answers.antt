@@ -2,8 +2,9 @@ use Rattle.std.proofs.Common.{IfNone, IfSome, ◌≡◌, sym, subst}
 use Rattle.std.specs.Fmt.{decimal}
 use Rattle.std.specs.Str.Parse.{ParsesUnsigned}
 use Rattle.std.proofs.lemmas.Bool.{iff_false}
-use Rattle.script_reader.proofs.Numbers.{SpellsNone, if_none, extra_spells_none, no_text_spells_none, text_is_word, parsed, unparsed}
+use Rattle.script_reader.proofs.Numbers.{SpellsNone, extra_spells_none, no_text_spells_none, text_is_word, parsed, unparsed}
 use Rattle.script_reader.proofs.words.read_number.Goals as goal
+use Rattle.ew_model.proofs.Outcomes.{if_none}
 
 pub returns-then-begins_with_extra-clause-none : goal.returns-then-begins_with_extra-clause-none
 returns-then-begins_with_extra-clause-none c = extra_spells_none c.args.word.now (c.begins_with_extra.ensures.0 c.if-begins_with_extra.true)

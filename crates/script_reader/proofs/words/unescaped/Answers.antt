@@ -3,8 +3,8 @@ use Rattle.std.specs.Char.{encode_utf8}
 use Rattle.std.specs.Str.Iter.{chars_rest}
 use Rattle.ew_model.specs.Scripts.{escaped_text}
 use Rattle.script_reader.proofs.Escapes.{newline_stands_for_none, last_backslash_stands_for_none, other_escape_stands_for_none}
-use Rattle.script_reader.proofs.Numbers.{if_none}
 use Rattle.script_reader.proofs.words.unescaped.Goals as goal
+use Rattle.ew_model.proofs.Outcomes.{if_none}
 
 pub returns-in_err-next-in-92-clause-none : goal.returns-in_err-next-in-92-clause-none
 returns-in_err-next-in-92-clause-none c =

@@ -13,8 +13,9 @@ use Rattle.advance_retreat.specs.Standing.{StandsFor}
 use Rattle.advance_retreat.proofs.Hanging.{few_records}
 use Rattle.advance_retreat.proofs.Keeping.{has_room}
 use Rattle.advance_retreat.proofs.Recorded.{recorded_there, recorded_told}
-use Rattle.advance_retreat.proofs.SpanMoves.{changed_span, range_first, advance_run, advance_one}
+use Rattle.advance_retreat.proofs.SpanMoves.{changed_span, advance_run, advance_one}
 use Rattle.advance_retreat.proofs.state.State.advance_some.Goals as goal
+use Rattle.ew_model.proofs.Ranges.{range_first}
 
 pub change_run-requires-clause-room : goal.change_run-requires-clause-room
 change_run-requires-clause-room g c =

@@ -2,9 +2,9 @@ use Rattle.std.proofs.Common.{◌-◌, [], ◌∙◌, refl, subst, sym, arith}
 use Rattle.std.specs.List.{range_with_len}
 use Rattle.advance_retreat.specs.Kept.{Kept}
 use Rattle.advance_retreat.specs.Conditions.{PartAdvanced}
-use Rattle.character_runs.proofs.Entered.{on_err}
 use Rattle.advance_retreat.proofs.SpanMoves.{advanced_end, advanced_on, advance_left}
 use Rattle.advance_retreat.proofs.state.State.advance_span.Goals as goal
+use Rattle.ew_model.proofs.Outcomes.{on_err}
 
 pub loop-at-init : goal.loop-at-init
 loop-at-init g c = record {

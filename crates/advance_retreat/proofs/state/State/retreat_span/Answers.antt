@@ -4,10 +4,10 @@ use Rattle.std.specs.List.{range_with_len}
 use Rattle.advance_retreat.specs.Kept.{Kept, target_at, AreWithin}
 use Rattle.advance_retreat.specs.Standing.{StandsFor}
 use Rattle.advance_retreat.specs.Conditions.{PartRetreated}
-use Rattle.character_runs.proofs.Entered.{on_err}
 use Rattle.advance_retreat.proofs.Resting.{none_prepared}
 use Rattle.advance_retreat.proofs.SpanMoves.{retreated_end, retreated_on, retreat_left}
 use Rattle.advance_retreat.proofs.state.State.retreat_span.Goals as goal
+use Rattle.ew_model.proofs.Outcomes.{on_err}
 
 pub loop-at-init : goal.loop-at-init
 loop-at-init g c = record {

@@ -7,14 +7,14 @@ use Rattle.character_runs.specs.Entering.{IsNewChild, EntersAt}
 use Rattle.character_runs.specs.Laid.{Stands, chars_in}
 use Rattle.character_runs.specs.Spots.{Comes}
 use Rattle.character_runs.proofs.RunsAt.{same_chars}
-use Rattle.character_runs.proofs.Entered.{if_ok_then, on_err, on_err_then, still_ends, comes_behind, comes_first_behind}
+use Rattle.character_runs.proofs.Entered.{if_ok_then, on_err_then, still_ends, comes_behind, comes_first_behind}
 use Rattle.ew_model.specs.declared.node.Node.{Node}
 use Rattle.character_runs.specs.Loose.{loose_in, loose_parted, MayBeCut}
 use Rattle.ew_model.specs.declared.node.Node.TheVariants.{Event}
-use Rattle.character_runs.proofs.Parting.{on_ok_then}
 use Rattle.character_runs.proofs.LooseCuts.{may_loose}
 use Rattle.character_runs.proofs.LooseEntries.{behind_told, first_behind_told}
 use Rattle.character_runs.proofs.runs.Runs.insert_apart.Goals as goal
+use Rattle.ew_model.proofs.Outcomes.{on_ok_then, on_err}
 
 pub returns-in_err-room-clause-err : goal.returns-in_err-room-clause-err
 returns-in_err-room-clause-err g c =

@@ -9,8 +9,9 @@ use Rattle.character_runs.specs.Loose.{loose_in, loose_parted}
 use Rattle.character_runs.specs.Spots.{Comes}
 use Rattle.character_runs.proofs.Entered.{if_ok_then, comes_behind}
 use Rattle.character_runs.proofs.LooseEntries.{behind_told}
-use Rattle.character_runs.proofs.Parting.{on_ok_then, last_ends}
+use Rattle.character_runs.proofs.Parting.{last_ends}
 use Rattle.character_runs.proofs.runs.Runs.insert_behind.Goals as goal
+use Rattle.ew_model.proofs.Outcomes.{on_ok_then}
 
 pub returns-in-Some-clause-comes : goal.returns-in-Some-clause-comes
 returns-in-Some-clause-comes g c =

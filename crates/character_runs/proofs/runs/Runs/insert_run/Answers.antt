@@ -7,12 +7,13 @@ use Rattle.character_runs.specs.Labelled.{Sets}
 use Rattle.character_runs.specs.Laid.{chars_in}
 use Rattle.character_runs.proofs.Places.{laid_same}
 use Rattle.character_runs.proofs.CharPlaces.{stands_not, label_not}
-use Rattle.character_runs.proofs.Entered.{opened_held, entered, on_err}
+use Rattle.character_runs.proofs.Entered.{opened_held, entered}
 use Rattle.ew_model.specs.declared.node.Node.{Node}
 use Rattle.character_runs.specs.Loose.{loose_in}
 use Rattle.order_tree.specs.Pairs.{Tree, runs}
 use Rattle.character_runs.proofs.LooseEntries.{empty_loose, inserted_told, opened_runs}
 use Rattle.character_runs.proofs.runs.Runs.insert_run.Goals as goal
+use Rattle.ew_model.proofs.Outcomes.{on_err}
 
 pub enlist-requires-clause-bare : goal.enlist-requires-clause-bare
 enlist-requires-clause-bare g c =

@@ -11,10 +11,10 @@ use Rattle.character_runs.proofs.Places.{laid_same}
 use Rattle.character_runs.proofs.CharPlaces.{stands_not, label_not}
 use Rattle.character_runs.proofs.ExchangedChars.{place_behind, lower_old, enters_ahead}
 use Rattle.character_runs.specs.Loose.{loose_in}
-use Rattle.character_runs.proofs.Entered.{on_err}
 use Rattle.character_runs.proofs.LooseRuns.{came_loose}
 use Rattle.character_runs.proofs.LooseEntries.{empty_loose, parted_is, long_runs}
 use Rattle.character_runs.proofs.runs.Runs.prepend.Goals as goal
+use Rattle.ew_model.proofs.Outcomes.{on_err}
 
 pub enlist-requires-clause-bare : goal.enlist-requires-clause-bare
 enlist-requires-clause-bare g c =

@@ -1,5 +1,6 @@
-use Rattle.character_runs.proofs.Standings.{in_last, none_before, if_none}
+use Rattle.character_runs.proofs.Standings.{in_last, none_before}
 use Rattle.character_runs.proofs.runs.Runs.run_of.Goals as goal
+use Rattle.ew_model.proofs.Outcomes.{if_none}
 
 pub returns-in_err-label-clause-none : goal.returns-in_err-label-clause-none
 returns-in_err-label-clause-none g c =

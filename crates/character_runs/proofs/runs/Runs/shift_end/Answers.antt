@@ -1,11 +1,11 @@
 use Rattle.std.proofs.Common.{Option, Some, ap, ◌∙◌, sym}
 use Rattle.character_runs.specs.declared.cursor.Struck.{Struck}
 use Rattle.character_runs.specs.Cursors.{with_end, settled}
-use Rattle.character_runs.proofs.Entered.{on_err}
 use Rattle.character_runs.proofs.Places.{laid_same}
 use Rattle.character_runs.proofs.Settled.{settled_rising}
 use Rattle.character_runs.proofs.StruckEnds.{left_chars, left_gave, left_labelled, shifted_root}
 use Rattle.character_runs.proofs.runs.Runs.shift_end.Goals as goal
+use Rattle.ew_model.proofs.Outcomes.{on_err}
 
 pub shift-requires : goal.shift-requires
 shift-requires c =

@@ -1,9 +1,9 @@
 use Rattle.std.proofs.Common.{◌≡◌, ◌∙◌, ◌-◌, ◌∷◌, [], suc, sym, ap, length, arith}
 use Rattle.std.proofs.lemmas.Result.{on_ok_weaker}
 use Rattle.critical.specs.KeptCuts.{KeptCuts, with_whole}
-use Rattle.critical.proofs.Chains.{one_parent}
 use Rattle.critical.proofs.CutsKept.{whole_kept}
 use Rattle.critical.proofs.list.Cuts.push_on_last.Goals as goal
+use Rattle.ew_model.proofs.PositionFrontier.{one_parent}
 
 pub returns-clause-ok : goal.returns-clause-ok
 returns-clause-ok c =

@@ -3,9 +3,9 @@ use Rattle.history_definitions.specs.Chains.{event_behind, last_id}
 use Rattle.event_file.specs.Known.{known_by}
 use Rattle.event_file.specs.Progress.{Known}
 use Rattle.event_file.specs.Rest.{Rest, in_front, rest_found}
-use Rattle.event_file.proofs.Known.{last_more}
 use Rattle.event_file.proofs.Rest.{goes_on}
 use Rattle.event_file.proofs.event_records.EventRecords.go_on.Goals as goal
+use Rattle.history_definitions.proofs.LastIds.{last_pushed}
 
 pub returns-clause-some : goal.returns-clause-some
 returns-clause-some c =
@@ -21,6 +21,6 @@ returns-clause-some c =
       next = (
         ap (λ (rest : Rest). rest.found) (sym c.self.view_is) ∙ goes_on i.progress.agents i.progress.events i.left i.len i.input.left.now c.go_on.new.input.left.now e more r.read ∙ kept,
         ap (λ (rest : Rest). rest.records) (sym c.self.view_is) ∙ count,
-        ap (λ (k : Known). last_id k.events) r.kept ∙ last_more i.progress.events (known_by e.id),
+        ap (λ (k : Known). last_id k.events) r.kept ∙ last_pushed i.progress.events (known_by e.id),
       );
     }

@@ -4,9 +4,9 @@ use Rattle.event_file.specs.Known.{known_by}
 use Rattle.history_definitions.specs.Chains.{last_id}
 use Rattle.event_file.specs.Progress.{Known}
 use Rattle.event_file.specs.Rest.{Rest, in_front, rest_found}
-use Rattle.event_file.proofs.Known.{last_more}
 use Rattle.event_file.proofs.Rest.{goes_on, faults, ends, end_faults}
 use Rattle.event_file.proofs.event_records.EventRecords.next_in.Goals as goal
+use Rattle.history_definitions.proofs.LastIds.{last_pushed}
 
 pub returns-in-Ok : goal.returns-in-Ok
 returns-in-Ok c =
@@ -17,7 +17,7 @@ returns-in-Ok c =
     let count : i.left ≡ suc (i.left - 1) = omega (arith, more) in (
       ap (λ (r : Rest). r.found) (sym c.self.view_is) ∙ goes_on i.progress.agents i.progress.events i.left i.len i.input.left.now c.next.new.input.left.now e more c.in-Ok.ensures.exact ∙ kept,
       ap (λ (r : Rest). r.records) (sym c.self.view_is) ∙ count,
-      ap (λ (k : Known). last_id k.events) c.in-Ok.ensures.kept ∙ last_more i.progress.events (known_by e.id),
+      ap (λ (k : Known). last_id k.events) c.in-Ok.ensures.kept ∙ last_pushed i.progress.events (known_by e.id),
     )
 
 pub returns-in-Err-next : goal.returns-in-Err-next

@@ -4,10 +4,10 @@ use Rattle.ew_model.specs.declared.event.Op.{Op}
 use Rattle.event_runs.specs.BareEvents.{BareEvent, bare}
 use Rattle.event_runs.specs.RunOps.{ops_of, chain_on}
 use Rattle.event_runs.proofs.Found.{told_by}
-use Rattle.event_runs.proofs.ManyEvents.{one_parent}
 use Rattle.event_runs.proofs.RunEvents.{length-events_in}
 use Rattle.event_runs.proofs.StepOps.{chain_long, chain_joined, take_next}
 use Rattle.event_runs.proofs.storage.EventRuns.put_run.Goals as goal
+use Rattle.ew_model.proofs.PositionFrontier.{one_parent}
 
 -- how many there are once so many of the events came
 so_long : (old now : List BareEvent) (ops : List Op) (done : ℕ) → now ≡ old ++ chain_on (length old - 1) (take done ops) → done ≤ length ops → length now ≡ length old + done

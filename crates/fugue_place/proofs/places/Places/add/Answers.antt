@@ -1,9 +1,10 @@
-use Rattle.std.proofs.Common.{ℕ, ◌+◌, Some, OnErr, Result, Ok, Err, cond, refl, sym, ap, ◌∙◌}
+use Rattle.std.proofs.Common.{ℕ, ◌+◌, Some, cond, refl, sym, ap, ◌∙◌}
 use Rattle.std.specs.BTreeMap.{get, is_at}
 use Rattle.fugue_place.specs.Places.{ArePlaces}
 use Rattle.fugue_place.specs.Spots.{node_cmp}
 use Rattle.fugue_place.proofs.FoundLaws.{rising_more, others_more, places_same}
 use Rattle.fugue_place.proofs.places.Places.add.Goals as goal
+use Rattle.ew_model.proofs.Outcomes.{on_err}
 
 pub returns-then-is_above_newest-clause-ok : goal.returns-then-is_above_newest-clause-ok
 returns-then-is_above_newest-clause-ok c =
@@ -16,11 +17,7 @@ returns-in_ok-keep-clause-ok c =
     c.in_ok-keep.ensures.ok v
     ∙ ap (λ (n : ℕ). cond (is_at (node_cmp c.args.child.now.node) v) (Some n) (get node_cmp c.args.self.now.others v)) c.len-count.ensures.count)
 
-so_anyway : {X E : Type 0} (result : Result X E) (P : Type 0) → P → OnErr result P
-so_anyway (Ok x) P p = tt
-so_anyway (Err e) P p = p
-
 pub returns-in_err-keep-clause-err : goal.returns-in_err-keep-clause-err
 returns-in_err-keep-clause-err c =
-    so_anyway c.from_residual.result (ArePlaces c.args.children.now.items c.keep.new.self)
+    on_err c.from_residual.result (ArePlaces c.args.children.now.items c.keep.new.self)
     (places_same c.args.children.now.items c.args.self.now c.keep.new.self c.requires.places c.keep.ensures.rising c.in_err-keep.ensures.err)

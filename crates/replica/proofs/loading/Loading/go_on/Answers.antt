@@ -3,10 +3,11 @@ use Rattle.std.proofs.lemmas.Option.{same_Some}
 use Rattle.ew_model.specs.declared.id.Id.{Id}
 use Rattle.ew_model.specs.Answers.{ruling_of}
 use Rattle.history_definitions.specs.Chains.{event_behind, last_id}
-use Rattle.event_graph.proofs.GoingOn.{good_behind, last_pushed}
+use Rattle.event_graph.proofs.GoingOn.{good_behind}
 use Rattle.replica.specs.Giving.{Given, WereGiven}
 use Rattle.replica.proofs.Giving.{all_admitted, one_admitted}
 use Rattle.replica.proofs.loading.Loading.go_on.Goals as goal
+use Rattle.history_definitions.proofs.LastIds.{last_pushed}
 
 pub returns-clause-given : goal.returns-clause-given
 returns-clause-given c events e were =

@@ -7,10 +7,10 @@ use Rattle.history_definitions.specs.Chains.{last_id}
 use Rattle.event_runs.specs.RunOps.{ops_of}
 use Rattle.event_graph.specs.GoingOn.{chain_behind}
 use Rattle.event_graph.proofs.Chains.{chain_admitted}
-use Rattle.event_graph.proofs.GoingOn.{last_pushed}
 use Rattle.replica.specs.Giving.{Given, WereGiven}
 use Rattle.replica.proofs.Giving.{all_admitted, chain_long, many_admitted}
 use Rattle.replica.proofs.loading.Loading.go_on_run.Goals as goal
+use Rattle.history_definitions.proofs.LastIds.{last_pushed}
 
 pub invariant_of-self-2 : goal.invariant_of-self-2
 invariant_of-self-2 c =

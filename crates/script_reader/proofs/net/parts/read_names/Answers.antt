@@ -1,7 +1,7 @@
 use Rattle.script_reader.proofs.LineParts.{AreCut}
-use Rattle.script_reader.proofs.Numbers.{if_none}
 use Rattle.script_reader.proofs.LineWords.{name_first, no_name_no_names, uncut_no_name, unnamed_no_name, unnamed_no_names}
 use Rattle.script_reader.proofs.net.parts.read_names.Goals as goal
+use Rattle.ew_model.proofs.Outcomes.{if_none}
 
 pub returns-in_err-first-clause-none : goal.returns-in_err-first-clause-none
 returns-in_err-first-clause-none c =

@@ -1,7 +1,7 @@
 use Rattle.script_reader.proofs.LineParts.{AreCut}
-use Rattle.script_reader.proofs.Numbers.{if_none}
 use Rattle.script_reader.proofs.LineWords.{uncut_no_numbers, no_first_no_numbers, no_second_no_numbers}
 use Rattle.script_reader.proofs.net.parts.read_numbers.Goals as goal
+use Rattle.ew_model.proofs.Outcomes.{if_none}
 
 pub returns-in_err-first-clause-none : goal.returns-in_err-first-clause-none
 returns-in_err-first-clause-none c = if_none _ _ (uncut_no_numbers c.args.words.now c.in_err-first.ensures.none)
