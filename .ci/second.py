@@ -414,8 +414,8 @@ def by_hand(beside, draws):
         content([b"a"], [first, second, record(0, 2, [0, 1], 0, 0, 97)]),
         content([b"a", b"b"], [first, second, record(1, 0, [0, 1], 0, 9, 97)]),
         content([b"a", b"b"], [first, second, record(1, 1, [0], 0, 9, 97)]),
-        content([b"a"], [first], count=1_000_000),
-        content([b"a"], [first], count=1_000_001),
+        content([b"a"], [first], count=MOST_EVENTS),
+        content([b"a"], [first], count=MOST_EVENTS + 1),
         content([b"a"], [first, second])[:8] + b"\xff\xff\xff\xff",
         content([b"a"], [first, second])[:-1],
         *files_2(),
@@ -501,8 +501,8 @@ def files_2():
         of(b(0, 7, DELETE, 3, 1)) + b"\0",
         of(count=7),
         of(count=9),
-        of(count=1_000_000),
-        of(count=1_000_001),
+        of(count=MOST_EVENTS),
+        of(count=MOST_EVENTS + 1),
         content_2([b"a"], [run(0, 0, [], DELETE, 0, 10_000)], 10_000),
         content_2([b"a"], [run(0, 0, [], FALLING, 4294967295, 10_000)], 10_000),
         content([b"a", b"b"], [record(0, 0, [], INSERT, 0, 97), record(1, 0, [0], FALLING, 0)]),
@@ -903,26 +903,20 @@ def limits(beside):
             beside.run("net", input="\n".join([*script, edit, "show p0"]).encode())
     for more in (0, 1):
         beside.run("net", input=b"\n" * (MOST_INPUT + more))
-        beside.run("net", input=b"peer a\nins a 1 x\nins a 0 " + b"x" * (MOST_EVENTS + more))
-        beside.run("net", input=b"peer a\nins a 0 " + b"x" * (MOST_EVENTS + 1) + b"\nshow " + b"a" * (31 + more))
-        beside.run("net", input=b"peer a\nins a 0 " + b"x" * (MOST_EVENTS - 1 + more) + b"\nmark a m")
+        beside.run("net", input=b"peer a\nins a 1 x\nins a 0 " + b"x" * (MOST_INPUT - 24 + more))
+        beside.run("net", input=b"peer a\nins a 0 \nshow " + b"a" * (31 + more) + b"\nins a 0 " + b"x" * 1_000_000)
     beside.run("edit", "F", "--agent", "a", input=b"\n" * MOST_INPUT)
     beside.run("edit", "F", "--agent", "a", input=b"\n" * (MOST_INPUT + 1))
-    beside.run("edit", "F", "--agent", "a", input=b"ins 0 " + b"x" * (MOST_EVENTS + 1))
+    beside.run("edit", "F", "--agent", "a", input=b"ins 1 " + b"x" * (MOST_INPUT - 6))
+    beside.run("edit", "F", "--agent", "a", input=b"ins 0 " + b"x" * (MOST_INPUT - 5))
     for more in (0, 1):
         beside.run("serve", "F", input=b"\x01" + number(4 + 37 * MOST_EVENTS) + bytes(MOST_INPUT - 5 + more))
-    for size in (MOST_FILE, MOST_FILE + 1):
-        for folder, _ in beside.sides:
-            with open(folder / "large", "wb") as file:
-                file.truncate(size)
-        beside.run("cat", "large")
-        beside.run("cat", "large", "--at", "a:0")
-        beside.run("cat", "large", "--at", "a:00")
-        beside.run("replay", "large")
-        beside.run("ask", "large")
-        beside.run("upgrade", "large")
-        beside.run("serve", "large", input=frame(6))
-        beside.run("new", "large")
+    for folder, _ in beside.sides:
+        with open(folder / "large", "wb") as file:
+            file.truncate(MOST_FILE + 1)
+    beside.run("cat", "large")
+    beside.run("cat", "large", "--at", "a:00")
+    beside.run("new", "large")
     beside.clear()
 
 
