@@ -2,13 +2,14 @@
 use Rattle.std.proofs.Common.{◌≡◌, ℕ, zero, suc, ◌+◌, ◌-◌, ◌*◌, ◌^◌, ◌<◌, ◌≤◌, List, [], ◌∷◌, ◌++◌, length, take, drop, insert, remove, slice_set, slice_index_or, slice_get, Option, Some, None, arith, refl, sym, ap, ◌∙◌, subst, append_assoc, append-nil, length-append, take-append-drop, length-take-le, take_at, drop_at}
 use Rattle.std.proofs.lemmas.List.{take_more}
 use Rattle.std.proofs.lemmas.List.Concat.{flat_map-append}
-use Rattle.std.proofs.lemmas.List.Edits.{remove-append_left, remove-append_right}
 use Rattle.std.proofs.lemmas.List.Sums.{sum_by-cons, sum_by-append}
 use Rattle.std.proofs.Math.Nat.{pow-succ'}
 use Rattle.rope.specs.Nodes.{Seen, all_chars, all_leaves}
 use Rattle.rope.specs.Shape.{IsSound, AllBelow, least}
 use Rattle.rope.specs.Rights.{chars_of_right, IsLike, with_right}
 use Rattle.rope.specs.Typed.{with_more}
+use Rattle.rope.specs.Deletions.{without}
+use Rattle.rope.proofs.DeletionRuns.{without_inside}
 use Rattle.rope.proofs.TypedRuns.{more_inside}
 
 -- it, as a list of branches
@@ -48,13 +49,6 @@ chars_put ks k w right lt =
     ∙ ap (λ (cs : List ℕ). all_chars (take k ks) ++ (w.chars ++ cs)) (all_chars-append (listed right) rest ∙ ap (λ (cs : List ℕ). cs ++ all_chars rest) (chars_of_listed right))
     ∙ ap (λ (cs : List ℕ). all_chars (take k ks) ++ cs) (sym (append_assoc w.chars (chars_of_right right) (all_chars rest)))
 
--- a character taken out of the middle of three lists
-remove_inside : (p v q : List ℕ) (rest : ℕ) → rest < length v → remove (p ++ (v ++ q)) (length p + rest) ≡ p ++ (remove v rest ++ q)
-remove_inside p v q rest lt =
-    let place : length p + rest - length p ≡ rest = omega arith in
-    remove-append_right p (v ++ q) (length p) (length p + rest) refl (omega arith)
-    ∙ ap (λ (cs : List ℕ). p ++ cs) (ap (λ (i : ℕ). remove (v ++ q) i) place ∙ remove-append_left v q rest lt)
-
 -- what more characters put into branch k do to all of them
 pub grown_chars : (ks : List Seen) (k at rest : ℕ) (more : List ℕ) (v w : Seen) (right : Option Seen) → k < length ks → v ≡ slice_index_or ks k v → at ≡ length (all_chars (take k ks)) + rest → rest ≤ length v.chars
     → w.chars ++ chars_of_right right ≡ with_more v.chars rest more → all_chars (with_right (slice_set ks k w) (k + 1) right) ≡ with_more (all_chars ks) at more
@@ -64,14 +58,14 @@ grown_chars ks k at rest more v w right lt is place le e =
     chars_put ks k w right lt ∙ ap (λ (cs : List ℕ). p ++ (cs ++ q)) e ∙ sym (more_inside p v.chars q more rest le)
     ∙ ap (λ (i : ℕ). with_more (p ++ (v.chars ++ q)) i more) (sym place) ∙ ap (λ (cs : List ℕ). with_more cs at more) (sym (chars_split ks k v lt is))
 
--- and one taken out of it
-pub less_chars : (ks : List Seen) (k at rest : ℕ) (v w : Seen) → k < length ks → v ≡ slice_index_or ks k v → at ≡ length (all_chars (take k ks)) + rest → rest < length v.chars
-    → w.chars ≡ remove v.chars rest → all_chars (slice_set ks k w) ≡ remove (all_chars ks) at
-less_chars ks k at rest v w lt is place le e =
+-- and some taken out of it
+pub less_chars : (ks : List Seen) (k at rest many : ℕ) (v w : Seen) → k < length ks → v ≡ slice_index_or ks k v → at ≡ length (all_chars (take k ks)) + rest → rest + many ≤ length v.chars
+    → w.chars ≡ without v.chars rest many → all_chars (slice_set ks k w) ≡ without (all_chars ks) at many
+less_chars ks k at rest many v w lt is place le e =
     let p = all_chars (take k ks) in
     let q = all_chars (drop (k + 1) ks) in
-    chars_put ks k w None lt ∙ ap (λ (cs : List ℕ). p ++ (cs ++ q)) (append-nil w.chars ∙ e) ∙ sym (remove_inside p v.chars q rest le)
-    ∙ ap (λ (i : ℕ). remove (p ++ (v.chars ++ q)) i) (sym place) ∙ ap (λ (cs : List ℕ). remove cs at) (sym (chars_split ks k v lt is))
+    chars_put ks k w None lt ∙ ap (λ (cs : List ℕ). p ++ (cs ++ q)) (append-nil w.chars ∙ e) ∙ sym (without_inside p v.chars q rest many le)
+    ∙ ap (λ (i : ℕ). without (p ++ (v.chars ++ q)) i many) (sym place) ∙ ap (λ (cs : List ℕ). without cs at many) (sym (chars_split ks k v lt is))
 
 -- a character of the middle of three lists is one of all
 get_right : (p q : List ℕ) (i : ℕ) → slice_get (p ++ q) (length p + i) ≡ slice_get q i

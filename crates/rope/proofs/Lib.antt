@@ -1,3 +1,4 @@
+pub mod DeletionRuns
 pub mod InsertLaws
 pub mod KidLists
 pub mod ShortTexts

@@ -1,5 +1,6 @@
 pub mod Blocks
 pub mod Changes
+pub mod Deletions
 pub mod Falls
 pub mod Lengths
 pub mod Nodes

@@ -1,7 +1,8 @@
 //! A branch of the tree: a node, and what is kept of the characters below it.
 
-ghost use Rattle.std.specs.Prelude.{◌≡◌, ◌+◌, ◌^◌, ◌<◌, ◌≤◌, ◌↔◌, IsTrue, Some, ◌++◌, length, remove, slice_get, encode_utf8_all, vec_capacity, IfOk, IsOk, OnOk, OnErr};
+ghost use Rattle.std.specs.Prelude.{◌≡◌, ◌+◌, ◌^◌, ◌<◌, ◌≤◌, ◌↔◌, IsTrue, Some, ◌++◌, length, slice_get, encode_utf8_all, vec_capacity, IfOk, IsOk, OnOk, OnErr};
 ghost use Rattle.rope.specs.Blocks.{IsRoomy};
+ghost use Rattle.rope.specs.Deletions.{without};
 ghost use Rattle.rope.specs.Nodes.{all_chars};
 ghost use Rattle.rope.specs.Shape.{AllBelow, IsSound, least};
 ghost use Rattle.rope.specs.Rights.{chars_of_right, IsLike, IsLeft, IsGrown, IsLastOf};
@@ -226,26 +227,33 @@ impl Branch {
         }
     }
 
-    /// Takes the character at an index out. A leaf may be left without characters, and another node with one branch.
-    pub fn remove(&mut self, at: u32)
+    /// Takes characters out of the leaf with an index, from there on: so many, or all that it has there. Answers how many. A leaf may be
+    /// left without characters, and another node with one branch.
+    pub fn remove(&mut self, at: u32, most: u32) -> u32
         requires within { at < length self.old.chars }
         requires sound { IsSound self.old }
         requires small { length self.old.chars < 2 ^ 32 }
-        ensures chars { self.new.chars ≡ remove self.old.chars at }
+        requires some { 1 ≤ most }
+        ensures chars { self.new.chars ≡ without self.old.chars at result }
         ensures depth { self.new.depth ≡ self.old.depth }
+        ensures some { 1 ≤ result }
+        ensures most { result ≤ most }
+        ensures inside { at + result ≤ length self.old.chars }
     {
         match &mut self.node {
             Node::Leaf(leaf) => {
-                leaf.remove(at);
+                let many = leaf.remove(at, most);
                 self.count = leaf.len();
+                many
             }
             Node::Inner(kids) => {
                 let (k, rest) = kid_at(kids.as_slice(), at);
-                kids[k].remove(rest);
+                let many = kids[k].remove(rest, most);
                 mend(self.depth, kids, k);
                 let sizes = sizes_in(self.depth, kids.as_slice());
                 self.count = sizes.chars;
                 self.leaves = sizes.leaves;
+                many
             }
         }
     }

@@ -1,6 +1,7 @@
 //! A leaf of the tree: up to sixty-four characters.
 
-ghost use Rattle.std.specs.Prelude.{◌≡◌, ◌+◌, ◌<◌, ◌≤◌, [], ◌++◌, length, take, drop, insert, remove, slice_get, Some, encode_utf8_all, vec_capacity, IfOk, OnOk, OnErr};
+ghost use Rattle.std.specs.Prelude.{◌≡◌, ◌+◌, ◌<◌, ◌≤◌, [], ◌++◌, length, take, drop, insert, slice_get, Some, encode_utf8_all, vec_capacity, IfOk, OnOk, OnErr};
+ghost use Rattle.rope.specs.Deletions.{without};
 
 use ew_model::NoMem;
 use std::alloc::Global;
@@ -70,11 +71,21 @@ impl Leaf {
         };
     }
 
-    pub fn remove(&mut self, at: u32)
-        requires { at < length self.old }
-        ensures { self.new ≡ remove self.old at }
+    /// Takes characters out from an index on: so many, or all that it has there. Answers how many.
+    pub fn remove(&mut self, at: u32, most: u32) -> u32
+        requires within { at < length self.old }
+        requires some { 1 ≤ most }
+        ensures chars { self.new ≡ without self.old at result }
+        ensures some { 1 ≤ result }
+        ensures most { result ≤ most }
+        ensures inside { at + result ≤ length self.old }
     {
-        self.chars.remove(at as usize);
+        let len = self.len();
+        let many = most.min(len - at);
+        self.chars
+            .copy_within((at + many) as usize..len as usize, at as usize);
+        self.chars.truncate((len - many) as usize);
+        many
     }
 
     /// Moves the characters behind the first thirty-two into an empty leaf.

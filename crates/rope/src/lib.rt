@@ -4,6 +4,7 @@
 #![tactic(auto)]
 
 mod branch;
+mod deletions;
 mod halves;
 mod kids;
 mod leaf;

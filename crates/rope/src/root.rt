@@ -1,15 +1,17 @@
 //! Changes of a whole tree, which has no node where there are no characters.
 
-ghost use Rattle.std.specs.Prelude.{◌≡◌, ◌+◌, ◌*◌, ◌^◌, ◌<◌, ◌≤◌, [], ◌++◌, length, take, remove, IfOk, IsOk, OnOk, OnErr};
+ghost use Rattle.std.specs.Prelude.{◌≡◌, ◌+◌, ◌*◌, ◌^◌, ◌<◌, ◌≤◌, [], ◌++◌, length, take, IfOk, IsOk, OnOk, OnErr};
 ghost use Rattle.ew_model.specs.Operations.{changed_by_all};
 ghost use Rattle.ew_model.specs.TextLaws.{AllFit};
 ghost use Rattle.rope.specs.Changes.{room_for_all};
+ghost use Rattle.rope.specs.Deletions.{without, DeletesFrom};
 ghost use Rattle.rope.specs.Lengths.{most_chars, AllStayShort};
 ghost use Rattle.rope.specs.Typed.{typed, with_more, IsTyped};
 ghost use Rattle.rope.specs.Whole.{chars_of_root, depth_of, IsRoot, IsRooted};
 ghost use Rattle.rope.specs.Rights.{IsLike, IsLeft, chars_of_right};
 
 use crate::branch::Branch;
+use crate::deletions::first_deletions;
 use crate::spares::Spares;
 use crate::typed::{put_typed, typed_length};
 use ew_model::NoMem;
@@ -98,19 +100,38 @@ fn raise(root: &mut Option<Branch>, right: Option<Branch>, spares: &mut Spares)
     *root = Some(Branch::inner(depth, kids));
 }
 
-/// Takes the character at an index out.
-pub fn remove_char(root: &mut Option<Branch>, at: u32)
-    requires within { at < length (chars_of_root root.old) }
+/// Takes so many characters out from an index on.
+pub fn remove_chars(root: &mut Option<Branch>, at: u32, many: u32)
+    requires within { at + many ≤ length (chars_of_root root.old) }
     requires small { length (chars_of_root root.old) < 2 ^ 32 }
     requires root { IsRoot root.old }
-    ensures chars { chars_of_root root.new ≡ remove (chars_of_root root.old) at }
+    ensures chars { chars_of_root root.new ≡ without (chars_of_root root.old) at many }
+    ensures root { IsRoot root.new }
+{
+    let mut left = many;
+    while left > 0 {
+        left -= remove_in_leaf(root, at, left);
+    }
+}
+
+/// Takes characters out of the leaf with an index, from there on: so many, or all that it has there. Answers how many.
+fn remove_in_leaf(root: &mut Option<Branch>, at: u32, most: u32) -> u32
+    requires within { at < length (chars_of_root root.old) }
+    requires some { 1 ≤ most }
+    requires small { length (chars_of_root root.old) < 2 ^ 32 }
+    requires root { IsRoot root.old }
+    ensures chars { chars_of_root root.new ≡ without (chars_of_root root.old) at result }
+    ensures some { 1 ≤ result }
+    ensures most { result ≤ most }
+    ensures inside { at + result ≤ length (chars_of_root root.old) }
     ensures root { IsRoot root.new }
 {
     let Some(mut branch) = root.take() else {
         unreachable!()
     };
-    branch.remove(at);
+    let many = branch.remove(at, most);
     *root = lowered(branch);
+    many
 }
 
 /// The tree of a branch after a removal: a root with one branch gives way to it, and a leaf without characters to nothing.
@@ -149,7 +170,8 @@ pub fn change_all(
     Ok(())
 }
 
-/// Does the first of the operations, and with an insertion those that type on behind it. Answers how many are done.
+/// Does the first of the operations, and with an insertion those that type on behind it, with a deletion those that delete on at its place or
+/// before it. Answers how many are done.
 fn change_first(
     root: &mut Option<Branch>,
     ops: &[TextOp],
@@ -168,10 +190,7 @@ fn change_first(
 {
     match ops[0] {
         TextOp::Ins { at, .. } => change_typed(root, at, ops, spares),
-        TextOp::Del { at } => {
-            remove_char(root, at);
-            Ok(1)
-        }
+        TextOp::Del { at } => Ok(change_deleted(root, at, ops)),
         TextOp::Nothing => Ok(1),
     }
 }
@@ -198,4 +217,21 @@ fn change_typed(
     let many = typed_length(at, ops);
     insert_typed(root, at, &ops[..many], spares)?;
     Ok(many)
+}
+
+/// Does the deletions that stand first among the operations, of which the first is at an index. Answers how many.
+fn change_deleted(root: &mut Option<Branch>, at: u32, ops: &[TextOp]) -> usize
+    requires some { 0 < length ops.now }
+    requires first { DeletesFrom at (take 1 ops.now) }
+    requires fit { AllFit (chars_of_root root.old) ops.now }
+    requires short { AllStayShort (chars_of_root root.old) ops.now }
+    requires root { IsRoot root.old }
+    ensures some { 1 ≤ result }
+    ensures within { result ≤ length ops.now }
+    ensures ok { chars_of_root root.new ≡ changed_by_all (take result ops.now) (chars_of_root root.old) }
+    ensures root { IsRoot root.new }
+{
+    let (place, many) = first_deletions(at, ops);
+    remove_chars(root, place, many as u32);
+    many
 }

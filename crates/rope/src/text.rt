@@ -8,7 +8,7 @@ ghost use Rattle.rope.specs.Changes.{room_for_all};
 ghost use Rattle.rope.specs.Typed.{IsTyped};
 
 use crate::branch::Branch;
-use crate::root::{MOST_BLOCKS, change_all, copy_root, insert_typed, remove_char};
+use crate::root::{MOST_BLOCKS, change_all, copy_root, insert_typed, remove_chars};
 use crate::spares::Spares;
 use crate::typed::typed_at;
 use ew_model::NoMem;
@@ -138,7 +138,7 @@ impl Rope {
         ensures ok { OnOk result (self.new.chars ≡ remove self.old.chars at) }
         ensures err { OnErr result (self.new ≡ self.old) }
     {
-        remove_char(&mut self.root, at);
+        remove_chars(&mut self.root, at, 1);
         Ok(())
     }
 
