@@ -1,10 +1,12 @@
-//! Local edits, and the operations that they make.
+//! Local edits, the operations that they make, and what these do to the text.
 
-ghost use Rattle.std.specs.Prelude.{◌≡◌, ◌+◌, ◌<◌, ◌^◌, length, map, IfOk};
+ghost use Rattle.std.specs.Prelude.{◌≡◌, ◌+◌, ◌<◌, ◌^◌, ◌∷◌, length, map, IfOk};
 ghost use Rattle.std.specs.Str.{chars};
 ghost use Rattle.ew_model.specs.Edits as model;
 ghost use Rattle.ew_model.specs.TextLaws.{own_change};
+ghost use Rattle.event_runs.specs.RunOps.{ops_of, IndicesFit};
 
+use event_runs::RunOps;
 use ew_model::NoMem;
 use ew_model::event::Op;
 use ew_model::text_op::TextOp;
@@ -43,57 +45,78 @@ impl Edit {
         }
     }
 
-    /// Its operations, in order.
-    pub fn ops(&self, alloc: Global) -> Result<Vec<Op>, NoMem>
-        requires { model.needed_length (edit_view self.now) + size_of (edit_view self.now) < 2 ^ 32 }
-        ensures { IfOk result (λ v. v.items ≡ model.ops_of (edit_view self.now)) }
+    /// Its operations: the first, and the others, which go on from it by one step each.
+    pub fn ops(&self) -> (Op, RunOps<'_>)
+        requires some { 0 < size_of (edit_view self.now) }
+        requires small { model.needed_length (edit_view self.now) + size_of (edit_view self.now) < 2 ^ 32 }
+        ensures ops { result.0 ∷ ops_of result.1 ≡ model.ops_of (edit_view self.now) }
+        ensures fit { IndicesFit result.1 }
     {
         match self {
-            Edit::Insert { at, text } => insertions(alloc, *at, text.as_slice()),
-            Edit::Delete { at, n } => deletions(alloc, *at, *n),
+            Edit::Insert { at, text } => insertions(*at, text.as_slice()),
+            Edit::Delete { at, n } => deletions(*at, *n),
+        }
+    }
+
+    /// What its operations do to the text, in order.
+    pub fn changes(&self, alloc: Global) -> Result<Vec<TextOp>, NoMem>
+        requires small { model.needed_length (edit_view self.now) + size_of (edit_view self.now) < 2 ^ 32 }
+        ensures { IfOk result (λ v. v.items ≡ map own_change (model.ops_of (edit_view self.now))) }
+    {
+        match self {
+            Edit::Insert { at, text } => typed(alloc, *at, text.as_slice()),
+            Edit::Delete { at, n } => taken_out(alloc, *at, *n),
         }
     }
 }
 
-/// The insertions of the characters, one behind the other.
-#[tactic(auto, using(crate::proofs::EditOps::insertions_more))]
-fn insertions(alloc: Global, at: u32, text: &[char]) -> Result<Vec<Op>, NoMem>
-    requires { at + length text.now < 2 ^ 32 }
-    ensures { IfOk result (λ v. v.items ≡ model.insertions_at at text.now) }
+/// The insertions of the characters, one behind the other: the first, and the others.
+#[tactic(auto, using(crate::proofs::EditOps::first_insertion))]
+fn insertions(at: u32, text: &[char]) -> (Op, RunOps<'_>)
+    requires some { 0 < length text.now }
+    requires small { at + length text.now < 2 ^ 32 }
+    ensures ops { result.0 ∷ ops_of result.1 ≡ model.insertions_at at text.now }
+    ensures fit { IndicesFit result.1 }
 {
-    let mut ops = Vec::with_capacity(alloc, text.len())?;
+    let first = Op::Ins { at, ch: text[0] };
+    let rest = RunOps::Insertions {
+        at: at + 1,
+        text: &text[1..],
+    };
+    (first, rest)
+}
+
+/// As many deletions, each at the index: the first, and the others.
+#[tactic(auto, using(crate::proofs::EditOps::first_deletion))]
+fn deletions<'a>(at: u32, n: u32) -> (Op, RunOps<'a>)
+    requires { 0 < n }
+    ensures ops { result.0 ∷ ops_of result.1 ≡ model.deletions_at at n }
+    ensures fit { IndicesFit result.1 }
+{
+    (Op::Del { at }, RunOps::Deletions { at, count: n - 1 })
+}
+
+/// What insertions of the characters do to the text, one behind the other.
+#[tactic(auto, using(crate::proofs::EditOps::typed_more))]
+fn typed(alloc: Global, at: u32, text: &[char]) -> Result<Vec<TextOp>, NoMem>
+    requires { at + length text.now < 2 ^ 32 }
+    ensures { IfOk result (λ v. v.items ≡ map own_change (model.insertions_at at text.now)) }
+{
+    let mut changes = Vec::with_capacity(alloc, text.len())?;
     for (i, ch) in text.iter().enumerate() {
         let place = at + i as u32;
-        ops.push(Op::Ins { at: place, ch: *ch })?;
+        changes.push(TextOp::Ins { at: place, ch: *ch })?;
     }
-    Ok(ops)
+    Ok(changes)
 }
 
-/// As many deletions, each at the index.
-fn deletions(alloc: Global, at: u32, n: u32) -> Result<Vec<Op>, NoMem>
-    ensures { IfOk result (λ v. v.items ≡ model.deletions_at at n) }
+/// What as many deletions do to the text, each at the index.
+fn taken_out(alloc: Global, at: u32, n: u32) -> Result<Vec<TextOp>, NoMem>
+    ensures { IfOk result (λ v. v.items ≡ map own_change (model.deletions_at at n)) }
 {
-    let mut ops = Vec::new(alloc);
-    ops.resize(n as usize, Op::Del { at })?;
-    Ok(ops)
-}
-
-/// What the operations do to the text.
-pub fn changes(alloc: Global, ops: &[Op]) -> Result<Vec<TextOp>, NoMem>
-    ensures { IfOk result (λ v. v.items ≡ map own_change ops.now) }
-{
-    ops.iter().map(|op| change(op)).collect(alloc)
-}
-
-/// What an operation does to the text. A mark does nothing.
-fn change(op: &Op) -> TextOp
-    ensures { result ≡ own_change op.now }
-{
-    match op {
-        Op::Ins { at, ch } => TextOp::Ins { at: *at, ch: *ch },
-        Op::Del { at } => TextOp::Del { at: *at },
-        Op::Mark { .. } => TextOp::Nothing,
-    }
+    let mut changes = Vec::new(alloc);
+    changes.resize(n as usize, TextOp::Del { at })?;
+    Ok(changes)
 }
 
 /// The characters of a text.

@@ -1,6 +1,6 @@
 //! The replica itself.
 
-ghost use Rattle.std.specs.Prelude.{◌≡◌, ◌+◌, ◌≤◌, ◌<◌, ◌^◌, [], ◌++◌, drop, length, take, None, Some, true, false, IfOk, IfErr, OnOk, OnErr, encode_utf8_all, ◌↔◌, IsTrue};
+ghost use Rattle.std.specs.Prelude.{◌≡◌, ◌+◌, ◌≤◌, ◌<◌, ◌^◌, List, [], ◌∷◌, ◌++◌, drop, length, take, None, Some, true, false, IfOk, IfErr, OnOk, OnErr, encode_utf8_all, ◌↔◌, IsTrue};
 ghost use Rattle.std.specs.List.{All};
 ghost use Rattle.std.specs.Option.{option_and_then};
 ghost use Rattle.std.specs.Str.{chars};
@@ -9,6 +9,7 @@ ghost use Rattle.ew_model.specs.Arrival.{arrive, most_judgements, next_judgement
 ghost use Rattle.ew_model.specs.Cuts.{latest_cut};
 ghost use Rattle.ew_model.specs.EditLaws.{edited, size_of};
 ghost use Rattle.ew_model.specs.Edits as model;
+ghost use Rattle.ew_model.specs.declared.event.Op.{Op};
 ghost use Rattle.ew_model.specs.declared.id.Id.{Id};
 ghost use Rattle.ew_model.specs.Ids.{id_cmp};
 ghost use Rattle.ew_model.specs.Writable.{IsWritable};
@@ -21,8 +22,9 @@ ghost use Rattle.ew_model.specs.TouchLaws.{NoneOutOfRange};
 ghost use Rattle.ew_model.specs.Touches.{touches};
 ghost use Rattle.ew_model.specs.Verdicts.{first_bad, first_unknown};
 ghost use Rattle.event_graph.specs.Subgraphs.{events_at};
+ghost use Rattle.event_runs.specs.RunOps.{ops_of, IndicesFit};
 ghost use Rattle.replica.specs.Answers.{EditsBy, Loads, refusal_of};
-ghost use Rattle.replica.specs.Appending.{CanAppend};
+ghost use Rattle.replica.specs.Appending.{CanAppend, chain_from};
 ghost use Rattle.replica.specs.Desks.{desk_of_replica, IsBegun};
 ghost use Rattle.replica.specs.Editing.{edit_view};
 ghost use Rattle.replica.specs.Keeping.{head_positions};
@@ -36,14 +38,14 @@ ghost use Rattle.waiting_pool.specs.Waiting.{events_of};
 use crate::admit::extend;
 use crate::awaiting::awaits;
 use crate::desk::Progress;
-use crate::edit::{Edit, changes, characters};
+use crate::edit::{Edit, characters};
 use crate::fault::{EditFault, LoadFault, VersionFault};
 use crate::heads::head_ids;
 use crate::lazy_text::LazyText;
 use crate::lengths::length_below;
 use crate::listed::listed;
 use crate::loading::given;
-use crate::made::events_by;
+use crate::made::event_by;
 use crate::marking::{extend_marks, mark_events};
 use crate::offered::Offered;
 use crate::past::text_at;
@@ -51,8 +53,9 @@ use crate::rounds::{Intake, round};
 use crate::took::{Stopped, Took};
 use agreement::agrees;
 use event_graph::Graph;
+use event_runs::RunOps;
 use ew_model::NoMem;
-use ew_model::event::Event;
+use ew_model::event::{Event, Op};
 use ew_model::id::Id;
 use ew_model::limits::{Limits, MOST_PARENTS};
 use ew_model::name::Name;
@@ -467,8 +470,10 @@ impl Replica {
         if edit.size() == 0 {
             return Ok(0);
         }
-        let (made, changes) = self.make(self.alloc, agent, edit)?;
-        let n = self.append(made.as_slice(), changes.as_slice())?;
+        let _most = self.limits.events();
+        let (op, rest) = edit.ops();
+        let (first, changes) = self.make(self.alloc, agent, edit, op)?;
+        let n = self.append(&first, rest, changes.as_slice())?;
         Ok(n)
     }
 
@@ -509,30 +514,33 @@ impl Replica {
         self.graph.frontier().as_slice().len() as u32
     }
 
-    /// The events of an edit that isn't refused, and what they do to the text.
+    /// The first event of an edit that isn't refused, with the edit's first operation, and what all of its events do to the text.
     fn make(
         &self,
         alloc: Global,
         agent: Name,
         edit: &Edit,
-    ) -> Result<(Vec<Event>, Vec<TextOp>), NoMem>
+        first: Op,
+    ) -> Result<(Event, Vec<TextOp>), NoMem>
         requires awaited { is_awaited self.now.held self.now.waiting agent ≡ false }
         requires allowed { model.edit_refusal self.now.limits self.now.held agent (edit_view edit.now) ≡ None }
-        ensures events { IfOk result (λ made. made.0.items ≡ model.events_of_edit self.now.held agent (edit_view edit.now)) }
-        ensures can { IfOk result (λ made. CanAppend self.now.limits self.now.held self.now.waiting made.0.items made.1.items) }
+        ensures events { IfOk result (λ made. (rest : List Op) → first ∷ rest ≡ model.ops_of (edit_view edit.now) → chain_from made.0 rest ≡ model.events_of_edit self.now.held agent (edit_view edit.now)) }
+        ensures can { IfOk result (λ made. CanAppend self.now.limits self.now.held self.now.waiting (model.events_of_edit self.now.held agent (edit_view edit.now)) made.1.items) }
     {
         let _most = self.limits.events();
-        let ops = edit.ops(alloc)?;
-        let made = events_by(alloc, &self.graph, agent, ops.as_slice())?;
-        let changes = changes(alloc, ops.as_slice())?;
-        Ok((made, changes))
+        let event = event_by(alloc, &self.graph, agent, first)?;
+        let changes = edit.changes(alloc)?;
+        Ok((event, changes))
     }
 
-    /// Holds some more events, and changes the text. Answers how many they are. It does all of it or nothing.
-    fn append(&mut self, made: &[Event], changes: &[TextOp]) -> Result<u32, NoMem>
-        requires { CanAppend self.old.limits self.old.held self.old.waiting made.now changes.now }
-        ensures count { IfOk result (λ n. n ≡ length made.now) }
-        ensures ok { OnOk result (self.new ≡ record { limits = self.old.limits; held = self.old.held ++ made.now; waiting = self.old.waiting }) }
+    /// Holds one more event and those of operations that go on from it, and changes the text. Answers how many they are. It does all
+    /// of it or nothing.
+    #[tactic(auto, using(crate::proofs::Chains::chain_from_long))]
+    fn append(&mut self, first: &Event, rest: RunOps<'_>, changes: &[TextOp]) -> Result<u32, NoMem>
+        requires can { CanAppend self.old.limits self.old.held self.old.waiting (chain_from first.now (ops_of rest)) changes.now }
+        requires fit { IndicesFit rest }
+        ensures count { IfOk result (λ n. n ≡ length (chain_from first.now (ops_of rest.entry))) }
+        ensures ok { OnOk result (self.new ≡ record { limits = self.old.limits; held = self.old.held ++ chain_from first.now (ops_of rest.entry); waiting = self.old.waiting }) }
         ensures err { OnErr result (self.new ≡ self.old) }
     {
         let _most = self.limits.events();
@@ -540,10 +548,11 @@ impl Replica {
             &mut self.graph,
             &mut self.text,
             &mut self.lengths,
-            made,
+            first,
+            rest,
             changes,
         )?;
-        Ok(made.len() as u32)
+        Ok(1 + rest.count())
     }
 
     /// Holds the events of a mark, which change no text. Answers how many they are. It does all of it or nothing.
