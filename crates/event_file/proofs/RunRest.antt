@@ -1,8 +1,8 @@
 -- What is still to come of a file in runs: how it begins, goes on and ends.
-use Rattle.std.proofs.Common.{◌≡◌, ◌↔◌, IsTrue, ℕ, zero, suc, ◌+◌, ◌-◌, ◌<◌, ◌≤◌, ◌^◌, Bool, true, false, cond, not, ltb, leb, eqb, ◌&&◌, List, [], ◌∷◌, ◌++◌, length, take, map, Option, Some, None, Result, Ok, Err, refl, sym, ap, ◌∙◌, subst, append_assoc, arith, le-ltb}
+use Rattle.std.proofs.Common.{◌≡◌, ◌↔◌, IsTrue, ℕ, zero, suc, ◌+◌, ◌-◌, ◌<◌, ◌≤◌, ◌^◌, Bool, true, false, cond, not, leb, eqb, List, [], ◌∷◌, ◌++◌, length, take, map, Option, Some, None, Result, Ok, Err, refl, sym, ap, ◌∙◌, subst, append_assoc, arith, le-ltb}
 use Rattle.std.specs.Prelude.{IfSome, IfNone, get_or, nat_le, nat_lt, slice_get, ◌==◌, if◌then◌else◌}
 use Rattle.std.specs.List.{list_all, AllByRecursion}
-use Rattle.std.proofs.lemmas.Bool.{and_parts, and_from, ltb-true, leb-true, eqb-true, eq-eqb}
+use Rattle.std.proofs.lemmas.Bool.{and_parts, and_from, leb-true, eqb-true, eq-eqb}
 use Rattle.ew_model.proofs.ListTests.{same_truth}
 use Rattle.ew_model.proofs.IdLaws.{names_equal, name_exact}
 use Rattle.std.proofs.lemmas.List.{map-append, length-append}
@@ -15,7 +15,7 @@ use Rattle.ew_model.specs.Edits.{chain_of}
 use Rattle.file_words.specs.FileFaults as model
 use Rattle.file_words.specs.FileFaults.{Reader, done, stops, go_on, ◌>>=◌, field, only, number, byte, open_agents, read_name, read_names, read_parents, read_records, read_end, FileFinding, finding_of, is_scalar}
 use Rattle.file_words.specs.FileFaults.RecordFault.{AgentNumber, IdTwice, ParentCount, KindBad, RunJoin, RunLength, Scalar}
-use Rattle.file_words.specs.FileRuns.{RunOps, FileRun, ops_count, ops_in, run_events, read_text, read_one_mark, first_op, is_next_id, are_only, joins, indices_fit, may_be_count, ids_from, are_new, read_ops_of, read_run_ops, read_run_record, read_runs, read_run_events}
+use Rattle.file_words.specs.FileRuns.{RunOps, FileRun, ops_count, ops_in, run_events, read_text, read_one_mark, first_op, is_next_id, are_only, joins, may_be_count, ids_from, are_new, read_ops_of, read_run_ops, read_run_record, read_runs, read_run_events}
 use Rattle.file_words.specs.FileRuns.RunOps.{Insertions, Deletions, BackDeletions, OneMark}
 use Rattle.file_words.proofs.RunFields.{IsCount, count_is}
 use Rattle.file_words.proofs.FileFields.{go_ok, tested_ok, then_again}
@@ -25,7 +25,7 @@ use Rattle.event_file.specs.declared.fault.Stop.{Stop}
 use Rattle.event_file.specs.declared.fault.FileFault.{FileFault}
 use Rattle.event_file.specs.Faults.{IsFault}
 use Rattle.event_file.specs.Known.{known_by, known_run}
-use Rattle.event_file.specs.OpenRuns.{Opened, IsStepOf, IsNextOf, IsOpOf, IsRestOf, IsRestIn, CanGoOn, run_of, last_of, events_behind}
+use Rattle.event_file.specs.OpenRuns.{Opened, IsStepOf, IsNextOf, IsOpOf, IsRestOf, IsRestIn, CanGoOn, run_of, events_behind}
 use Rattle.event_file.specs.Progress.{Known}
 use Rattle.event_file.specs.Reading.{Stops, IsStop}
 use Rattle.event_file.specs.Rest.{Rest, beyond, in_front, runs_found, run_rest, runs_rest, IsNext, GoesOnBy, GoOnBy}

@@ -1,5 +1,5 @@
 -- What is read of a file of either version, its start first.
-use Rattle.std.proofs.Common.{◌≡◌, ℕ, Bool, true, false, cond, List, [], None, Result, Ok, Err, refl, sym, ap, ◌∙◌, subst}
+use Rattle.std.proofs.Common.{◌≡◌, ℕ, Bool, true, false, cond, List, [], None, Result, Ok, Err, refl, sym, ap, ◌∙◌}
 use Rattle.std.specs.Prelude.{nat_lt, nat_eq}
 use Rattle.ew_model.specs.declared.event.Event.{Event}
 use Rattle.file_words.specs.FileFaults as model

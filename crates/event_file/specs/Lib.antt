@@ -1,6 +1,7 @@
 pub mod Faults
 pub mod IdRuns
 pub mod Known
+pub mod LastRuns
 pub mod OpenRuns
 pub mod Places
 pub mod Progress

@@ -1,5 +1,5 @@
 -- What is read of a content so far.
-use Rattle.std.specs.Prelude.{◌≡◌, ◌↔◌, ℕ, ◌-◌, Bool, true, List, [], ◌∷◌, ◌++◌, length, take, get_or, slice_get, Some, Ok}
+use Rattle.std.specs.Prelude.{◌≡◌, ◌↔◌, ℕ, ◌-◌, true, List, [], ◌∷◌, ◌++◌, length, take, get_or, slice_get, Some, Ok}
 use Rattle.std.specs.List.{list_any}
 use Rattle.ew_model.specs.declared.id.Id.{Id}
 use Rattle.ew_model.specs.declared.event.Op.{Op}

@@ -1,10 +1,10 @@
--- A file in runs as it is written, by numbers.
-use Rattle.std.specs.Prelude.{ℕ, suc, ◌+◌, ◌≤◌, Bool, false, ◌&&◌, List, [], ◌∷◌, ◌++◌, length, flat_map, Option, Some, None, if◌then◌else◌, ◌==◌}
+-- A file in runs, as the events of a history are put into it.
+use Rattle.std.specs.Prelude.{◌≡◌, ℕ, ◌-◌, Bool, false, List, [], ◌++◌, length, take, flat_map, Option, Some, None, slice_get}
 use Rattle.std.specs.Option.{option_map, option_map_or}
 use Rattle.ew_model.specs.declared.event.Op.{Op}
-use Rattle.ew_model.specs.Bytes.{four_bytes}
 use Rattle.ew_model.specs.declared.event.Event.{Event}
-use Rattle.file_words.specs.FileRuns.{RunOps, ops_count, op_alone, takes_step, with_op, run_ops_bytes}
+use Rattle.file_words.specs.File.{file_start}
+use Rattle.file_words.specs.FileRuns.{RunOps, FileRun, takes_step, run_ops_bytes, file_runs, run_record}
 use Rattle.event_file.specs.Places.{agent_place, places_of}
 
 -- a run by places: that of its agent, the number of its first event, and what its events do
@@ -32,49 +32,30 @@ last_ops (Some r) = run_ops_bytes r.ops
 abbrev pub all_put : RunsPut → List ℕ
 all_put w = w.bytes ++ last_ops w.last
 
--- the last run has no more events than were put
-abbrev pub HasAtMost : ℕ → Option PlacedRun → Type 0
-HasAtMost count None = Unit {0}
-HasAtMost count (Some r) = ops_count r.ops ≤ count
+-- an operation takes the step of the last run
+abbrev pub takes_last : RunsPut → Op → Bool
+takes_last w op = option_map_or (λ r. takes_step r.ops op) w.last false
 
--- a record up to its parents, with the places of its agent and of these
-abbrev pub head_of : ℕ → ℕ → List ℕ → List ℕ
-head_of agent seq parents = four_bytes agent ++ four_bytes seq ++ length parents ∷ flat_map four_bytes parents
+-- the run by the place of its agent
+abbrev pub placed : List Event → FileRun → PlacedRun
+placed history r = record { agent = agent_place history r.id.agent; seq = r.id.seq; ops = r.ops }
 
--- there is one place, and it is that of the last of so many events
-abbrev pub are_only_last : ℕ → List ℕ → Bool
-are_only_last count [] = false
-are_only_last count (p ∷ []) = suc p == count
-are_only_last count (p ∷ q ∷ ps) = false
+-- the last of the runs, if there is one
+abbrev pub last_run : List FileRun → Option FileRun
+last_run runs = slice_get runs (length runs - 1)
 
--- an event continues a run, whose last event is the last of so many
-abbrev pub goes_on : ℕ → PlacedRun → ℕ → ℕ → List ℕ → Op → Bool
-goes_on count r agent seq parents op = r.agent == agent && seq == r.seq + ops_count r.ops && are_only_last count parents && takes_step r.ops op
+-- The first events of a history are put, so many: the bytes are those before the records, and the records of the runs that these
+-- events make.
+pub record ArePut (history : List Event) (n : ℕ) (w : RunsPut) : Type 0 where
+  pub counted : w.count ≡ n
+  pub written : all_put w ≡ file_start 2 history ++ flat_map (run_record history) (file_runs (take n history))
+  pub last : w.last ≡ option_map (placed history) (last_run (file_runs (take n history)))
 
--- an event continues the last run
-abbrev pub goes_on_last : RunsPut → ℕ → ℕ → List ℕ → Op → Bool
-goes_on_last w agent seq parents op = option_map_or (λ r. goes_on w.count r agent seq parents op) w.last false
-
--- the run with one operation more
-abbrev pub lengthened : Op → PlacedRun → PlacedRun
-lengthened op r = record { agent = r.agent; seq = r.seq; ops = with_op r.ops op }
-
--- one event more in the last run
-abbrev pub longer_put : RunsPut → Op → RunsPut
-longer_put w op = record { bytes = w.bytes; last = option_map (lengthened op) w.last; count = w.count + 1 }
-
--- one event more, which begins a run
-abbrev pub begun_put : RunsPut → ℕ → ℕ → List ℕ → Op → RunsPut
-begun_put w agent seq parents op = record {
-  bytes = all_put w ++ head_of agent seq parents;
-  last = Some (record { agent = agent; seq = seq; ops = op_alone op });
-  count = w.count + 1;
-}
-
--- one event more: it is one of the last run where it continues that, and begins one where not
-abbrev pub with_event : RunsPut → ℕ → ℕ → List ℕ → Op → RunsPut
-with_event w agent seq parents op = if goes_on_last w agent seq parents op then longer_put w op else begun_put w agent seq parents op
-
--- an event of a history, put with the places that it names
-abbrev pub event_put : List Event → RunsPut → Event → RunsPut
-event_put history w e = with_event w (agent_place history e.id.agent) e.id.seq (places_of history e.parents) e.op
+-- the event at a position of a history has the number and does the operation, and its agent and its parents have these places
+pub record IsNamed (history : List Event) (position : ℕ) (agent seq : ℕ) (parents : List ℕ) (op : Op) : Type 0 where
+  pub event : Event
+  pub there : slice_get history position ≡ Some event
+  pub agent_is : agent ≡ agent_place history event.id.agent
+  pub seq_is : seq ≡ event.id.seq
+  pub parents_are : parents ≡ places_of history event.parents
+  pub op_is : op ≡ event.op

@@ -1,11 +1,17 @@
 //! Writing an event file in runs, one event after another.
 
-ghost use Rattle.std.specs.Prelude.{◌≡◌, ◌+◌, ◌-◌, ◌<◌, ◌≤◌, ◌^◌, true, ◌++◌, length, Some, IfOk, OnOk, OnErr};
+ghost use Rattle.std.specs.Prelude.{◌≡◌, ℕ, suc, ◌+◌, ◌-◌, ◌<◌, ◌≤◌, ◌^◌, true, false, List, ◌++◌, length, Some, slice_get, IfOk, OnOk, OnErr};
 ghost use Rattle.std.specs.Option.{option_map};
+ghost use Rattle.ew_model.specs.declared.id.Id.{Id};
+ghost use Rattle.ew_model.specs.declared.event.Event.{Event};
+ghost use Rattle.ew_model.specs.Ancestors.{ids_of};
+ghost use Rattle.ew_model.specs.Writable.{IsWritable};
 ghost use Rattle.file_words.specs.File.{with_digest};
-ghost use Rattle.event_file.specs.Writing.{start_of};
-ghost use Rattle.event_file.specs.RunWriting.{none_put, all_put, last_ops, head_of, goes_on_last, longer_put, begun_put, with_event, HasAtMost};
+ghost use Rattle.history_definitions.specs.Chains.{event_behind};
+ghost use Rattle.event_file.specs.LastRuns.{HasAtMost, begun_put, goes_on_last, head_of, longer_put};
+ghost use Rattle.event_file.specs.RunWriting.{ArePut, IsNamed, all_put, last_ops, none_put, takes_last};
 ghost use Rattle.event_file.specs.Steps.{run_of};
+ghost use Rattle.event_file.specs.Writing.{start_of};
 
 use crate::format::{CHARACTER_BYTES, RUNS_VERSION};
 use crate::steps::{LastRun, Steps, begin_text, keep_character};
@@ -17,7 +23,7 @@ use std::alloc::Global;
 use std::marker::Model;
 
 /// An event file in runs on its way, for events that nobody holds as a list. Contracts see its bytes up to what the events of
-/// the last run do, that run, and how many events were put.
+/// the last run do, that run, and how many events were put. `ArePut` says of which history it holds the first events.
 #[derive(Drop)]
 pub struct RunWriter {
     out: Vec<u8>,
@@ -32,7 +38,8 @@ pub struct RunWriter {
 
 impl Model for RunWriter {
     ghost use Rattle.std.specs.Option.{option_map};
-    ghost use Rattle.event_file.specs.RunWriting.{RunsPut, HasAtMost};
+    ghost use Rattle.event_file.specs.LastRuns.{HasAtMost};
+    ghost use Rattle.event_file.specs.RunWriting.{RunsPut};
     ghost use Rattle.event_file.specs.Steps.{run_of};
 
     ghost Value = { RunsPut };
@@ -60,12 +67,12 @@ impl RunWriter {
         })
     }
 
-    /// Puts an event behind the others: the place of its agent, its number, the places of its parents in the order of their
-    /// ids, and its operation. It is one of the last run where it continues that, and begins one where not.
+    /// Puts the next event of a history behind the others: the place of its agent, its number, the places of its parents in the
+    /// order of their ids, and its operation.
     pub fn put(&mut self, agent: u32, seq: u32, parents: &[u32], op: &Op) -> Result<(), NoMem>
         requires few { length parents.now ≤ 16 }
         requires room { self.old.count < 2 ^ 32 - 1 }
-        ensures ok { OnOk result (self.new ≡ with_event self.old agent seq parents.now op.now) }
+        ensures put { OnOk result ((history : List Event) (n : ℕ) → IsWritable history → ArePut history n self.old → IsNamed history n agent seq parents.now op.now → ArePut history (n + 1) self.new) }
         ensures err { OnErr result (self.new ≡ self.old) }
     {
         if self.goes_on(agent, seq, parents, op) {
@@ -73,6 +80,23 @@ impl RunWriter {
         } else {
             self.begin(agent, seq, parents, op)
         }
+    }
+
+    /// Puts the event behind the others that goes on from the last one, where its operation takes the step of the last run: it is the
+    /// next event of the last one's agent, and has that one as its only parent. Says whether it does; where not, none is put. No
+    /// names are compared, and no parents.
+    pub fn go_on(&mut self, op: &Op) -> Result<bool, NoMem>
+        requires room { self.old.count < 2 ^ 32 - 1 }
+        ensures takes { IfOk result (λ b. b ≡ takes_last self.old op.now) }
+        ensures put { IfOk result (λ b. b ≡ true → (history : List Event) (n : ℕ) (x : Id) → ArePut history (suc n) self.old → slice_get (ids_of history) n ≡ Some x → slice_get history (suc n) ≡ Some (event_behind x op.now) → ArePut history (suc (suc n)) self.new) }
+        ensures none { IfOk result (λ b. b ≡ false → self.new ≡ self.old) }
+        ensures err { OnErr result (self.new ≡ self.old) }
+    {
+        let takes = self.takes(op);
+        if takes {
+            self.make_longer(op)?;
+        }
+        Ok(takes)
     }
 
     /// The file, closed by its digest.
@@ -92,6 +116,17 @@ impl RunWriter {
         let count = self.count;
         match &self.last {
             Some(there) => there.is_gone_on(&self.text, count, agent, seq, parents, op),
+            None => false,
+        }
+    }
+
+    /// Whether an operation takes the step of the last run.
+    fn takes(&self, op: &Op) -> bool
+        ensures { result ≡ takes_last self.now op.now }
+    {
+        let _count = self.count;
+        match &self.last {
+            Some(there) => there.steps.are_gone_on(&self.text, op),
             None => false,
         }
     }

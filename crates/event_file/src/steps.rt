@@ -4,7 +4,7 @@ ghost use Rattle.std.specs.Prelude.{◌≡◌, ℕ, ◌-◌, ◌<◌, ◌^◌, [
 ghost use Rattle.ew_model.specs.Bytes.{four_bytes};
 ghost use Rattle.file_words.specs.FileRuns.{ops_count, op_alone, takes_step, with_op, run_ops_bytes};
 ghost use Rattle.file_words.specs.FileRuns as model;
-ghost use Rattle.event_file.specs.RunWriting.{are_only_last, goes_on};
+ghost use Rattle.event_file.specs.LastRuns.{are_only_last, goes_on};
 ghost use Rattle.event_file.specs.Steps.{ops_of, counted, run_of, with_character};
 
 use crate::format::{BACK_DELETIONS, DELETION, INSERTION, MARK};

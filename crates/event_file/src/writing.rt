@@ -6,8 +6,8 @@ ghost use Rattle.ew_model.specs.Ids.{id_cmp};
 ghost use Rattle.ew_model.specs.Bytes.{four_bytes, name_bytes, op_bytes};
 ghost use Rattle.ew_model.specs.Writable.{agents_of, IsWritable};
 ghost use Rattle.file_words.specs.File.{record_bytes, with_digest, file_of};
-ghost use Rattle.file_words.specs.FileRuns.{file_runs, run_record, file2_of};
-ghost use Rattle.event_file.specs.RunWriting.{none_put, all_put};
+ghost use Rattle.file_words.specs.FileRuns.{file2_of};
+ghost use Rattle.event_file.specs.RunWriting.{ArePut};
 ghost use Rattle.event_file.specs.Writing.{start_of, fields_of};
 
 use crate::agents::Agents;
@@ -39,7 +39,6 @@ pub fn encode(alloc: Global, events: &[Event]) -> Result<Vec<u8>, NoMem>
 }
 
 /// The event file in runs of the events.
-#[tactic(auto, unfolding(file_words::specs::FileRuns::file2_of, file_words::specs::FileRuns::file2_content))]
 pub fn encode_runs(alloc: Global, events: &[Event]) -> Result<Vec<u8>, NoMem>
     requires { IsWritable events.now }
     ensures { IfOk result (λ bytes. bytes.items ≡ file2_of events.now) }
@@ -130,7 +129,7 @@ fn put_records(
     Ok(())
 }
 
-/// Puts the records of the events' runs behind the start of the file, up to the end of the last one.
+/// Puts the events behind the start of their file.
 fn put_runs(
     alloc: Global,
     writer: &mut RunWriter,
@@ -139,8 +138,8 @@ fn put_runs(
 ) -> Result<(), NoMem>
     requires writable { IsWritable events.now }
     requires agents { agents.now ≡ agents_of events.now }
-    requires none { writer.old ≡ none_put writer.old.bytes }
-    ensures { OnOk result (all_put writer.new ≡ writer.old.bytes ++ flat_map (run_record events.now) (file_runs events.now)) }
+    requires none { ArePut events.now 0 writer.old }
+    ensures { OnOk result (ArePut events.now (length events.now) writer.new) }
 {
     let mut positions = BTreeMap::new(alloc);
     let mut parents = Vec::new(alloc);

@@ -12,7 +12,7 @@ use Rattle.ew_model.specs.Ids.{id_eq, id_cmp}
 use Rattle.ew_model.specs.Positions.{parent_positions, parents_at}
 use Rattle.ew_model.specs.Sorting.{sort_by}
 use Rattle.ew_model.proofs.AgentLaws.{agents_push, ids_count}
-use Rattle.ew_model.proofs.ListPlaces.{found_there, place_of as place_at}
+use Rattle.ew_model.proofs.ListPlaces.{some_is, found_there, place_of as place_at}
 use Rattle.ew_model.proofs.ListParts.{take_next}
 use Rattle.ew_model.proofs.TextLaws.{ids_equal}
 use Rattle.file_words.proofs.FileRecords.{id_eq_exact}
@@ -63,3 +63,20 @@ one_place history position e positions w admitted at are lower few =
         let stands = id_stands (ids_of history) q (omega arith) in
         ap (λ n. n ∷ []) (sym (place_at id_eq ids_equal id_eq_exact [] (ids_of history) q x (all_new [] history w.each) stands)) ∙ ap (places_of history) (sym told)
     by (q ∷ r ∷ ps) l f told = absurd (omega arith)
+
+-- an event with an id stands within the history
+pub within_ids : (history : List Event) (position : ℕ) (x : Id) → slice_get (ids_of history) position ≡ Some x → position < length history
+within_ids history position x at =
+    let size = ids_count history in
+    let within = slice_get_within (ids_of history) position x at in
+    omega (arith, size, within)
+
+-- the id of the only parent of an event, which stands right before it
+pub one_parent_id : (history : List Event) (position : ℕ) (e : Event) (n : ℕ) (x : Id) → IsAdmitted history → slice_get history position ≡ Some e → position ≡ suc n → slice_get (ids_of history) n ≡ Some x
+    → parents_at (parent_positions history) (suc n) ≡ n ∷ [] → e.parents ≡ x ∷ []
+one_parent_id history position e n x admitted at is there link =
+    let here : id_of (ids_of history) n ≡ x = some_is (id_of (ids_of history) n) x (sym (id_stands (ids_of history) n (slice_get_within (ids_of history) n x there)) ∙ there) in
+    parents_told history position e admitted at
+    ∙ ap (λ m. sort_by id_cmp (map (id_of (ids_of history)) (parents_at (parent_positions history) m))) is
+    ∙ ap (λ ps. sort_by id_cmp (map (id_of (ids_of history)) ps)) link
+    ∙ ap (λ y. y ∷ []) here

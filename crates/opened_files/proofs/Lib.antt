@@ -1,6 +1,7 @@
 pub mod FileBytes
 pub mod Giving
 pub mod GraphRecords
+pub mod IdRuns
 pub mod Opening
 pub mod Reading
 pub mod Shown

@@ -1,4 +1,4 @@
-use Rattle.std.proofs.Common.{◌≡◌, ◌+◌, ◌-◌, ◌<◌, ◌≤◌, sym, arith}
+use Rattle.std.proofs.Common.{◌-◌, ◌<◌, ◌≤◌, sym, arith}
 use Rattle.event_file.proofs.IdRuns.{found_in, not_found, run_within}
 use Rattle.event_file.proofs.id_runs.id_at.Goals as goal
 

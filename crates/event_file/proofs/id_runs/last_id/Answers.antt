@@ -1,4 +1,4 @@
-use Rattle.std.proofs.Common.{◌≡◌, ◌+◌, ◌-◌, suc, length, sym, arith}
+use Rattle.std.proofs.Common.{◌-◌, length, sym, arith}
 use Rattle.event_file.proofs.IdRuns.{last_found, last_ends, run_within}
 use Rattle.event_file.proofs.id_runs.last_id.Goals as goal
 

@@ -1,4 +1,4 @@
-use Rattle.std.proofs.Common.{◌≡◌, ◌-◌, arith}
+use Rattle.std.proofs.Common.{◌-◌, arith}
 use Rattle.event_file.proofs.IdRuns.{last_more}
 use Rattle.event_file.proofs.id_runs.lengthen_last.Goals as goal
 

@@ -1,4 +1,4 @@
-use Rattle.std.proofs.Common.{◌≡◌, ◌∙◌, ◌+◌, ◌∷◌, ◌++◌, [], suc, List, length, sym, ap, subst, arith}
+use Rattle.std.proofs.Common.{◌≡◌, ◌∙◌, ◌+◌, ◌++◌, suc, List, length, sym, ap, subst, arith}
 use Rattle.event_file.specs.declared.id_runs.IdRun.{IdRun}
 use Rattle.event_file.specs.IdRuns.{short_run, short_ids, AreIdRuns, IsBehind}
 use Rattle.event_file.proofs.IdRuns.{more_in, started_in}

@@ -1,4 +1,4 @@
-use Rattle.std.proofs.Common.{◌-◌, length, drop, take, List, ℕ, ap, sym, subst, ◌∙◌, arith}
+use Rattle.std.proofs.Common.{◌-◌, length, drop, take, ap, subst, ◌∙◌, arith}
 use Rattle.std.proofs.lemmas.List.{take_all, length-drop}
 use Rattle.std.proofs.lemmas.Result.{err_from_is_err_and}
 use Rattle.file_words.specs.FileFaults.{finding_of}

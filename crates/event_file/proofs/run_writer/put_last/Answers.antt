@@ -1,6 +1,6 @@
 use Rattle.std.proofs.Common.{◌-◌, ◌^◌, Some, subst, arith}
 use Rattle.std.specs.Option.{option_map}
-use Rattle.event_file.specs.RunWriting.{HasAtMost}
+use Rattle.event_file.specs.LastRuns.{HasAtMost}
 use Rattle.event_file.specs.Steps.{run_of}
 use Rattle.event_file.specs.declared.steps.LastRun.{LastRun}
 use Rattle.std.specs.Prelude.{Option}

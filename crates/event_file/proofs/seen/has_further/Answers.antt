@@ -1,4 +1,4 @@
-use Rattle.std.proofs.Common.{◌≡◌, ◌+◌, refl}
+use Rattle.std.proofs.Common.{◌+◌, refl}
 use Rattle.ew_model.specs.declared.id.Id.{Id}
 use Rattle.event_file.proofs.SeenCounts.{last_tells, none_tells}
 use Rattle.event_file.proofs.seen.has_further.Goals as goal

@@ -1,38 +1,57 @@
-use Rattle.std.proofs.Common.{◌≡◌, ◌∙◌, List, ℕ, ap, length, subst, arith, OnOk}
-use Rattle.std.specs.List.{list_any, position_or_len}
+use Rattle.std.proofs.Common.{◌≡◌, ◌∙◌, ◌+◌, List, ℕ, ap, sym, length, arith}
 use Rattle.std.proofs.lemmas.List.{length-map}
+use Rattle.std.proofs.lemmas.Option.{slice_get_within}
 use Rattle.ew_model.specs.declared.id.Id.{Id}
 use Rattle.ew_model.specs.declared.event.Event.{Event}
-use Rattle.ew_model.specs.Ids.{name_eq}
-use Rattle.ew_model.proofs.ListParts.{element_there}
+use Rattle.ew_model.specs.Writable.{IsWritable}
+use Rattle.ew_model.proofs.Outcomes.{on_ok_then}
+use Rattle.event_graph.proofs.Counted.{event_there}
 use Rattle.agreement.proofs.Shared.{same_made}
 use Rattle.event_file.specs.Places.{agent_place, place_of, places_of}
-use Rattle.event_file.specs.RunWriting.{RunsPut, with_event, event_put}
+use Rattle.event_file.specs.RunWriting.{ArePut, IsNamed}
 use Rattle.event_file.proofs.Asked.{asked}
+use Rattle.opened_files.proofs.GraphRecords.{within_ids}
 use Rattle.opened_files.proofs.written.put_event.Goals as goal
 
-pub number_near-agent-requires : goal.number_near-agent-requires
-number_near-agent-requires c =
-    let history = c.args.graph.now in
-    let here = element_there history c.args.position c.requires.within in
-    let same = same_made (λ (e : Event). e.id) history c.args.position here.0 c.id_near-id.result here.1 c.id_near-id.ensures in
-    ap (λ (x : Id). list_any (name_eq x.agent) c.args.agents.now) same ∙ ap (list_any (name_eq here.0.id.agent)) c.requires.agents ∙ (asked history c.args.position here.0 c.requires.writable here.1).agent
+pub find_parents-requires-clause-within : goal.find_parents-requires-clause-within
+find_parents-requires-clause-within c = within_ids c.args.graph.now c.args.position c.requires.named.0 c.requires.named.1
+
+pub id_near-id-requires : goal.id_near-id-requires
+id_near-id-requires c = within_ids c.args.graph.now c.args.position c.requires.named.0 c.requires.named.1
+
+pub op_near-op-requires : goal.op_near-op-requires
+op_near-op-requires c = within_ids c.args.graph.now c.args.position c.requires.named.0 c.requires.named.1
 
 pub put-requires : goal.put-requires
 put-requires c =
     let history = c.args.graph.now in
-    let here = element_there history c.args.position c.requires.within in
+    let here = event_there history c.args.position c.requires.named.0 c.requires.named.1 in
     let same = c.deref.ensures.value ∙ c.in_ok-find_parents.ensures here.0 here.1 in
     let size = ap (λ (xs : List ℕ). length xs) same ∙ length-map here.0.parents (place_of history) in
-    record { few = omega (arith, size, (asked history c.args.position here.0 c.requires.writable here.1).few); room = c.requires.room }
+    let within = slice_get_within history c.args.position here.0 here.1 in
+    let counted = c.requires.put.counted in
+    record { few = omega (arith, size, (asked history c.args.position here.0 c.requires.writable here.1).few); room = omega (arith, counted, within, c.requires.writable.few) }
 
 pub returns : goal.returns
-returns c e at =
+returns c =
     let history = c.args.graph.now in
+    let position = c.args.position in
+    let x = c.requires.named.0 in
+    let here = event_there history position x c.requires.named.1 in
+    let e = here.0 in
     let id = c.id_near-id.result in
-    let same = same_made (λ (f : Event). f.id) history c.args.position e id at c.id_near-id.ensures in
-    let op = same_made (λ (f : Event). f.op) history c.args.position e c.op_near-op.result at c.op_near-op.ensures in
-    let agent : c.number_near-agent.result ≡ agent_place history e.id.agent = c.number_near-agent.ensures.value ∙ ap (position_or_len (name_eq id.agent)) c.requires.agents ∙ ap (λ (x : Id). agent_place history x.agent) same in
-    let parents : c.deref.result.now ≡ places_of history e.parents = c.deref.ensures.value ∙ c.in_ok-find_parents.ensures e at in
-    let put : with_event c.args.writer.now c.number_near-agent.result id.seq c.deref.result.now c.op_near-op.result ≡ event_put history c.args.writer.now e = λ i. with_event c.args.writer.now (agent i) (same i).seq (parents i) (op i) in
-    subst (λ (w : RunsPut). OnOk c.put.result (c.put.new.self ≡ w)) put c.put.ensures.ok
+    let same = same_made (λ (f : Event). f.id) history position e id here.1 c.id_near-id.ensures in
+    let op = same_made (λ (f : Event). f.op) history position e c.op_near-op.result here.1 c.op_near-op.ensures in
+    let parents : c.deref.result.now ≡ places_of history e.parents = c.deref.ensures.value ∙ c.in_ok-find_parents.ensures e here.1 in
+    on_ok_then c.put.result
+    ((h : List Event) (n : ℕ) → IsWritable h → ArePut h n c.args.writer.now → IsNamed h n c.args.agent id.seq c.deref.result.now c.op_near-op.result → ArePut h (n + 1) c.put.new.self)
+    (ArePut history (position + 1) c.put.new.self)
+    (λ put. put history position c.requires.writable c.requires.put (record {
+      event = e;
+      there = here.1;
+      agent_is = c.requires.named.2 ∙ ap (λ (y : Id). agent_place history y.agent) (sym here.2);
+      seq_is = ap (λ (y : Id). y.seq) same;
+      parents_are = parents;
+      op_is = op;
+    }))
+    c.put.ensures.put

@@ -1,27 +1,32 @@
-use Rattle.std.proofs.Common.{◌≡◌, ◌+◌, length, sym, subst, arith}
+use Rattle.std.proofs.Common.{◌≡◌, ◌∙◌, length, ap, subst, arith}
+use Rattle.std.specs.List.{list_any, position_or_len}
+use Rattle.ew_model.specs.Ids.{name_eq}
 use Rattle.ew_model.proofs.ListParts.{element_there}
-use Rattle.event_file.proofs.RunWriting.{ArePut, put_counted, put_next, put_whole}
+use Rattle.agreement.proofs.Shared.{same_made}
+use Rattle.ew_model.specs.declared.event.Event.{Event}
+use Rattle.ew_model.specs.declared.id.Id.{Id}
+use Rattle.event_file.specs.RunWriting.{ArePut}
+use Rattle.event_file.proofs.Asked.{asked}
 use Rattle.opened_files.proofs.written.put_events.Goals as goal
 
-pub loop-position-init : goal.loop-position-init
-loop-position-init c = c.requires.none
+pub number_of-agent-requires : goal.number_of-agent-requires
+number_of-agent-requires c =
+    let history = c.args.graph.now in
+    let first = c.id_near-first.result in
+    let here = element_there history c.loop-position.position (omega arith) in
+    let same = same_made (λ (e : Event). e.id) history c.loop-position.position here.0 first here.1 c.id_near-first.ensures in
+    ap (λ (x : Id). list_any (name_eq x.agent) c.args.agents.now) same ∙ ap (list_any (name_eq here.0.id.agent)) c.requires.agents ∙ (asked history c.loop-position.position here.0 c.requires.writable here.1).agent
 
-pub put_event-requires-clause-room : goal.put_event-requires-clause-room
-put_event-requires-clause-room c =
-    let counted = put_counted c.args.graph.now c.args.writer.now.bytes c.loop-position.position c.loop-position.writer c.loop-position.invariant in
-    omega (arith, counted, c.requires.writable.few)
+pub put_piece-requires-clause-agent : goal.put_piece-requires-clause-agent
+put_piece-requires-clause-agent c = c.number_of-agent.ensures ∙ ap (position_or_len (name_eq c.id_near-first.result.agent)) c.requires.agents
 
 pub loop-position-preserved : goal.loop-position-preserved
-loop-position-preserved c =
-    let history = c.args.graph.now in
-    let start = c.args.writer.now.bytes in
-    let position = c.loop-position.position in
-    let here = element_there history position (omega arith) in
-    subst (ArePut history start (position + 1)) (sym (c.in_ok-put_event.ensures here.0 here.1)) (put_next history start position c.loop-position.writer here.0 c.requires.writable c.loop-position.invariant here.1)
+loop-position-preserved c = record {
+  put = c.in_ok-put_piece.ensures;
+  within = c.end_of_ids-end.ensures.to;
+}
 
 pub returns : goal.returns
 returns c =
-    let history = c.args.graph.now in
-    let start = c.args.writer.now.bytes in
-    let all : c.loop-position.position ≡ length history = omega arith in
-    put_whole history start c.loop-position.writer (subst (λ n. ArePut history start n c.loop-position.writer) all c.loop-position.invariant)
+    let all : c.loop-position.position ≡ length c.args.graph.now = omega (arith, c.loop-position.invariant.within) in
+    subst (λ n. ArePut c.args.graph.now n c.loop-position.writer) all c.loop-position.invariant.put

@@ -1,5 +1,12 @@
-use Rattle.event_file.proofs.RunWriting.{ArePut}
+use Rattle.std.proofs.Common.{◌-◌, ◌≤◌, length}
+use Rattle.event_file.specs.RunWriting.{ArePut}
 use Rattle.opened_files.proofs.written.put_events.Given as goal
 
 abbrev pub invariant-loop-position : goal.invariant-loop-position
-invariant-loop-position l = ArePut l.graph l.initial.writer.bytes l.position l.writer
+invariant-loop-position l = record {
+  put : ArePut l.graph l.position l.writer;
+  within : l.position ≤ length l.graph;
+}
+
+abbrev pub decreases-loop-position : goal.decreases-loop-position
+decreases-loop-position l = length l.graph - l.position

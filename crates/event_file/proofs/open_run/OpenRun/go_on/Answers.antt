@@ -1,4 +1,4 @@
-use Rattle.std.proofs.Common.{◌<◌, arith}
+use Rattle.std.proofs.Common.{arith}
 use Rattle.event_file.specs.Runs.{ops_as}
 use Rattle.event_file.proofs.RunRest.{count_step}
 use Rattle.event_file.proofs.open_run.OpenRun.go_on.Goals as goal

@@ -1,4 +1,4 @@
-use Rattle.std.proofs.Common.{◌≡◌, ◌+◌, ℕ, length, ap, sym, ◌∙◌}
+use Rattle.std.proofs.Common.{◌+◌, ℕ, length, ap, sym, ◌∙◌}
 use Rattle.ew_model.specs.declared.id.Id.{Id}
 use Rattle.ew_model.specs.declared.event.Op.{Op}
 use Rattle.file_words.specs.FileRuns.{ops_in}

@@ -1,4 +1,4 @@
-use Rattle.std.proofs.Common.{ap, sym, ◌∙◌}
+use Rattle.std.proofs.Common.{ap}
 use Rattle.event_file.specs.OpenRuns.{Opened}
 use Rattle.event_file.specs.Runs.{ops_as}
 use Rattle.event_file.proofs.RunRest.{done_when}

@@ -1,13 +1,11 @@
-use Rattle.std.proofs.Common.{◌≡◌, ◌+◌, ◌<◌, ◌^◌, suc, length, List, [], ◌∷◌, ◌++◌, true, refl, ap, ◌∙◌, sym, subst, arith}
-use Rattle.std.specs.Prelude.{slice_get, get_or}
+use Rattle.std.proofs.Common.{◌≡◌, ◌+◌, ◌<◌, ◌^◌, suc, length, List, ◌++◌, true, ap, ◌∙◌, sym, subst}
+use Rattle.std.specs.Prelude.{slice_get}
 use Rattle.std.specs.BTreeMap.{get}
 use Rattle.ew_model.specs.declared.event.Event.{Event}
 use Rattle.ew_model.specs.Ids.{id_cmp}
-use Rattle.ew_model.specs.Writable.{agents_of}
 use Rattle.event_file.specs.declared.id_runs.IdRun.{IdRun}
-use Rattle.event_file.specs.declared.short_id.ShortId.{ShortId}
 use Rattle.event_file.specs.IdRuns.{short_run, short_ids, AreIdRuns}
-use Rattle.event_file.specs.Known.{known, known_by, known_run, id_by, AreWithin}
+use Rattle.event_file.specs.Known.{known, known_run, AreWithin}
 use Rattle.event_file.specs.Progress.{Known, IsIndexed}
 use Rattle.event_file.specs.SeenIds.{IsSeen, AreParted}
 use Rattle.file_words.specs.FileRuns.{are_new}

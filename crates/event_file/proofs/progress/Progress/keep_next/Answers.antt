@@ -1,13 +1,12 @@
-use Rattle.std.proofs.Common.{◌≡◌, ◌+◌, ◌<◌, ◌^◌, suc, length, List, [], ◌∷◌, ◌++◌, false, refl, ap, ◌∙◌, sym, subst, arith}
-use Rattle.std.specs.Prelude.{slice_get, get_or}
+use Rattle.std.proofs.Common.{◌≡◌, ◌+◌, ◌<◌, ◌^◌, length, List, [], ◌∷◌, ◌++◌, false, refl, ap, ◌∙◌, sym, subst, arith}
+use Rattle.std.specs.Prelude.{get_or}
 use Rattle.std.specs.BTreeMap.{get}
 use Rattle.ew_model.specs.declared.event.Event.{Event}
 use Rattle.ew_model.specs.Ids.{id_cmp}
 use Rattle.ew_model.specs.Writable.{agents_of}
 use Rattle.event_file.specs.declared.id_runs.IdRun.{IdRun}
-use Rattle.event_file.specs.declared.short_id.ShortId.{ShortId}
 use Rattle.event_file.specs.IdRuns.{short_run, short_ids, AreIdRuns}
-use Rattle.event_file.specs.Known.{known, known_by, known_run, id_by, AreWithin}
+use Rattle.event_file.specs.Known.{known, known_by, id_by, AreWithin}
 use Rattle.event_file.specs.Progress.{Known, IsIndexed}
 use Rattle.event_file.specs.SeenIds.{IsSeen}
 use Rattle.ew_model.specs.Ancestors.{is_held}

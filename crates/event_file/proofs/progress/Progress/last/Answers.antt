@@ -1,5 +1,5 @@
-use Rattle.std.proofs.Common.{◌≡◌, ◌-◌, ◌<◌, ◌^◌, [], List, length, ap, ◌∙◌, sym, subst, arith}
-use Rattle.std.specs.Prelude.{get_or, slice_get, Some}
+use Rattle.std.proofs.Common.{◌-◌, ◌<◌, ◌^◌, [], List, length, ap, ◌∙◌, sym, subst}
+use Rattle.std.specs.Prelude.{get_or}
 use Rattle.std.specs.BTreeMap.{get}
 use Rattle.std.proofs.lemmas.List.{length-map}
 use Rattle.ew_model.specs.Ids.{id_cmp}

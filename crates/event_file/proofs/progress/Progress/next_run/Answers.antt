@@ -1,5 +1,4 @@
-use Rattle.std.proofs.Common.{◌≡◌, ◌∙◌, ◌+◌, ◌-◌, ◌<◌, ◌≤◌, ◌^◌, ◌&&◌, ◌++◌, ℕ, suc, not, true, ap, arith}
-use Rattle.ew_model.specs.Ancestors.{is_held}
+use Rattle.std.proofs.Common.{◌≡◌, ◌∙◌, ◌+◌, ◌-◌, ◌<◌, ◌^◌, ◌&&◌, ◌++◌, ℕ, suc, not, true, ap, arith}
 use Rattle.file_words.specs.FileRuns.{ops_count, are_new}
 use Rattle.event_file.specs.Known.{known_run}
 use Rattle.event_file.specs.Progress.{Known}

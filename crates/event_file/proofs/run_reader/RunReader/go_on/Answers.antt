@@ -1,6 +1,5 @@
-use Rattle.std.proofs.Common.{◌≡◌, [], ◌∙◌, subst}
+use Rattle.std.proofs.Common.{◌≡◌, [], subst}
 use Rattle.std.specs.Prelude.{IfSome, IfNone}
-use Rattle.event_file.specs.OpenRuns.{events_behind}
 use Rattle.event_file.specs.Rest.{RunsRest, run_rest, runs_rest, GoesOnBy}
 use Rattle.event_file.proofs.RunRest.{some_goes_on, none_goes_on}
 use Rattle.event_file.proofs.run_reader.RunReader.go_on.Goals as goal

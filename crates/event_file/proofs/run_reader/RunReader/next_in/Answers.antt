@@ -1,4 +1,4 @@
-use Rattle.std.proofs.Common.{◌≡◌, ◌∙◌, ◌<◌, ◌≤◌, ◌-◌, ◌∷◌, Some, Ok, refl, sym, ap, subst, arith, List, ℕ}
+use Rattle.std.proofs.Common.{◌∙◌, ◌<◌, ◌-◌, Some, Ok, refl, sym, ap, subst, arith, List, ℕ}
 use Rattle.event_file.specs.Faults.{IsFault}
 use Rattle.event_file.specs.Progress.{Known}
 use Rattle.event_file.specs.Rest.{Rest, RunsRest, run_rest, runs_rest, IsNext}

@@ -1,4 +1,4 @@
-use Rattle.std.proofs.Common.{◌≡◌, ◌+◌, arith}
+use Rattle.std.proofs.Common.{◌+◌, arith}
 use Rattle.std.specs.BTreeMap.{get}
 use Rattle.ew_model.specs.Ids.{id_cmp}
 use Rattle.event_file.proofs.SeenCounts.{added_next, added_range, parted_more}
