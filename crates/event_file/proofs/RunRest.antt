@@ -2,7 +2,7 @@
 use Rattle.std.proofs.Common.{◌≡◌, ◌↔◌, IsTrue, ℕ, zero, suc, ◌+◌, ◌-◌, ◌<◌, ◌≤◌, ◌^◌, Bool, true, false, cond, not, leb, eqb, List, [], ◌∷◌, ◌++◌, length, take, map, Option, Some, None, Result, Ok, Err, refl, sym, ap, ◌∙◌, subst, append_assoc, arith, le-ltb}
 use Rattle.std.specs.Prelude.{IfSome, IfNone, get_or, nat_le, nat_lt, slice_get, ◌==◌, if◌then◌else◌}
 use Rattle.std.specs.List.{list_all, AllByRecursion}
-use Rattle.std.proofs.lemmas.Bool.{and_parts, and_from, leb-true, eqb-true, eq-eqb}
+use Rattle.std.proofs.lemmas.Bool.{and_parts, and_from, ltb-true, leb-true, eqb-true, eqb-false, eq-eqb}
 use Rattle.ew_model.proofs.ListTests.{same_truth}
 use Rattle.ew_model.proofs.IdLaws.{names_equal, name_exact}
 use Rattle.std.proofs.lemmas.List.{map-append, length-append}
@@ -106,9 +106,12 @@ counted : (b : Bool) (count : ℕ) → cond b 1 0 < count → 0 < count
 counted true count some = omega (arith, some)
 counted false count some = some
 
-kinds_fit : (before : List Event) (left : ℕ) (x : Id) (kind at count : ℕ) (bytes : List ℕ) (y : RunOps × List ℕ) → IsCount left x kind at count → are_new before x count ≡ true → read_ops_of kind at count bytes ≡ Ok y → IsFit before left x y.0
-kinds_fit before left x kind at count bytes y c new e = by_kind (eqb kind 0) (eqb kind 1) refl e
+kinds_fit : (before : List Event) (left : ℕ) (x : Id) (kind at count : ℕ) (bytes : List ℕ) (y : RunOps × List ℕ) → kind < 4 → eqb kind 2 ≡ false → IsCount left x kind at count → are_new before x count ≡ true → read_ops_of kind at count bytes ≡ Ok y → IsFit before left x y.0
+kinds_fit before left x kind at count bytes y known no_mark c new e = by_kind (eqb kind 0) (eqb kind 1) refl refl e
   where
+    by_number : (n : ℕ) → n < 4 → (n ≡ 0 → ⊥) → (n ≡ 1 → ⊥) → (n ≡ 2 → ⊥) → n ≡ 3
+    by_number n few none one two = omega arith
+
     of : (ops : RunOps) (rest : List ℕ) → ops_count ops ≡ count → CanGoOn ops → done ops rest ≡ Ok y → IsFit before left x y.0
     of ops rest same sound f =
         let some = counted (eqb kind 3) count c.some in
@@ -120,20 +123,30 @@ kinds_fit before left x kind at count bytes y c new e = by_kind (eqb kind 0) (eq
     low : eqb kind 0 ≡ true → at + count ≤ 2 ^ 32
     low t = leb-true (at + count) (2 ^ 32) (sym (ap (λ b. cond b (leb (at + count) (2 ^ 32)) (cond (eqb kind 3) (leb count (suc at)) true)) t) ∙ c.indices)
 
-    by_kind : (b d : Bool) → eqb kind 0 ≡ b → (cond b (read_text [] count >>= (λ text. done (Insertions at text))) (cond d (done (Deletions at count)) (done (BackDeletions at count)))) bytes ≡ Ok y → IsFit before left x y.0
-    by_kind true d is f =
+    back : eqb kind 0 ≡ false → eqb kind 1 ≡ false → count ≤ suc at
+    back no_insertion no_deletion =
+        let none = eqb-false kind 0 no_insertion in
+        let other = eqb-false kind 1 no_deletion in
+        let unmarked = eqb-false kind 2 no_mark in
+        let falls : kind ≡ 3 = by_number kind known none other unmarked in
+        leb-true count (suc at)
+        (sym ((λ i. cond (no_insertion i) (leb (at + count) (2 ^ 32)) (cond (eqb kind 3) (leb count (suc at)) true)) ∙ ap (λ b. cond b (leb count (suc at)) true) (eq-eqb kind 3 falls)) ∙ c.indices)
+
+    by_kind : (b d : Bool) → eqb kind 0 ≡ b → eqb kind 1 ≡ d → (cond b (read_text [] count >>= (λ text. done (Insertions at text))) (cond d (done (Deletions at count)) (done (BackDeletions at count)))) bytes ≡ Ok y → IsFit before left x y.0
+    by_kind true d is other f =
         let g = go_ok (read_text [] count bytes) (λ text. done (Insertions at text)) y f in
         let size = text_length count [] bytes g.0 g.1 in
         let high = low is in
         of (Insertions at g.0.0) g.0.1 (omega (arith, size)) (omega (arith, size, high), text_scalars count [] bytes g.0 tt g.1) g.2
-    by_kind false true is f = of (Deletions at count) bytes refl tt f
-    by_kind false false is f = of (BackDeletions at count) bytes refl tt f
+    by_kind false true is other f = of (Deletions at count) bytes refl tt f
+    by_kind false false is other f = of (BackDeletions at count) bytes refl (back is other) f
 
 pub ops_fit : (before : List Event) (last : Option FileRun) (left : ℕ) (x : Id) (parents : List Id) (bytes : List ℕ) (y : RunOps × List ℕ) → read_run_ops before last left x parents bytes ≡ Ok y → IsFit before left x y.0
 unfolding read_run_ops
 ops_fit before last left x parents bytes y e =
     let k = go_ok (field byte (only (λ kind. nat_lt kind 4)) KindBad bytes) with_kind y e in
-    by_kind k.0.0 (eqb k.0.0 2) k.0.1 k.2
+    let t = tested_ok byte (λ kind. nat_lt kind 4) KindBad bytes k.0 k.1 in
+    by_kind k.0.0 (eqb k.0.0 2) (ltb-true k.0.0 4 t.1) refl k.0.1 k.2
   where
     with_index : ℕ → ℕ → Reader RunOps
     with_index kind at = field (field number (only (may_be_count left x kind at)) RunLength) (only (are_new before x)) IdTwice >>= read_ops_of kind at
@@ -144,19 +157,19 @@ ops_fit before last left x parents bytes y e =
     with_kind : ℕ → Reader RunOps
     with_kind kind = cond (eqb kind 2) read_one_mark (indexed kind)
 
-    by_kind : (kind : ℕ) (b : Bool) (rest : List ℕ) → (cond b read_one_mark (indexed kind)) rest ≡ Ok y → IsFit before left x y.0
-    by_kind kind true rest f =
+    by_kind : (kind : ℕ) (b : Bool) → kind < 4 → eqb kind 2 ≡ b → (rest : List ℕ) → (cond b read_one_mark (indexed kind)) rest ≡ Ok y → IsFit before left x y.0
+    by_kind kind true known is rest f =
         let g = go_ok (read_name rest) (λ label. done (OneMark label)) y f in
         let same : (OneMark g.0.0, g.0.1) ≡ y = (let h = g.2 in cc) in
         subst (λ (p : RunOps × List ℕ). IsFit before left x p.0) same (record { some = omega arith; few = λ le. le; fits = λ lt. omega (arith, lt); new = λ n. n; sound = tt })
-    by_kind kind false rest f =
+    by_kind kind false known is rest f =
         let g = go_ok (field number (only (λ at. not (joins last (record { id = x; parents = parents; op = first_op kind at })))) RunJoin rest) (with_index kind) y f in
         let at = g.0.0 in
         let counted = field number (only (may_be_count left x kind at)) RunLength in
         let h = go_ok (field counted (only (are_new before x)) IdTwice g.0.1) (read_ops_of kind at) y g.2 in
         let t = tested_ok counted (are_new before x) IdTwice g.0.1 h.0 h.1 in
         let u = tested_ok number (may_be_count left x kind at) RunLength g.0.1 h.0 t.0 in
-        kinds_fit before left x kind at h.0.0 h.0.1 y (count_is left x kind at h.0.0 u.1) t.1 h.2
+        kinds_fit before left x kind at h.0.0 h.0.1 y known is (count_is left x kind at h.0.0 u.1) t.1 h.2
 
 record_some : (agents : List (List ℕ)) (before : List Event) (last : Option FileRun) (left : ℕ) (bytes : List ℕ) (y : FileRun × List ℕ) → read_run_record agents before last left bytes ≡ Ok y → 0 < ops_count y.0.ops
 unfolding read_run_record

@@ -78,9 +78,9 @@ pub record IsSoundRun (r : FileRun) (left : ℕ) : Type 0 where
   pub few : ops_count r.ops ≤ left
   pub fits : r.id.seq + ops_count r.ops ≤ 2 ^ 32
 
--- each character is a scalar, and each index of insertions a number of 32 bits
+-- each character is a scalar, and each index a number of 32 bits: none of those that fall is below 0
 abbrev pub CanGoOn : RunOps → Type 0
 CanGoOn (Insertions at text) = (at + length text ≤ 2 ^ 32) × AllByRecursion (λ ch. is_scalar ch ≡ true) text
 CanGoOn (Deletions at count) = Unit {0}
-CanGoOn (BackDeletions at count) = Unit {0}
+CanGoOn (BackDeletions at count) = count ≤ suc at
 CanGoOn (OneMark label) = Unit {0}

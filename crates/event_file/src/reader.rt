@@ -121,8 +121,8 @@ impl<'a> EventReader<'a> {
     }
 
     /// The operations of the events of a run that `next` began and that are still behind, all at once: those that so many calls of
-    /// `go_on` hand out. There is one, each character is a scalar, and each index of insertions a number of 32 bits. None where no
-    /// event of a run is behind, as always in a file that has a record for each event: then nothing has changed, and `next` tells
+    /// `go_on` hand out. There is one, each character is a scalar, and each index a number of 32 bits. None where no event of a run
+    /// is behind, as always in a file that has a record for each event: then nothing has changed, and `next` tells
     /// more. When it is None isn't promised.
     pub fn go_on_run(&mut self) -> Option<RunOps<'a>>
         ensures all { IfSome result (λ ops. GoOnBy (ops_in (ops_as ops)) self.old self.new) }

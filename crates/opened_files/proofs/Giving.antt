@@ -25,7 +25,7 @@ fault_behind before (TooMany count) found is = ap (in_front before) is
 fault_behind before OutOfMemory found is = tt
 
 -- more in front of what has some in front
-both_in_front : (before more : List Event) (found : FileFinding) → in_front before (in_front more found) ≡ in_front (before ++ more) found
+pub both_in_front : (before more : List Event) (found : FileFinding) → in_front before (in_front more found) ≡ in_front (before ++ more) found
 both_in_front before more (model.IsFile events) = ap model.IsFile (sym (append_assoc before more events))
 both_in_front before more (model.Short len) = refl
 both_in_front before more model.BadMagic = refl

@@ -4,5 +4,6 @@ pub mod GraphRecords
 pub mod IdRuns
 pub mod Opening
 pub mod Reading
+pub mod Runs
 pub mod Shown
 pub mod Touches

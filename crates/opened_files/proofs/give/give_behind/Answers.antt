@@ -1,29 +1,25 @@
-use Rattle.std.proofs.Common.{◌∙◌, ◌<◌, refl, sym, arith, subst, length}
+use Rattle.std.proofs.Common.{sym, subst}
+use Rattle.std.proofs.lemmas.Result.{on_ok_weaker}
+use Rattle.ew_model.specs.Limits.{LimitNumbers}
 use Rattle.opened_files.specs.Giving.{HasGivenLast}
-use Rattle.opened_files.proofs.Giving.{behind_given, few_admitted}
 use Rattle.opened_files.proofs.give.give_behind.Goals as goal
 
-pub loop-op-init : goal.loop-op-init
-loop-op-init c = record { limits = refl; fewer = omega arith; given = λ found has. has }
-
-pub go_on-requires-in-Some : goal.go_on-requires-in-Some
-go_on-requires-in-Some c =
-    let has = c.loop-op.invariant.given c.requires.given.0 c.requires.given.1 in
-    let few = few_admitted _ c.requires.given.0 c.loop-op.given c.loop-op.reader c.args.given.now.limits.events has.3 in
-    let next = c.in-Some.ensures.some.next.1 in
-    record { room = subst (λ n. length c.loop-op.given.admitted < n.events) (sym c.loop-op.invariant.limits) (omega (arith, few, next)) }
-
-pub loop-op-preserved : goal.loop-op-preserved
-loop-op-preserved c = record {
-  limits = c.go_on-in-Some.ensures.limits ∙ c.loop-op.invariant.limits;
-  fewer = omega (arith, c.loop-op.invariant.fewer, c.in-Some.ensures.some.next.1);
-  given = λ found has. behind_given c.in-Some.op found c.loop-op.given c.go_on-in-Some.new.self c.loop-op.reader c.go_on.new.self c.args.given.now.limits.events
-      (c.loop-op.invariant.given found has) c.in-Some.ensures.some c.in_ok-go_on.ensures.given;
-}
-
-pub loop-op-smaller : goal.loop-op-smaller
-loop-op-smaller c = omega (arith, c.in-Some.ensures.some.next.1)
+pub give_singly-requires : goal.give_singly-requires
+give_singly-requires c =
+    let found = c.requires.given.0 in
+    record {
+      given = (
+        found,
+        subst (λ (l : LimitNumbers). HasGivenLast found c.give_run.new.given c.give_run.new.reader l.events) (sym c.in_ok-give_run.ensures.limits)
+            (c.in_ok-give_run.ensures.given found c.requires.given.1),
+      );
+    }
 
 pub returns-clause-given : goal.returns-clause-given
-returns-clause-given c found has =
-    subst (λ r. HasGivenLast found c.loop-op.given r c.args.given.now.limits.events) (sym c.in_default.ensures.none) (c.loop-op.invariant.given found has)
+returns-clause-given c =
+    let same = c.in_ok-give_run.ensures.limits in
+    on_ok_weaker c.give_singly.result
+    (λ then found has.
+    subst (λ (l : LimitNumbers). HasGivenLast found c.give_singly.new.given c.give_singly.new.reader l.events) same
+    (then found (subst (λ (l : LimitNumbers). HasGivenLast found c.give_run.new.given c.give_run.new.reader l.events) (sym same) (c.in_ok-give_run.ensures.given found has))))
+    c.give_singly.ensures.given

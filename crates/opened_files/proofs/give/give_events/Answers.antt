@@ -14,13 +14,13 @@ use Rattle.opened_files.proofs.give.give_events.Goals as goal
 
 pub returns-in_err-event-clause-fault : goal.returns-in_err-event-clause-fault
 returns-in_err-event-clause-fault c =
-    let front = c.loop-given.invariant.front in
-    let found : file_found c.args.limits.now.events c.args.bytes.now ≡ in_front front.0 c.loop-given.reader.found =
+    let front = c.loop-characters.invariant.front in
+    let found : file_found c.args.limits.now.events c.args.bytes.now ≡ in_front front.0 c.loop-characters.reader.found =
     sym (subst (λ n. c.in_ok-reader.reader.found ≡ file_found n c.args.bytes.now) c.events.ensures.value c.in_ok-reader.ensures.found) ∙ front.1.1 in
     let p = err_from_is_err_and c.from_residual-in_err-event.result c.from_residual-in_err-event.ensures.1 in
-    let is : IsFault p.0 c.loop-given.reader.found = subst (λ (fault : FileFault). IsFault fault c.loop-given.reader.found) (sym p.2) c.in_err-event.ensures.0 in
+    let is : IsFault p.0 c.loop-characters.reader.found = subst (λ (fault : FileFault). IsFault fault c.loop-characters.reader.found) (sym p.2) c.in_err-event.ensures.0 in
     subst (λ (r : Result Given FileFault). IfErr r (λ fault. IsFault fault (file_found c.args.limits.now.events c.args.bytes.now))) (sym p.1)
-    (subst (λ (f : FileFinding). IsFault p.0 f) (sym found) (fault_behind front.0 p.0 c.loop-given.reader.found is))
+    (subst (λ (f : FileFinding). IsFault p.0 f) (sym found) (fault_behind front.0 p.0 c.loop-characters.reader.found is))
 
 pub returns-in_err-push-clause-fault : goal.returns-in_err-push-clause-fault
 returns-in_err-push-clause-fault c =
@@ -36,27 +36,27 @@ returns-in_err-give_behind-clause-fault c =
 
 pub give_behind-requires : goal.give_behind-requires
 give_behind-requires c =
-    let front = c.loop-given.invariant.front in
-    let next : IsNext (Ok (Some c.in-Some.event)) c.loop-given.reader c.next_in.new.self =
-    subst (λ (o : Option Event). IsNext (Ok o) c.loop-given.reader c.next_in.new.self) c.in-Some.is c.in_ok-event.ensures in
-    let limits = c.in_ok-push.ensures.limits ∙ c.loop-given.invariant.limits in
+    let front = c.loop-characters.invariant.front in
+    let next : IsNext (Ok (Some c.in-Some.event)) c.loop-characters.reader c.next_in.new.self =
+    subst (λ (o : Option Event). IsNext (Ok o) c.loop-characters.reader c.next_in.new.self) c.in-Some.is c.in_ok-event.ensures in
+    let limits = c.in_ok-push.ensures.limits ∙ c.loop-characters.invariant.limits in
     record {
       given = (
         c.in_ok-reader.reader.found,
         subst (λ (l : LimitNumbers). HasGivenLast c.in_ok-reader.reader.found c.push.new.self c.next_in.new.self l.events) (sym limits)
-            (last_given front.0 c.in-Some.event c.in_ok-reader.reader.found c.loop-given.given c.push.new.self c.loop-given.reader c.next_in.new.self c.args.limits.now.events front.1 next
+            (last_given front.0 c.in-Some.event c.in_ok-reader.reader.found c.loop-characters.given c.push.new.self c.loop-characters.reader c.next_in.new.self c.args.limits.now.events front.1 next
             (c.in_ok-push.ensures.given front.0 front.1.0)),
       );
     }
 
-pub loop-given-preserved : goal.loop-given-preserved
-loop-given-preserved c =
-    let front = c.loop-given.invariant.front in
-    let next : IsNext (Ok (Some c.in-Some.event)) c.loop-given.reader c.next_in.new.self =
-    subst (λ (o : Option Event). IsNext (Ok o) c.loop-given.reader c.next_in.new.self) c.in-Some.is c.in_ok-event.ensures in
-    let limits = c.in_ok-push.ensures.limits ∙ c.loop-given.invariant.limits in
+pub loop-characters-preserved : goal.loop-characters-preserved
+loop-characters-preserved c =
+    let front = c.loop-characters.invariant.front in
+    let next : IsNext (Ok (Some c.in-Some.event)) c.loop-characters.reader c.next_in.new.self =
+    subst (λ (o : Option Event). IsNext (Ok o) c.loop-characters.reader c.next_in.new.self) c.in-Some.is c.in_ok-event.ensures in
+    let limits = c.in_ok-push.ensures.limits ∙ c.loop-characters.invariant.limits in
     let found = c.in_ok-reader.reader.found in
-    let has = last_given front.0 c.in-Some.event found c.loop-given.given c.push.new.self c.loop-given.reader c.next_in.new.self c.args.limits.now.events front.1 next
+    let has = last_given front.0 c.in-Some.event found c.loop-characters.given c.push.new.self c.loop-characters.reader c.next_in.new.self c.args.limits.now.events front.1 next
     (c.in_ok-push.ensures.given front.0 front.1.0) in
     let more : HasGivenLast found c.give_behind.new.given c.give_behind.new.reader c.args.limits.now.events =
     subst (λ (l : LimitNumbers). HasGivenLast found c.give_behind.new.given c.give_behind.new.reader l.events) limits

@@ -3,11 +3,11 @@ use Rattle.ew_model.specs.declared.event.Event.{Event}
 use Rattle.opened_files.specs.Giving.{IsGivenFront}
 use Rattle.opened_files.proofs.give.give_events.Given as goal
 
-abbrev pub invariant-loop-given : goal.invariant-loop-given
-invariant-loop-given l = record {
+abbrev pub invariant-loop-characters : goal.invariant-loop-characters
+invariant-loop-characters l = record {
   limits : l.given.limits ≡ l.fn.limits;
   front : (before : List Event) × IsGivenFront before l.initial.reader.found l.given l.reader l.fn.limits.events;
 }
 
-abbrev pub decreases-loop-given : goal.decreases-loop-given
-decreases-loop-given l = l.reader.records
+abbrev pub decreases-loop-characters : goal.decreases-loop-characters
+decreases-loop-characters l = l.reader.records

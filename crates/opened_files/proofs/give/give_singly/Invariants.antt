@@ -1,7 +1,7 @@
 use Rattle.std.proofs.Common.{◌≡◌, ◌≤◌}
 use Rattle.file_words.specs.FileFaults.{FileFinding}
 use Rattle.opened_files.specs.Giving.{HasGivenLast}
-use Rattle.opened_files.proofs.give.give_behind.Given as goal
+use Rattle.opened_files.proofs.give.give_singly.Given as goal
 
 abbrev pub invariant-loop-op : goal.invariant-loop-op
 invariant-loop-op l = record {
