@@ -11,6 +11,7 @@ from egw_bytes import DELETE, FALLING, INSERT, MARK, START, START_2, counted, ev
 
 GREATEST = 4294967295
 MOST_INPUT = 16_777_216
+MOST_EVENTS = 16_777_216
 BODY = 1_048_576
 
 
@@ -52,9 +53,9 @@ def make_files():
     put_file("agents_named", number(GREATEST), b"\x01a", b"\x01b")
     put_file("events", names(a), number(GREATEST))
     put_file("events_one", names(a), number(GREATEST), first)
-    put_file("million", names(a), number(1_000_000))
-    put_file("million_one", names(a), number(1_000_000), first)
-    put_file("above", names(a), number(1_000_001), first)
+    put_file("many", names(a), number(MOST_EVENTS))
+    put_file("many_one", names(a), number(MOST_EVENTS), first)
+    put_file("above", names(a), number(MOST_EVENTS + 1), first)
     put_file("names", names(list(itertools.islice(FOUR, 1_000_000))), number(0))
     put_file("agent_number", names(a), counted([record(GREATEST, 0, [], 0, 0, 97)]))
     put_file("sequence", names(a), counted([record(0, GREATEST, [], 0, 0, 97)]))
@@ -80,6 +81,7 @@ def make_files():
         forks = [b"d%d" % n for n in range(count)]
         put_file(name, names(a + forks), counted([first, *(record(1 + n, 0, [0], 1, 0) for n in range(count))]))
     put_file("letter", names(a), counted([first]))
+    put_file("seven", names(a), counted(chain(7, 97)))
 
 
 def joins(heads):
@@ -121,7 +123,7 @@ def make_runs():
     def bomb(name, events, *parts):
         put_file_2(name, names(a), number(events), *parts)
 
-    for what, length in (("many", 16_777_216), ("most", GREATEST), ("million", 1_000_000)):
+    for what, length in (("many", MOST_EVENTS), ("above", MOST_EVENTS + 1), ("most", GREATEST), ("million", 1_000_000)):
         for kind, at in ((DELETE, 0), (FALLING, GREATEST)):
             way = "falling" if kind == FALLING else "deleted"
             claim = run(0, 0, [], kind, at, length)
@@ -151,6 +153,7 @@ def make_runs():
     put_file_2("deleted_by_all", names([*a, *others]), number(1_000_000), letters, *(run(1 + n, 0, [999], *ways[n % 2], 1000) for n in range(999)))
     put_file_2("deleted_by_ten", names([*a, *others[:10]]), number(11_000), letters, *(run(1 + n, 0, [999], *ways[n % 2], 1000) for n in range(10)))
     put_file_2("typed_million", names(a), number(1_000_000), run(0, 0, [], INSERT, 0, b"x" * 1_000_000))
+    put_file_2("typed_full", names(a), number(MOST_EVENTS), run(0, 0, [], INSERT, 0, (MOST_EVENTS, b"")), number(ord("x")) * MOST_EVENTS)
     # A million records of one letter each, none of which goes on with the one before.
     put_file_2("typed_apart", names(a), number(1_000_000), run(0, 0, [], INSERT, 0, b"x"), *(run(0, n, [n - 1], INSERT, 0, b"x") for n in range(1, 1_000_000)))
 
@@ -172,7 +175,7 @@ def make_inputs():
     put("events_claimed", frame(2, number(GREATEST)))
     put("events_claimed_full", frame(2, number(GREATEST) + bytes(BODY - 4)))
     put("events_longer", frame(2, number(GREATEST) + bytes(BODY - 3)))
-    put("have_cut", b"\x01", number(37_000_004), number(GREATEST))
+    put("have_cut", b"\x01", number(37 * MOST_EVENTS + 4), number(GREATEST))
     held = [id_bytes((bytes(name), GREATEST)) for name in itertools.islice(itertools.product(LETTERS, repeat=4), 1_864_134)]
     put("have_full", frame(1, number(len(held)) + b"".join(held)))
     per = (BODY - 4) // 22
@@ -189,6 +192,7 @@ def make_inputs():
     waits = [event_bytes((b"b", GREATEST), [(b"b", GREATEST - 1)], 0, 0, 120), event_bytes((b"c", 0), [(b"b", GREATEST)], 1, GREATEST)]
     put("edges", events_frame(refused), events_frame(waits), frame(1, number(1) + id_bytes((b"a", GREATEST))), BYE)
     put("one_more", events_frame([event_bytes((b"b", 0), [(b"a", 999_999)], 0, 0, 120)]))
+    put("one_above", events_frame([event_bytes((b"b", 0), [(b"a", MOST_EVENTS - 1)], 0, 0, 120)]))
     put("net_said", b"agree\n")
     put("net_ends", b"peer a\ndel a 4294967295 4294967295\n")
     put("net_late", b"peer a\npeer b\npush a b\n", b"agree\n" * 1000, b"deliver 4294967295\n")

@@ -1,11 +1,13 @@
 """Histories to measure with, as event files. The same bytes each time.
 
-    python3 bench/histories.py NAME EVENTS FOLDER
+    python3 bench/histories.py NAME EVENTS FOLDER [VERSION]
 
-Each maker answers the files that one measurement needs, by name, for about so many events. An index that an author may use is below
+Each maker answers the histories that one measurement needs, by name, for about so many events. They are written in version 2 of the
+file, or in the one that is named. An index that an author may use is below
 the length of the text that the author sees. Where several write at once, the first of them alone deletes: so that length is always
 the number of insertions seen, less the number of deletions seen, and no text has to be kept.
 """
+import bisect
 import pathlib
 import random
 import sys
@@ -13,45 +15,99 @@ import sys
 sys.dont_write_bytecode = True
 sys.path.insert(0, str(pathlib.Path(__file__).parent.parent / "tools"))
 
-from egw_bytes import DELETE, INSERT, content, record, with_digest  # noqa: E402
+from egw_bytes import DELETE, FALLING, INSERT, content, content_2, record, run, with_digest  # noqa: E402
 
 LETTERS = "etaoin shrdlu etaoin shrdlu\n"
 
 
+class Run:
+    """Events of one agent that follow one another and take one step: the first has these parents, by position."""
+
+    def __init__(self, agent, seq, parents, kind, index):
+        self.agent, self.seq, self.parents, self.kind, self.index = agent, seq, parents, kind, index
+        self.count = 0
+        self.characters = []
+
+    def takes(self, kind, index):
+        """Whether one more such operation takes the step of those before it."""
+        if kind == INSERT or self.kind == INSERT:
+            return kind == self.kind and index == self.index + self.count
+        if self.kind == DELETE and index == self.index:
+            return True
+        return (self.kind == FALLING or self.count == 1) and index + self.count == self.index
+
+    def add(self, kind, index, character):
+        """One more operation."""
+        if kind == INSERT:
+            self.characters.append(ord(character))
+        elif index != self.index:
+            self.kind = FALLING
+        self.count += 1
+
+    def copy(self):
+        other = Run(self.agent, self.seq, self.parents, self.kind, self.index)
+        other.count = self.count
+        other.characters = list(self.characters)
+        return other
+
+    def record(self):
+        """The record of all, in version 2."""
+        return run(self.agent, self.seq, self.parents, self.kind, self.index, self.characters if self.kind == INSERT else self.count)
+
+    def records(self, start):
+        """The records of each, in version 1, where the first stands at a position."""
+        step = {INSERT: 1, DELETE: 0, FALLING: -1}[self.kind]
+        for place in range(self.count):
+            parents = [start + place - 1] if place else self.parents
+            character = self.characters[place] if self.kind == INSERT else None
+            yield record(self.agent, self.seq + place, parents, INSERT if self.kind == INSERT else DELETE, self.index + step * place, character)
+
+
 class History:
-    """A list of events, in which an event has an agent by number, parents by position, and an operation."""
+    """Events in runs. An event has an agent by number, parents by position, and an operation."""
 
     def __init__(self, agents):
         self.agents = agents
         self.count = 0
         self.numbers = [0] * len(agents)
-        self.last = [None] * len(agents)
-        self.records = []
-        self.ids = []
+        self.runs = []
+        self.starts = []
 
-    def copy(self):
-        """The same history, to go on apart."""
-        other = History(self.agents)
+    def copy(self, agents):
+        """The same history with more agents, to go on apart."""
+        other = History(agents)
         other.count = self.count
-        other.numbers = list(self.numbers)
-        other.last = list(self.last)
-        other.records = list(self.records)
-        other.ids = list(self.ids)
+        other.numbers = self.numbers + [0] * (len(agents) - len(self.agents))
+        # The last run alone may grow.
+        other.runs = self.runs[:-1] + [self.runs[-1].copy()]
+        other.starts = list(self.starts)
         return other
+
+    def id_at(self, position):
+        """The agent's name and the number of an event."""
+        place = bisect.bisect_right(self.starts, position) - 1
+        found = self.runs[place]
+        return self.agents[found.agent], found.seq + position - self.starts[place]
 
     def add(self, agent, parents, kind, index, character=None):
         """One more event. Answers its position."""
-        order = sorted(parents, key=lambda at: (self.agents[self.ids[at][0]], self.ids[at][1]))
-        self.records.append(record(agent, self.numbers[agent], order, kind, index, ord(character) if kind == INSERT else None))
-        self.ids.append((agent, self.numbers[agent]))
+        last = self.runs[-1] if self.runs else None
+        if not (last and last.agent == agent and parents == [self.count - 1] and last.takes(kind, index)):
+            last = Run(agent, self.numbers[agent], sorted(parents, key=self.id_at), kind, index)
+            self.runs.append(last)
+            self.starts.append(self.count)
+        last.add(kind, index, character)
         self.numbers[agent] += 1
-        self.last[agent] = self.count
         self.count += 1
         return self.count - 1
 
-    def file(self):
+    def file(self, version):
         """The bytes of its file. Agents stand there in the order of their first events, and each has one."""
-        return with_digest(content([name.encode() for name in self.agents], self.records))
+        agents = [name.encode() for name in self.agents]
+        if version == 2:
+            return with_digest(content_2(agents, (one.record() for one in self.runs), self.count))
+        records = (each for one, start in zip(self.runs, self.starts) for each in one.records(start))
+        return with_digest(content(agents, records, self.count))
 
 
 class Author:
@@ -91,14 +147,12 @@ def forward(size, draw):
             author.delete(place)
         if draw.random() < 0.02:
             place = draw.randint(0, author.length)
-    return {"file": history.file()}
+    return {"file": history}
 
 
-def jumping(size, draw, agents=("ada",)):
-    """One author in short bursts, with many jumps to places nearby, and deletions back and forth."""
-    history = History(list(agents))
-    author = Author(history, 0)
-    place = 0
+def jump(author, place, size, draw):
+    """An author goes on in short bursts, with many jumps to places nearby, and deletions back and forth. Answers where."""
+    history = author.history
     while history.count < size:
         burst = min(draw.randint(1, 12), size - history.count)
         author.type(place, burst, draw)
@@ -112,12 +166,14 @@ def jumping(size, draw, agents=("ada",)):
                 elif place < author.length:
                     author.delete(place)
         place = max(0, min(author.length, place + draw.randint(-200, 200)))
-    return history, author
+    return place
 
 
 def near(size, draw):
-    """The same, as a file."""
-    return {"file": jumping(size, draw)[0].file()}
+    """One author who does so."""
+    history = History(["ada"])
+    jump(Author(history, 0), 0, size, draw)
+    return {"file": history}
 
 
 def blocks(size, draw):
@@ -134,7 +190,7 @@ def blocks(size, draw):
         for _ in range(block):
             author.delete(place)
         author.type(draw.randint(0, author.length), block, draw)
-    return {"file": history.file()}
+    return {"file": history}
 
 
 def together(size, draw):
@@ -151,7 +207,7 @@ def together(size, draw):
             grown += author.length - length
             ends += author.heads
         heads, length = ends, length + grown
-    return {"file": history.file()}
+    return {"file": history}
 
 
 def branches(size, draw):
@@ -172,22 +228,19 @@ def branches(size, draw):
             grown += author.length - length
             ends += author.heads
         heads, length = ends, length + grown
-    return {"file": history.file()}
+    return {"file": history}
 
 
 def tail(size, draw):
     """A long history, and the same without its last 50 events and with 100 of another author's behind it."""
-    history, author = jumping(size, draw)
-    short = history.copy()
-    short.agents = ["ada", "ben"]
-    short.count -= 50
-    del short.records[-50:], short.ids[-50:]
-    short.numbers = [short.count, 0]
-    short.last = [short.count - 1, None]
-    inserted = sum(len(one) == 22 for one in short.records[1:]) + 1
-    other = Author(short, 1, [short.count - 1], 2 * inserted - short.count)
+    history = History(["ada"])
+    author = Author(history, 0)
+    place = jump(author, 0, size - 50, draw)
+    short = history.copy(["ada", "ben"])
+    other = Author(short, 1, author.heads, author.length)
+    jump(author, place, size, draw)
     other.type(draw.randint(0, other.length), 100, draw)
-    return {"file": history.file(), "other": short.file()}
+    return {"file": history, "other": short}
 
 
 def apart(size, draw):
@@ -198,10 +251,7 @@ def apart(size, draw):
     share = (size - base.count) // 2
     files = {}
     for name, agents in (("file", ["ada"]), ("other", ["ada", "ben"])):
-        history = base.copy()
-        history.agents = agents
-        history.numbers = [base.count, 0]
-        history.last = [base.count - 1, None]
+        history = base.copy(agents)
         author = Author(history, len(agents) - 1, first.heads, first.length)
         place = 0
         for written in range(share):
@@ -209,7 +259,7 @@ def apart(size, draw):
                 place = draw.randint(0, author.length)
             author.insert(place, draw.choice(LETTERS))
             place += 1
-        files[name] = history.file()
+        files[name] = history
     return files
 
 
@@ -224,10 +274,10 @@ HISTORIES = {
 }
 
 
-def main(name, size, folder):
+def main(name, size, folder, version="2"):
     """Writes the files of one measurement."""
-    for file, data in HISTORIES[name](int(size), random.Random(name + " " + size)).items():
-        (pathlib.Path(folder) / file).write_bytes(data)
+    for file, history in HISTORIES[name](int(size), random.Random(name + " " + size)).items():
+        (pathlib.Path(folder) / file).write_bytes(history.file(int(version)))
 
 
 if __name__ == "__main__":
