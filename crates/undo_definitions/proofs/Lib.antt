@@ -1,0 +1,7 @@
+mod Making
+mod Others
+mod Rows
+mod Scripts
+mod Steps
+mod Undos
+mod Wants

@@ -1,0 +1,3 @@
+pub mod UndoLaws
+pub mod Undoing
+pub mod Wanted
