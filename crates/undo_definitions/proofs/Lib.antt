@@ -1,7 +1,7 @@
 mod Making
 mod Others
 mod Rows
-mod Scripts
+pub mod Scripts
 mod Steps
 mod Undos
-mod Wants
+pub mod Wants
