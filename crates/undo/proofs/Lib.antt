@@ -1,0 +1,5 @@
+mod Along
+mod Deletions
+mod Letters
+mod Missing
+mod Ranges
