@@ -917,6 +917,8 @@ def limits(beside):
     beside.run("cat", "large")
     beside.run("cat", "large", "--at", "a:00")
     beside.run("new", "large")
+    beside.file("zeros", bytes(48))
+    beside.run("serve", "zeros", input=frame(6))
     beside.clear()
 
 
@@ -1003,7 +1005,8 @@ WANTED += [(5, "egw: line N: unreadable"), (5, "egw: line N: out of range, lengt
 WANTED += [(5, f"egw: line N: {fault}") for fault in ("no peer NAME", "peer NAME is there", "no packet N")]
 WANTED += [(5, f"egw: frame N: {fault}") for fault in ("cut", "bad kind N", "too long, N", "bad body")]
 WANTED += [(6, f"egw: {what} failed") for what in ("shelf", "source", "sink")]
-WANTED += [(7, "egw: F: more than N bytes"), (7, "egw: F: more than N events"), (7, "egw: input: more than N bytes"), (7, "egw: more than N events"), (7, "egw: N heads, more than N")]
+WANTED += [(7, "egw: F: more than N bytes"), (7, "egw: F: more than N events"), (7, "egw: input: more than N bytes"), (7, "egw: N heads, more than N")]
+# (`egw: more than N events` wants a history at the limit: the rows of command_trials have it at small limits.)
 # And each status that a command may come to, but for memory.
 STATUSES = {"cat --at": (0, 2, 3, 4, 5, 6, 7), "replay": (0, 2, 3, 4, 6, 7), "ask": (0, 2, 3, 4, 6, 7), "serve": (0, 2, 3, 4, 5, 6, 7), "make": (0, 2, 6), "net": (0, 2, 5, 6, 7), "marks": (0, 2, 3, 4, 6, 7), "upgrade": (0, 2, 3, 4, 6, 7)}
 
