@@ -1,13 +1,11 @@
 -- The fate of each character, by the deletions one after another.
-use Rattle.std.proofs.Common.{◌≡◌, ℕ, zero, suc, ◌<◌, ◌≤◌, Bool, true, false, not, cond, ◌&&◌, ◌||◌, List, [], ◌∷◌, ◌++◌, map, filter, length, get_or, set, take, replicate, option_map, Option, Some, None, slice_get, refl, sym, ap, ◌∙◌, subst}
+use Rattle.std.proofs.Common.{◌≡◌, ℕ, zero, suc, ◌<◌, ◌≤◌, Bool, true, false, not, cond, ◌&&◌, ◌||◌, List, [], ◌∷◌, ◌++◌, map, filter, length, get_or, set, take, replicate, option_map, Option, Some, slice_get, refl, sym, ap, ◌∙◌, subst}
 use Rattle.std.specs.List.{list_any, cons_option, AllByRecursion}
-use Rattle.std.proofs.lemmas.Bool.{false≢true}
 use Rattle.std.proofs.lemmas.List.{length-map, take_all}
 use Rattle.std.proofs.lemmas.List.Folds.{list_any-append}
 use Rattle.std.proofs.lemmas.Option.{slice_get-map, slice_get_within, get_or_from_slice_get}
 use Rattle.ew_model.specs.declared.id.Id.{Id}
 use Rattle.ew_model.specs.declared.event.Event.{Event}
-use Rattle.ew_model.specs.Sets.{Among}
 use Rattle.ew_model.specs.Ids.{id_eq, is_among}
 use Rattle.ew_model.specs.Ancestors.{ids_of}
 use Rattle.ew_model.specs.Entries.{Entry, deletes, is_deleted}
@@ -24,8 +22,9 @@ use Rattle.ew_model.proofs.SortingLaws.{all_at}
 use Rattle.transform.specs.Placing.{deletion_by, deletions_in, ids_at, AreTargets}
 use Rattle.undo_definitions.specs.Wanted.{left_by_others}
 use Rattle.undo.specs.declared.fate.Fate.{Fate}
-use Rattle.undo.specs.declared.fate.Fate.TheVariants.{Shown, Undone, Gone}
+use Rattle.undo.specs.declared.fate.Fate.TheVariants.{Shown}
 use Rattle.undo.specs.Fates.{fate_by, fate_of, fates_of, with_deletion}
+use Rattle.ew_model.proofs.ListPlaces.{some_is}
 
 -- THE DELETIONS AS PAIRS
 -- one of these deletes the id
@@ -118,9 +117,6 @@ module _ (undone : List Id) (front : List (Id × Id)) (d : Id × Id) where
 abbrev AreDistinct : List Event → Type 0
 AreDistinct history = alike.AreDistinct (λ (e : Event). e.id) (λ (e : Event). e.parents) id_eq history
 
-some_same : {X : Type 0} (x y : X) → Some x ≡ Some y → x ≡ y
-some_same x y e = cc
-
 module _ {Y : Type 0} (f g : Id → Y) (t : Id) (agree : (x : Id) → id_eq t x ≡ false → f x ≡ g x) where
   others_agree : (history : List Event) → AllByRecursion (λ (e : Event). id_eq e.id t ≡ false) history → map f (ids_of history) ≡ map g (ids_of history)
   others_agree [] h = refl
@@ -129,7 +125,7 @@ module _ {Y : Type 0} (f g : Id → Y) (t : Id) (agree : (x : Id) → id_eq t x 
   set_one : (history : List Event) (n : ℕ) → AreDistinct history → slice_get (ids_of history) n ≡ Some t → set (map f (ids_of history)) n (g t) ≡ map g (ids_of history)
   set_one [] n h at = let no : ⊥ = cc in absurd no
   set_one (e ∷ history) zero h at =
-      let one : e.id ≡ t = some_same e.id t at in
+      let one : e.id ≡ t = some_is e.id t at in
       λ i. g (sym one i) ∷ others_agree history (subst (λ x. AllByRecursion (λ (k : Event). id_eq k.id x ≡ false) history) one h.0) i
   set_one (e ∷ history) (suc n) h at =
       let from = among_map (λ (k : Event). k.id) history t (got (ids_of history) n t at) in
@@ -147,7 +143,7 @@ pair_at : (history : List Event) (pairs : List (ℕ × ℕ)) (ds : List (Id × I
 pair_at history [] ds n pair are at = let no : ⊥ = cc in absurd no
 pair_at history (p ∷ pairs) [] n pair are at = let no : ⊥ = cc in absurd no
 pair_at history (p ∷ pairs) (d ∷ ds) zero pair are at =
-    let one : p ≡ pair = some_same p pair at in
+    let one : p ≡ pair = some_is p pair at in
     let first : ids_at history p ≡ (Some d.0, Some d.1) = cc in
     let here : ids_at history pair ≡ (Some d.0, Some d.1) = ap (ids_at history) (sym one) ∙ first in
     (d, refl, record { deletion = ap (λ (k : Option Id × Option Id). k.0) here; target = ap (λ (k : Option Id × Option Id). k.1) here })

@@ -1,13 +1,12 @@
 -- The characters in the order of the tree, by the positions of their events.
-use Rattle.std.proofs.Common.{◌≡◌, ℕ, zero, suc, ◌+◌, ◌<◌, ◌≤◌, Bool, true, List, [], ◌∷◌, ◌++◌, map, flat_map, length, Option, Some, None, option_map, slice_get, refl, sym, ap, ◌∙◌, subst, length-append, arith}
+use Rattle.std.proofs.Common.{◌≡◌, ℕ, zero, suc, ◌≤◌, List, [], ◌∷◌, map, flat_map, length, Option, Some, None, option_map, slice_get, refl, sym, ap, ◌∙◌, length-append, arith}
 use Rattle.std.specs.Option.{option_and_then}
 use Rattle.std.proofs.lemmas.List.{length-map}
-use Rattle.std.proofs.lemmas.Option.{slice_get-map, slice_get_within}
+use Rattle.std.proofs.lemmas.Option.{slice_get-map}
 use Rattle.ew_model.specs.declared.id.Id.{Id}
 use Rattle.ew_model.specs.declared.event.Op.{Op}
 use Rattle.ew_model.specs.declared.event.Op.TheVariants as op
 use Rattle.ew_model.specs.declared.event.Event.{Event}
-use Rattle.ew_model.specs.Sets.{Among}
 use Rattle.ew_model.specs.Ids.{id_eq}
 use Rattle.ew_model.specs.Ancestors.{ids_of, ancestors}
 use Rattle.ew_model.specs.Paths.{Step}
@@ -31,9 +30,8 @@ use Rattle.transform.specs.Placing.{order_ids, AreAt}
 use Rattle.undo_definitions.specs.Wanted.{chars_in_order}
 use Rattle.undo_definitions.proofs.Wants.{note_has_id}
 use Rattle.undo.specs.Fates.{letter_in, letter_at}
-
-some_same : {X : Type 0} (x y : X) → Some x ≡ Some y → x ≡ y
-some_same x y e = cc
+use Rattle.ew_model.proofs.ListPlaces.{some_is}
+use Rattle.event_graph.proofs.Counted.{event_there}
 
 -- WHERE THEY STAND
 -- the position at a place is that of the character's event
@@ -43,7 +41,7 @@ place_at ids zs [] n p are at = let no : ⊥ = cc in absurd no
 place_at ids [] (q ∷ ps) n p are at = let no : ⊥ = cc in absurd no
 place_at ids (z ∷ zs) (q ∷ ps) zero p are at =
     let first : slice_get ids q ≡ Some z.id = cc in
-    (z, refl, ap (slice_get ids) (sym (some_same q p at)) ∙ first)
+    (z, refl, ap (slice_get ids) (sym (some_is q p at)) ∙ first)
 place_at ids (z ∷ zs) (q ∷ ps) (suc n) p are at =
     let rest : map (slice_get ids) ps ≡ map Some (map (λ (w : Inserted). w.id) zs) = cc in
     place_at ids zs ps n p rest at
@@ -101,11 +99,6 @@ leaves_letter x (op.Del i) entries z e = at (slice_get (visible entries) i) e
 leaves_letter x (op.Mark label) entries z e = let no : ⊥ = cc in absurd no
 
 -- the event at a place of the ids
-event_at_id : (history : List Event) (p : ℕ) (x : Id) → slice_get (ids_of history) p ≡ Some x → (e : Event) × (slice_get history p ≡ Some e) × (e.id ≡ x)
-event_at_id [] p x at = let no : ⊥ = cc in absurd no
-event_at_id (e ∷ history) zero x at = (e, refl, some_same e.id x at)
-event_at_id (e ∷ history) (suc p) x at = event_at_id history p x at
-
 -- the event at a character's position inserts its letter
 pub letter_there : (history : List Event) (p n : ℕ) (z : Inserted) → IsGood history → slice_get (chars_in_order history) n ≡ Some z → slice_get (ids_of history) p ≡ Some z.id → letter_at history p ≡ Some z.ch
 unfolding next_entry tree
@@ -116,7 +109,7 @@ letter_there history p n z good char at =
     let id : z.id ≡ note.0.name = note_has_id history note.0 z laid note.1 (sym note.2) in
     let from = note_of_tree history note.0 laid note.1 in
     let f : Event = from.0 in
-    let here = event_at_id history p z.id at in
+    let here = event_there history p z.id at in
     let e : Event = here.0 in
     let one : e ≡ f = one_event [] history e f laid (got history p e here.1) from.1 (ap (id_eq e.id) (sym from.2 ∙ sym id ∙ sym here.2) ∙ ids_alike.refl e.id) in
     let letter : letter_in f.op ≡ Some z.ch = leaves_letter f.id f.op (entries_over id_eq 0 (tree_on 0 history) (ancestors history f.parents)) z (from.3 ∙ ap (λ w. Some w) (sym note.2)) in

@@ -1,6 +1,6 @@
 -- An undo leaves the text of the other events, where these are a history of their own; and it is the same in histories with the same
 -- events.
-use Rattle.std.proofs.Common.{◌≡◌, ℕ, suc, ◌+◌, Bool, true, false, not, ◌&&◌, inl, ⊎_elim, List, [], ◌∷◌, ◌++◌, map, filter, filter_map, length, Option, None, refl, sym, ap, ◌∙◌, subst, append_assoc, append-nil}
+use Rattle.std.proofs.Common.{◌≡◌, ℕ, ◌+◌, Bool, true, false, not, ◌&&◌, ⊎_elim, List, [], ◌∷◌, ◌++◌, map, filter, filter_map, length, None, refl, sym, ap, ◌∙◌, subst}
 use Rattle.std.specs.List.{list_any, cons_option}
 use Rattle.std.proofs.lemmas.Bool.{false≢true, false_from_ne_true}
 use Rattle.std.proofs.lemmas.List.Elements.{filter_agree}
@@ -9,9 +9,8 @@ use Rattle.ew_model.specs.declared.event.Op.{Op}
 use Rattle.ew_model.specs.declared.event.Event.{Event}
 use Rattle.ew_model.specs.Sets.{Among, SameElements}
 use Rattle.ew_model.specs.Ids.{id_eq, is_among}
-use Rattle.ew_model.specs.Ancestors.{ids_of, is_held, heads, version_events, ancestors}
-use Rattle.ew_model.specs.Entries.{Inserted, Entry, deletes, is_deleted, visible}
-use Rattle.ew_model.specs.Limits.{LimitNumbers}
+use Rattle.ew_model.specs.Ancestors.{ids_of, is_held, version_events, ancestors}
+use Rattle.ew_model.specs.Entries.{Inserted, Entry, deletes, visible}
 use Rattle.ew_model.specs.Texts.{visible_at, text_at, text_of}
 use Rattle.ew_model.specs.Tree.{Noted, all_entries, tree_on, tree}
 use Rattle.ew_model.specs.Verdicts.{IsGoodAfter, IsGood}
@@ -20,11 +19,11 @@ use Rattle.ew_model.proofs.CoverLaws.{event_of, held_by, held_of, ids_alike, amo
 use Rattle.ew_model.proofs.EditLaws.{ops_long}
 use Rattle.ew_model.proofs.EntryLaws.{LaidOut, none_held}
 use Rattle.ew_model.proofs.EqualSets.{note_of_tree, same_text_of, same_tree, same_mapped, tree_apart}
-use Rattle.ew_model.proofs.GoodLaws.{laid_out, good_laid_out}
-use Rattle.ew_model.proofs.ListTests.{any_from, filter_alike, same_truth}
+use Rattle.ew_model.proofs.GoodLaws.{good_laid_out}
+use Rattle.ew_model.proofs.ListTests.{filter_alike, same_truth}
 use Rattle.ew_model.proofs.PlaceLaws.{same_any, same_order}
 use Rattle.ew_model.proofs.RulingLaws.{good_parents}
-use Rattle.ew_model.proofs.SetLaws.{among_joined, joined_left, among_filter, filter_among, map_among, among_map}
+use Rattle.ew_model.proofs.SetLaws.{among_joined, joined_left, among_filter, filter_among, map_among}
 use Rattle.ew_model.proofs.SortingLaws.{all_at}
 use Rattle.ew_model.proofs.SubgraphLaws.{one_event, closed_taken, taken_by_id, version_laid_out, subgraph_text}
 use Rattle.ew_model.proofs.VersionLaws.{version_named}
@@ -33,6 +32,7 @@ use Rattle.undo_definitions.specs.Undoing.{change_of, index_among, change_about,
 use Rattle.undo_definitions.specs.UndoLaws.{UndosLeaveOthersText, UndosGoBack, UndosAreUndone, EqualSetsUndoAlike}
 use Rattle.undo_definitions.proofs.Undos.{undo_made, undo_text}
 use Rattle.undo_definitions.proofs.Wants.{wanted_by_others}
+use Rattle.ew_model.proofs.ClearingLaw.{laid_rest}
 
 -- THE EVENTS THAT AREN'T UNDONE
 not_true : (b : Bool) → not b ≡ true → b ≡ false
@@ -97,10 +97,6 @@ good_before : (seen before later : List Event) → IsGoodAfter seen (before ++ l
 good_before seen [] later h = tt
 good_before seen (f ∷ before) later h = (h.0, good_before (seen ++ f ∷ []) before later h.1)
 
-laid_behind : (seen before later : List Event) → LaidOut seen (before ++ later) → LaidOut (seen ++ before) later
-laid_behind seen [] later h = subst (λ s. LaidOut s later) (sym (append-nil seen)) h
-laid_behind seen (f ∷ before) later h = subst (λ s. LaidOut s later) (append_assoc seen (f ∷ []) before) (laid_behind (seen ++ f ∷ []) before later h.2)
-
 -- the events before the last ones are those with other ids
 others_before : (before last : List Event) → LaidOut [] (before ++ last) → SameElements before (events_of_others (ids_of last) (before ++ last))
 others_before before last h = record {
@@ -114,7 +110,7 @@ others_before before last h = record {
   where
     apart : (f g : Event) → Among f before → Among g last → id_eq f.id g.id ≡ true → ⊥
     apart f g mf mg e =
-        false≢true (sym (all_at (λ k. is_held before k.id ≡ false) last g (none_held before last (laid_behind [] before last h)) mg) ∙ held_by before g.id f mf (ids_alike.symm g.id f.id ∙ e))
+        false≢true (sym (all_at (λ k. is_held before k.id ≡ false) last g (none_held before last (laid_rest [] before last h)) mg) ∙ held_by before g.id f mf (ids_alike.symm g.id f.id ∙ e))
 
 -- The law of last events.
 pub undos_go_back : UndosGoBack
