@@ -1,5 +1,5 @@
 -- What the operations of the later events of a good history do to the text of the first.
-use Rattle.std.proofs.Common.{◌≡◌, ℕ, ◌≤◌, true, List, [], ◌∷◌, ◌++◌, length, take, drop, Option, Some, None, option_map, refl, sym, ap, subst, ◌∙◌, arith}
+use Rattle.std.proofs.Common.{◌≡◌, ℕ, ◌≤◌, true, List, [], ◌++◌, length, take, drop, Option, None, option_map, sym, ap, subst, ◌∙◌, arith}
 use Rattle.std.proofs.lemmas.List.{take-append-drop}
 use Rattle.ew_model.specs.declared.event.Event.{Event}
 use Rattle.ew_model.specs.declared.text_op.TextOp.{TextOp}
@@ -15,9 +15,11 @@ use Rattle.ew_model.proofs.FirstBadLaws.{good_has_no_bad}
 use Rattle.ew_model.proofs.FitLaw.{operations_fit}
 use Rattle.ew_model.proofs.GoodLaws.{operations_make_text}
 use Rattle.transform.specs.Walking.{bad_at, judged_of, walked_of}
+use Rattle.transform.proofs.Replays.{none_before}
 use Rattle.transform.proofs.WholeWalks.{front_good}
 use Rattle.replica.proofs.Joined.{changed_joined}
 use Rattle.replica.proofs.LengthLaws.{operations_front}
+use Rattle.replica.proofs.RoundTexts.{fit_behind}
 
 -- THE CUT
 -- The walk goes over the events that are held, and begins at this cut.
@@ -43,10 +45,6 @@ module _ (held graph : List Event) (count cut : ℕ) (same : graph ≡ held) (is
   cut_touches = ap (touches graph) is ∙ ap (λ (es : List Event). touches es (latest_cut es count)) same
 
 -- THE WALK
-none_before : (stopped : Option (ℕ × ℕ)) → option_map bad_at stopped ≡ None → stopped ≡ None
-none_before None h = refl
-none_before (Some stop) h = let no : ⊥ = cc in absurd no
-
 -- A walk over good events doesn't stop. So
 module _ (held graph : List Event) (stopped : Option (ℕ × ℕ)) (same : graph ≡ held) (good : IsGood held) (told : option_map bad_at stopped ≡ first_bad graph) where
   none_stops : stopped ≡ None
@@ -64,10 +62,6 @@ module _ (held graph : List Event) (stopped : Option (ℕ × ℕ)) (same : graph
   all_judged cut = ap (λ (o : Option (ℕ × ℕ)). touches (judged_of graph o) cut) none_stops
 
 -- THE TEXT
-fit_behind : (xs ys : List TextOp) (text : List ℕ) → AllFit text (xs ++ ys) → AllFit (changed_by_all xs text) ys
-fit_behind [] ys text h = h
-fit_behind (x ∷ xs) ys text h = fit_behind xs ys (changed_by x text) h.1
-
 module _ (history : List Event) (count : ℕ) (ops : List TextOp) (good : IsGood history) (are : ops ≡ drop count (operations history)) where
   abbrev first : List TextOp
   first = operations (take count history)

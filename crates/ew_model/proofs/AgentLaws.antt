@@ -1,9 +1,11 @@
 -- The agents of a history: they only grow, each is listed once, and there are no more of them than events.
-use Rattle.std.proofs.Common.{◌≡◌, ℕ, suc, ◌+◌, ◌≤◌, true, false, inl, inr, List, [], ◌∷◌, ◌++◌, length, fold, refl, sym, ap, ◌∙◌, subst, append_assoc, append-nil, arith}
+use Rattle.std.proofs.Common.{◌≡◌, ℕ, suc, ◌+◌, ◌<◌, ◌≤◌, true, false, inl, inr, List, [], ◌∷◌, ◌++◌, length, fold, Option, Some, slice_get, refl, sym, ap, ◌∙◌, subst, append_assoc, append-nil, arith}
 use Rattle.std.specs.List.{list_any, AllByRecursion}
 use Rattle.std.proofs.lemmas.Bool.{cases_Bool, cond-true, cond-false}
 use Rattle.std.proofs.lemmas.List.{length-append}
 use Rattle.std.proofs.lemmas.List.Sums.{fold_push, fold-append}
+use Rattle.std.proofs.lemmas.Option.{slice_get_within}
+use Rattle.ew_model.specs.declared.id.Id.{Id}
 use Rattle.ew_model.specs.declared.event.Event.{Event}
 use Rattle.ew_model.specs.Ids.{name_eq}
 use Rattle.ew_model.specs.Ancestors.{ids_of}
@@ -77,3 +79,7 @@ few_agents events = omega (arith, agents_few_from [] events)
 pub ids_count : (events : List Event) → length (ids_of events) ≡ length events
 ids_count [] = refl
 ids_count (e ∷ events) = ap suc (ids_count events)
+
+-- an event with an id stands within the history
+pub within_ids : (history : List Event) (position : ℕ) (x : Id) → slice_get (ids_of history) position ≡ Some x → position < length history
+within_ids history position x at = subst (λ n. position < n) (ids_count history) (slice_get_within (ids_of history) position x at)

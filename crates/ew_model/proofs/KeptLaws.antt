@@ -32,6 +32,11 @@ pub good-push : (before events : List Event) (e : Event) → IsGoodAfter before 
 good-push before [] e h v = (ap (λ w. next_verdict w e) (sym (append-nil before)) ∙ v, tt)
 good-push before (f ∷ events) e h v = (h.0, good-push (before ++ f ∷ []) events e h.1 (ap (λ w. next_verdict w e) (append_assoc before (f ∷ []) events) ∙ v))
 
+-- a front of good events is good
+pub good_before : (seen before later : List Event) → IsGoodAfter seen (before ++ later) → IsGoodAfter seen before
+good_before seen [] later h = tt
+good_before seen (f ∷ before) later h = (h.0, good_before (seen ++ f ∷ []) before later h.1)
+
 -- a row that isn't Good may be left out
 without_row : (rows : List (Option Ruling)) (b : Bool) (r : Ruling) (more : List (Option Ruling)) → (r ≡ Good → ⊥) → first_row (rows ++ then_some b r ∷ more) ≡ Good → first_row (rows ++ more) ≡ Good
 without_row [] true r more n e = absurd (n e)

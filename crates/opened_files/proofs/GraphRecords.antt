@@ -64,13 +64,6 @@ one_place history position e positions w admitted at are lower few =
         ap (λ n. n ∷ []) (sym (place_at id_eq ids_equal id_eq_exact [] (ids_of history) q x (all_new [] history w.each) stands)) ∙ ap (places_of history) (sym told)
     by (q ∷ r ∷ ps) l f told = absurd (omega arith)
 
--- an event with an id stands within the history
-pub within_ids : (history : List Event) (position : ℕ) (x : Id) → slice_get (ids_of history) position ≡ Some x → position < length history
-within_ids history position x at =
-    let size = ids_count history in
-    let within = slice_get_within (ids_of history) position x at in
-    omega (arith, size, within)
-
 -- the id of the only parent of an event, which stands right before it
 pub one_parent_id : (history : List Event) (position : ℕ) (e : Event) (n : ℕ) (x : Id) → IsAdmitted history → slice_get history position ≡ Some e → position ≡ suc n → slice_get (ids_of history) n ≡ Some x
     → parents_at (parent_positions history) (suc n) ≡ n ∷ [] → e.parents ≡ x ∷ []

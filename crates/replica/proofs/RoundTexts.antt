@@ -24,7 +24,7 @@ use Rattle.replica.proofs.Joined.{changed_joined}
 use Rattle.replica.proofs.LengthLaws.{good_lengths, operations_front}
 
 -- operations one behind the other
-fit_behind : (xs ys : List TextOp) (text : List ℕ) → AllFit text (xs ++ ys) → AllFit (changed_by_all xs text) ys
+pub fit_behind : (xs ys : List TextOp) (text : List ℕ) → AllFit text (xs ++ ys) → AllFit (changed_by_all xs text) ys
 fit_behind [] ys text h = h
 fit_behind (x ∷ xs) ys text h = fit_behind xs ys (changed_by x text) h.1
 

@@ -8,7 +8,8 @@ use Rattle.ew_model.specs.Verdicts.{IsGood, first_bad}
 use Rattle.ew_model.proofs.FirstBadLaws.{good_has_no_bad}
 use Rattle.transform.specs.Walking.{bad_at, walked_of, judged_of}
 
-none_before : (stopped : Option (ℕ × ℕ)) → option_map bad_at stopped ≡ None → stopped ≡ None
+-- a walk that stops has a verdict
+pub none_before : (stopped : Option (ℕ × ℕ)) → option_map bad_at stopped ≡ None → stopped ≡ None
 none_before None h = refl
 none_before (Some stop) h = let no : ⊥ = cc in absurd no
 

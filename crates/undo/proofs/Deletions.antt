@@ -3,7 +3,7 @@ use Rattle.std.proofs.Common.{◌≡◌, ℕ, zero, suc, ◌<◌, ◌≤◌, Boo
 use Rattle.std.specs.List.{list_any, cons_option, AllByRecursion}
 use Rattle.std.proofs.lemmas.List.{length-map, take_all}
 use Rattle.std.proofs.lemmas.List.Folds.{list_any-append}
-use Rattle.std.proofs.lemmas.Option.{slice_get-map, slice_get_within, get_or_from_slice_get}
+use Rattle.std.proofs.lemmas.Option.{slice_get-map, get_or_from_slice_get}
 use Rattle.ew_model.specs.declared.id.Id.{Id}
 use Rattle.ew_model.specs.declared.event.Event.{Event}
 use Rattle.ew_model.specs.Ids.{id_eq, is_among}
@@ -158,9 +158,6 @@ targets_long history pairs are =
 pub pair_there : (history : List Event) (pairs : List (ℕ × ℕ)) (n : ℕ) (pair : ℕ × ℕ) → AreTargets history pairs → slice_get pairs n ≡ Some pair
     → (d : Id × Id) × (slice_get (deletions_in (tree history)) n ≡ Some d) × IsPair history pair d
 pair_there history pairs n pair are at = pair_at history pairs (deletions_in (tree history)) n pair are at
-
-pub id_within : (history : List Event) (p : ℕ) (x : Id) → slice_get (ids_of history) p ≡ Some x → p < length history
-id_within history p x at = subst (λ n. p < n) (length-map history (λ (e : Event). e.id)) (slice_get_within (ids_of history) p x at)
 
 -- the fates by the first deletions
 abbrev pub fates_by : List Event → List Id → ℕ → List Fate

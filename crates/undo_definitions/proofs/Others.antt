@@ -13,13 +13,14 @@ use Rattle.ew_model.specs.Ancestors.{ids_of, is_held, version_events, ancestors}
 use Rattle.ew_model.specs.Entries.{Inserted, Entry, deletes, visible}
 use Rattle.ew_model.specs.Texts.{visible_at, text_at, text_of}
 use Rattle.ew_model.specs.Tree.{Noted, all_entries, tree_on, tree}
-use Rattle.ew_model.specs.Verdicts.{IsGoodAfter, IsGood}
+use Rattle.ew_model.specs.Verdicts.{IsGood}
 use Rattle.ew_model.specs.Edits.{count_of, chain_of, events_of_ops}
 use Rattle.ew_model.proofs.CoverLaws.{event_of, held_by, held_of, ids_alike, among_here}
 use Rattle.ew_model.proofs.EditLaws.{ops_long}
 use Rattle.ew_model.proofs.EntryLaws.{LaidOut, none_held}
 use Rattle.ew_model.proofs.EqualSets.{note_of_tree, same_text_of, same_tree, same_mapped, tree_apart}
 use Rattle.ew_model.proofs.GoodLaws.{good_laid_out}
+use Rattle.ew_model.proofs.KeptLaws.{good_before}
 use Rattle.ew_model.proofs.ListTests.{filter_alike, same_truth}
 use Rattle.ew_model.proofs.PlaceLaws.{same_any, same_order}
 use Rattle.ew_model.proofs.RulingLaws.{good_parents}
@@ -93,10 +94,6 @@ undos_leave_others_text limits history others agent undone good others_good same
     undo_text limits history agent undone good none ∙ others_text history others undone good others_good same
 
 -- THE LAST EVENTS
-good_before : (seen before later : List Event) → IsGoodAfter seen (before ++ later) → IsGoodAfter seen before
-good_before seen [] later h = tt
-good_before seen (f ∷ before) later h = (h.0, good_before (seen ++ f ∷ []) before later h.1)
-
 -- the events before the last ones are those with other ids
 others_before : (before last : List Event) → LaidOut [] (before ++ last) → SameElements before (events_of_others (ids_of last) (before ++ last))
 others_before before last h = record {

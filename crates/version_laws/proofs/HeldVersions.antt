@@ -5,12 +5,13 @@ use Rattle.ew_model.specs.declared.event.Event.{Event}
 use Rattle.ew_model.specs.Sets.{Among, SameElements}
 use Rattle.ew_model.specs.Ids.{id_eq}
 use Rattle.ew_model.specs.Ancestors.{is_held, version_events}
-use Rattle.ew_model.specs.Verdicts.{IsGoodAfter, IsGood}
+use Rattle.ew_model.specs.Verdicts.{IsGood}
 use Rattle.ew_model.proofs.SetLaws.{among_joined, joined_left, joined_right}
 use Rattle.ew_model.proofs.VersionLaws.{found_by}
 use Rattle.ew_model.proofs.EntryLaws.{points_back}
 use Rattle.ew_model.proofs.SubgraphLaws.{closed_taken, taken_within}
 use Rattle.ew_model.proofs.GoodLaws.{good_laid_out}
+use Rattle.ew_model.proofs.KeptLaws.{good_before}
 use Rattle.ew_model.proofs.CutSteps.{good_last}
 use Rattle.ew_model.proofs.CoverLaws.{ids_alike, passes, pass_all, event_of, held_of, among_here, equal_through}
 use Rattle.ew_model.proofs.RulingLaws.{good_parents, next_right}
@@ -47,11 +48,6 @@ held_versions_keep_text xs ys version good_xs good_ys each held_xs held_ys =
     (λ f g mf mg q. each f g (joined_left xs ys f mf) (joined_right xs ys g mg) q)
     (λ f g mf mg q. each f g (joined_right xs ys f mf) (joined_left xs ys g mg) q)
     good_xs good_ys held_xs held_ys)
-
--- a front of good events is good
-good_before : (seen before later : List Event) → IsGoodAfter seen (before ++ later) → IsGoodAfter seen before
-good_before seen [] later h = tt
-good_before seen (f ∷ before) later h = (h.0, good_before (seen ++ f ∷ []) before later h.1)
 
 -- an event that the first history holds is no more, where it comes to the second
 none_more : (history makers : List Event) (e : Event) → Among e history → (z : Event) → Among z (history ++ (makers ++ e ∷ [])) → Among z (history ++ makers)

@@ -5,12 +5,12 @@ use Rattle.ew_model.specs.declared.id.Id.{Id}
 use Rattle.ew_model.specs.declared.event.Event.{Event}
 use Rattle.ew_model.specs.Writable.{IsWritable}
 use Rattle.ew_model.proofs.Outcomes.{on_ok_then}
+use Rattle.ew_model.proofs.AgentLaws.{within_ids}
 use Rattle.event_graph.proofs.Counted.{event_there}
 use Rattle.agreement.proofs.Shared.{same_made}
 use Rattle.event_file.specs.Places.{agent_place, place_of, places_of}
 use Rattle.event_file.specs.RunWriting.{ArePut, IsNamed}
 use Rattle.event_file.proofs.Asked.{asked}
-use Rattle.opened_files.proofs.GraphRecords.{within_ids}
 use Rattle.opened_files.proofs.written.put_event.Goals as goal
 
 pub find_parents-requires-clause-within : goal.find_parents-requires-clause-within

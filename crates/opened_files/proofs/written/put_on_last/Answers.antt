@@ -1,6 +1,6 @@
 use Rattle.std.proofs.Common.{◌≡◌, ◌+◌, suc, sym, subst, arith}
+use Rattle.ew_model.proofs.AgentLaws.{within_ids}
 use Rattle.event_file.specs.RunWriting.{ArePut}
-use Rattle.opened_files.proofs.GraphRecords.{within_ids}
 use Rattle.opened_files.proofs.IdRuns.{behind_there}
 use Rattle.opened_files.proofs.written.put_on_last.Goals as goal
 

@@ -3,11 +3,12 @@ use Rattle.std.proofs.lemmas.Option.{slice_get-get_or, same_Some}
 use Rattle.ew_model.specs.declared.event.Event.{Event}
 use Rattle.ew_model.specs.declared.id.Id.{Id}
 use Rattle.ew_model.specs.Ids.{is_among}
+use Rattle.ew_model.proofs.AgentLaws.{within_ids}
 use Rattle.undo.specs.declared.fate.Fate.{Fate}
 use Rattle.undo.specs.declared.fate.Fate.TheVariants.{Shown}
 use Rattle.undo.specs.Fates.{with_deletion}
 use Rattle.undo.specs.Undone.{undone_ids}
-use Rattle.undo.proofs.Deletions.{no_fates, pair_there, id_within, fates_by, fates_long, fate_there, fate_among, fates_next, fates_all}
+use Rattle.undo.proofs.Deletions.{no_fates, pair_there, fates_by, fates_long, fate_there, fate_among, fates_next, fates_all}
 use Rattle.undo.proofs.fates.fates.Goals as goal
 
 pub loop-pair-init : goal.loop-pair-init
@@ -22,7 +23,7 @@ id_near-deletion-requires c =
     let place = c.loop-pair.pair-index in
     let pair = get_or c.args.targets.now place (0, 0) in
     let found = pair_there history c.args.targets.now place pair c.requires.targets (slice_get-get_or c.args.targets.now place (0, 0) c.loop-pair-test.true) in
-    id_within history pair.0 found.0.0 found.2.deletion
+    within_ids history pair.0 found.0.0 found.2.deletion
 
 pub index-requires : goal.index-requires
 index-requires c =
@@ -30,7 +31,7 @@ index-requires c =
     let place = c.loop-pair.pair-index in
     let pair = get_or c.args.targets.now place (0, 0) in
     let found = pair_there history c.args.targets.now place pair c.requires.targets (slice_get-get_or c.args.targets.now place (0, 0) c.loop-pair-test.true) in
-    let within = id_within history pair.1 found.0.1 found.2.target in
+    let within = within_ids history pair.1 found.0.1 found.2.target in
     let long = c.loop-pair.fates.ok.0 ∙ ap (length {A = Fate}) c.loop-pair.invariant ∙ fates_long history (undone_ids c.args.undone.now) place in
     omega (arith, within, long)
 
@@ -40,7 +41,7 @@ index_mut-requires c =
     let place = c.loop-pair.pair-index in
     let pair = get_or c.args.targets.now place (0, 0) in
     let found = pair_there history c.args.targets.now place pair c.requires.targets (slice_get-get_or c.args.targets.now place (0, 0) c.loop-pair-test.true) in
-    let within = id_within history pair.1 found.0.1 found.2.target in
+    let within = within_ids history pair.1 found.0.1 found.2.target in
     let long = c.loop-pair.fates.ok.0 ∙ ap (length {A = Fate}) c.loop-pair.invariant ∙ fates_long history (undone_ids c.args.undone.now) place in
     omega (arith, within, long)
 

@@ -5,11 +5,11 @@ use Rattle.ew_model.specs.declared.event.Event.{Event}
 use Rattle.ew_model.specs.declared.id.Id.{Id}
 use Rattle.ew_model.specs.Ids.{is_among}
 use Rattle.ew_model.specs.Ancestors.{ids_of}
+use Rattle.ew_model.proofs.AgentLaws.{within_ids}
 use Rattle.undo.specs.declared.fate.Fate.{Fate}
 use Rattle.undo.specs.Fates.{fate_of, fates_of, is_deleted_by, stays_deleted}
 use Rattle.undo.specs.Undone.{undone_ids}
 use Rattle.undo.proofs.Along.{fate_deleted, fate_wanted, along_begins, along_moves, along_ends}
-use Rattle.undo.proofs.Deletions.{id_within}
 use Rattle.undo.proofs.Letters.{char_there, order_long, few_chars, letter_there}
 use Rattle.undo.proofs.ops.ops_along.Goals as goal
 
@@ -28,7 +28,7 @@ bounds-fates-position c =
     let place = c.loop-position.position-index in
     let position = get_or c.args.order.now place 0 in
     let char = char_there history c.args.order.now place position c.requires.order (slice_get-get_or c.args.order.now place 0 c.loop-position-test.true) in
-    let within = id_within history position char.0.id char.2 in
+    let within = within_ids history position char.0.id char.2 in
     let long = ap (length {A = Fate}) c.requires.fates ∙ length-map (ids_of history) (fate_of history (undone_ids c.args.undone.now)) ∙ length-map history (λ (e : Event). e.id) in
     omega (arith, within, long)
 
@@ -38,7 +38,7 @@ id_near-id-requires c =
     let place = c.loop-position.position-index in
     let position = get_or c.args.order.now place 0 in
     let char = char_there history c.args.order.now place position c.requires.order (slice_get-get_or c.args.order.now place 0 c.loop-position-test.true) in
-    id_within history position char.0.id char.2
+    within_ids history position char.0.id char.2
 
 pub letter-ch-requires-clause-within : goal.letter-ch-requires-clause-within
 letter-ch-requires-clause-within c =
@@ -46,7 +46,7 @@ letter-ch-requires-clause-within c =
     let place = c.loop-position.position-index in
     let position = get_or c.args.order.now place 0 in
     let char = char_there history c.args.order.now place position c.requires.order (slice_get-get_or c.args.order.now place 0 c.loop-position-test.true) in
-    id_within history position char.0.id char.2
+    within_ids history position char.0.id char.2
 
 pub letter-ch-requires-clause-inserts : goal.letter-ch-requires-clause-inserts
 letter-ch-requires-clause-inserts c =
