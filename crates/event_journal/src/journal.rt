@@ -9,7 +9,7 @@ ghost use Rattle.peer_definitions.specs.Spelling.{events_body};
 ghost use Rattle.peer_definitions.specs.Batches.{IsBatch};
 ghost use Rattle.event_journal.specs.Disk.{TellsAlike, StaysWithin};
 ghost use Rattle.event_journal.specs.Writing.{with_batch};
-ghost use Rattle.event_journal.specs.Journal.{CountsOpening, IsKeptOn, HoldsEvents, IsBadAt, HoldsTooMany};
+ghost use Rattle.event_journal.specs.Journal.{CountsOpening, IsKeptOn, HoldsEvents, IsBadAt, HoldsTooMany, HoldSame};
 ghost use Rattle.event_journal.specs.LastingLaw.{Leads};
 ghost use Rattle.event_journal.specs.LastingLaw.Step.{Opening, Acknowledged, Unacknowledged};
 
@@ -65,8 +65,9 @@ impl Journal {
         // Its bytes stay as they were, but for fewer than 2, which become a closed gate.
         ensures unchanged { OnOk result (IfSome (D.seen disk.old).bytes (λ bytes. 2 ≤ length bytes → (D.seen disk.new).bytes ≡ Some bytes)) }
         ensures begun { OnOk result (IfSome (D.seen disk.old).bytes (λ bytes. length bytes < 2 → (D.seen disk.new).bytes ≡ Some (0 ∷ []))) }
-        // The disk tells its bytes exactly where it did before.
+        // The disk tells its bytes exactly where it did before, and whatever is answered, they hold the same batches.
         ensures tells { TellsAlike (D.seen disk.old).bytes (D.seen disk.new).bytes }
+        ensures same { IfSome (D.seen disk.old).bytes (λ bytes. IfSome (D.seen disk.new).bytes (HoldSame limits.now.body bytes)) }
         // A crash at any moment of the call leaves batches that a crash just before it could have left: this is the law's step.
         ensures any_moment { IfSome (D.seen disk.old).bytes (λ _. StaysWithin D.moment D.left_since disk.old disk.new (λ c. (d : List ℕ) × D.may_leave disk.old d × Leads limits.now.body Opening d c)) }
         // The count of faults rises where the disk failed, and only there.
