@@ -28,6 +28,10 @@ merge_app = with_rule (with_rule (new_app (codes "merge")) file_rule) other_rule
 unfoldable pub edit_app : App
 edit_app = with_rule (with_rule (new_app (codes "edit")) file_rule) agent_rule
 
+-- the command of an agent and no file
+unfoldable pub watch_app : App
+watch_app = with_rule (new_app (codes "watch")) agent_rule
+
 -- the version, which may be given
 abbrev pub at_rule : Rule
 at_rule = record (new_rule (codes "at")) { long = Some (codes "at") }
@@ -70,7 +74,7 @@ then_app app more = with_subcommand app more.top
 
 -- the commands of one file that have no options
 abbrev pub file_commands : List (List ℕ)
-file_commands = codes "new" ∷ codes "heads" ∷ codes "log" ∷ codes "replay" ∷ codes "check" ∷ codes "ask" ∷ codes "serve" ∷ codes "marks" ∷ codes "upgrade" ∷ []
+file_commands = codes "new" ∷ codes "heads" ∷ codes "log" ∷ codes "replay" ∷ codes "check" ∷ codes "ask" ∷ codes "serve" ∷ codes "marks" ∷ codes "upgrade" ∷ codes "export" ∷ []
 
 -- the program with a command of one file for each name
 abbrev pub with_file_apps : App → List (List ℕ) → App
@@ -79,8 +83,8 @@ with_file_apps app (name ∷ names) = with_file_apps (then_app app (file_app nam
 
 -- the program, with all of its commands
 unfoldable pub egw_app : App
-egw_app = then_app (then_app (then_app (then_app (then_app (with_file_apps bare_app file_commands) edit_app) cat_app) merge_app) net_app) make_app
+egw_app = then_app (then_app (then_app (then_app (then_app (then_app (with_file_apps bare_app file_commands) edit_app) cat_app) merge_app) net_app) make_app) watch_app
 
 -- the usage: a line for each command
 abbrev pub usage : List ℕ
-usage = codes "usage: egw new FILE\n       egw edit FILE --agent NAME\n       egw cat FILE [--at VERSION]\n       egw heads FILE\n       egw log FILE\n       egw replay FILE\n       egw check FILE\n       egw merge FILE OTHER\n       egw ask FILE\n       egw serve FILE\n       egw net\n       egw make --seed N --count N\n       egw marks FILE\n       egw upgrade FILE\n"
+usage = codes "usage: egw new FILE\n       egw edit FILE --agent NAME\n       egw cat FILE [--at VERSION]\n       egw heads FILE\n       egw log FILE\n       egw replay FILE\n       egw check FILE\n       egw merge FILE OTHER\n       egw ask FILE\n       egw serve FILE\n       egw net\n       egw make --seed N --count N\n       egw marks FILE\n       egw upgrade FILE\n       egw watch --agent NAME\n       egw export FILE\n"

@@ -1,6 +1,7 @@
 -- What a run of a command line is, seen from its objects before and after. The last definition here is the sentence that the program
 -- is proved against: a run answers what the command table says, leaves no more than is said here after a fault, makes no more loads than
--- its line has files, stores only what its reply stores, and takes input only where its line reads it.
+-- its line has files, stores only what its reply stores, keeps in the journal only what its line keeps, and takes input only where its line
+-- reads it.
 use Rattle.std.specs.Prelude.{◌≡◌, ◌≤◌, ◌<◌, ◌+◌, ◌⊎◌, ⊤, ℕ, true, false, List, [], length, drop, Option, None, Some}
 use Rattle.std.specs.List.{list_any}
 use Rattle.ew_model.specs.declared.event.Event.{Event}
@@ -8,22 +9,30 @@ use Rattle.ew_model.specs.Limits.{LimitNumbers}
 use Rattle.ew_outside.specs.Bytes.{IsFlushed}
 use Rattle.ew_outside.specs.Counts.{AsksAtMost, IsQuiet, Rose, RisesOnceAtMost, next}
 use Rattle.ew_outside.specs.Files.{Files}
+use Rattle.event_journal.specs.Disk.{TellsAlike}
 use Rattle.command_table.specs.Framings.{Framing, IsFramingOf}
-use Rattle.command_table.specs.Lines.{Meaning, IsInput, session_of}
+use Rattle.command_table.specs.Journals.{Journal, TellsJournal, open_journal}
+use Rattle.command_table.specs.Kept.{Keeps}
+use Rattle.command_table.specs.Lines.{Meaning, IsInput, IsJournalOf, session_of, kept_of}
 use Rattle.command_table.specs.Outcomes.{IsServed, IsSession, StoresFirst}
 use Rattle.command_table.specs.Possible.{MayComeTo}
-use Rattle.command_table.specs.Reads.{shape_of, reads_input, needs_file, may_store, makes_file, most_asked, loads_of_all, CountsLoads, LoadsFront, TakesAtMost, LeavesInput, IfFileRefused}
-use Rattle.command_table.specs.Seen.{Seen, Object, shelf, source, sink, faults_of, failed_text, TellsErr}
+use Rattle.command_table.specs.Reads.{shape_of, reads_input, uses_journal, needs_file, may_store, makes_file, most_asked, loads_of_all, CountsLoads, LoadsFront, TakesAtMost, LeavesInput, IfRefused, IfFileRefused}
+use Rattle.command_table.specs.Seen.{Seen, Object, shelf, disk, source, sink, faults_of, failed_text, TellsErr}
 use Rattle.command_table.specs.Sessions.{Session, is_bye, RepliesTo, IsPrompt}
-use Rattle.command_table.specs.Table.{Text, Line, does, serves, line_of, opened, open_file}
+use Rattle.command_table.specs.Table.{Text, Line, serves, watches, line_of, opened, open_file}
 use Rattle.command_table.specs.Cli.{usage as usage_text}
 use Rattle.command_table.specs.Text.{out_of_memory}
 
 -- it holds, unless the line serves a peer
 abbrev pub UnlessServes : Option Line → Type 0 → Type 0
 UnlessServes (Some (serves file)) holds = ⊤
-UnlessServes (Some (does command)) holds = holds
-UnlessServes None holds = holds
+UnlessServes line holds = holds
+
+-- it holds, unless the line sends something before its end
+abbrev pub UnlessSends : Option Line → Type 0 → Type 0
+UnlessSends (Some (serves file)) holds = ⊤
+UnlessSends (Some (watches agent)) holds = ⊤
+UnlessSends line holds = holds
 
 -- the statuses of runs: 0, and 2 to 8
 abbrev pub IsStatus : ℕ → Type 0
@@ -31,11 +40,12 @@ IsStatus n = (n ≡ 0) ⊎ ((2 ≤ n) × (n ≤ 8))
 
 -- What a run answers.
 pub record Answers (line : Option Line) (limits : LimitNumbers) (old new : Seen) (status : ℕ) : Type 0 where
-  -- over files that are known, and an input that is known or isn't read, it is the session of the table
-  pub known : (files : Files) (input : List ℕ) (meaning : Meaning line) → old.shelf.files ≡ Some files → IsInput limits line old.input.left input meaning
-      → let s = session_of line limits files input meaning in
-      IsServed s files old new status × UnlessServes line (StoresFirst s files old new status)
-  -- whatever is known of them, it is a session that the line comes to over some files and some input
+  -- over files that are known, a journal that is known or isn't opened, and an input that is known or isn't read, it is the session of the table
+  pub known : (files : Files) (journal : Journal) (input : List ℕ) (meaning : Meaning line) → old.shelf.files ≡ Some files → IsJournalOf limits line old.disk.bytes journal
+      → IsInput limits line old.input.left input meaning
+      → let s = session_of line limits files journal input meaning in
+      IsServed s files old new status × UnlessSends line (StoresFirst s files old new status)
+  -- whatever is known of them, it is a session that the line comes to over some files, some journal and some input
   pub some : (s : Session) × MayComeTo line limits s × IsSession s old new status
   pub among : IsStatus status
   -- the words alone decide on the usage
@@ -48,17 +58,19 @@ pub record Answers (line : Option Line) (limits : LimitNumbers) (old new : Seen)
   -- the error output is left alone at status 0
   pub silent : status ≡ 0 → (new.err.taken ≡ old.err.taken) × (new.err.faults ≡ old.err.faults)
 
--- nothing was stored, whatever is known of the shelf; and nothing printed, unless the line serves a peer
+-- nothing was stored, whatever is known of the shelf; and nothing printed, unless the line sends something before its end
 abbrev pub StoresNothing : Option Line → Seen → Seen → Type 0
-StoresNothing line old new = (new.shelf.files ≡ old.shelf.files) × (new.shelf.stores ≡ old.shelf.stores) × UnlessServes line (new.out.taken ≡ old.out.taken)
+StoresNothing line old new = (new.shelf.files ≡ old.shelf.files) × (new.shelf.stores ≡ old.shelf.stores) × UnlessSends line (new.out.taken ≡ old.out.taken)
 
--- How far a run came that met a fault of an object. A failed load leaves files, output and input as they were, and no store is made. A failed read stores
--- nothing, and prints nothing unless in a session. A failed store is the only one, and prints nothing; of a session `FailsToStore` says it.
+-- How far a run came that met a fault of an object. A failed load leaves files, output, input and disk as they were, and no store is made. A
+-- failed read stores nothing, and prints nothing unless a peer is served. A failed store is the only one, and prints nothing; of a session
+-- `FailsToStore` says it. A disk that failed stores nothing; what it leaves of the journal, `Keeps` says.
 abbrev pub FaultLeaves : Option Line → Object → Seen → Seen → Type 0
 FaultLeaves line shelf old new =
-    (Rose old.shelf.failed_loads new.shelf.failed_loads × (new.shelf.files ≡ old.shelf.files) × (new.shelf.stores ≡ old.shelf.stores) × (new.out.taken ≡ old.out.taken) × LeavesInput old.input new.input)
-    ⊎ ((new.shelf.failed_loads ≡ old.shelf.failed_loads) × (new.shelf.stores ≡ next old.shelf.stores) × UnlessServes line (new.out.taken ≡ old.out.taken))
-FaultLeaves line source old new = (new.shelf.failed_loads ≡ old.shelf.failed_loads) × StoresNothing line old new
+    (Rose old.shelf.failed_loads new.shelf.failed_loads × (new.shelf.files ≡ old.shelf.files) × (new.shelf.stores ≡ old.shelf.stores) × (new.out.taken ≡ old.out.taken) × LeavesInput old.input new.input × (new.disk ≡ old.disk))
+    ⊎ ((new.shelf.failed_loads ≡ old.shelf.failed_loads) × (new.shelf.stores ≡ next old.shelf.stores) × UnlessSends line (new.out.taken ≡ old.out.taken))
+FaultLeaves line disk old new = (new.shelf.failed_loads ≡ old.shelf.failed_loads) × StoresNothing line old new
+FaultLeaves line source old new = (new.shelf.failed_loads ≡ old.shelf.failed_loads) × StoresNothing line old new × UnlessServes line (new.out.taken ≡ old.out.taken)
 FaultLeaves line sink old new = new.shelf.failed_loads ≡ old.shelf.failed_loads
 
 -- an object failed, and the text names it
@@ -133,11 +145,27 @@ pub record Reads (line : Option Line) (limits : LimitNumbers) (old new : Seen) (
   pub refused : needs_file line ≡ true → (status ≡ 3) ⊎ (status ≡ 4) → LeavesInput old.input new.input
   pub hears : IfServes line limits old new status
 
+-- What a run leaves of the journal.
+pub record Journals (line : Option Line) (limits : LimitNumbers) (old new : Seen) (status : ℕ) : Type 0 where
+  -- a line that has no use for it leaves the disk as it is, and so does one that is refused for a file that is there
+  pub alone : uses_journal line ≡ false → new.disk ≡ old.disk
+  pub there : status ≡ 3 → new.disk ≡ old.disk
+  -- the disk tells its bytes exactly where it did before
+  pub tells : TellsAlike old.disk.bytes new.disk.bytes
+  -- over a journal and an input that are known, what the line keeps stands behind the journal
+  pub known : (journal : Journal) (input : List ℕ) (meaning : Meaning line) → uses_journal line ≡ true → TellsJournal limits old.disk.bytes journal
+      → IsInput limits line old.input.left input meaning → Keeps limits journal (kept_of line limits journal input meaning) old new status
+  -- the input is left alone where the journal is refused; whatever is known of it, where it is bad
+  pub untouched : (journal : Journal) → uses_journal line ≡ true → TellsJournal limits old.disk.bytes journal
+      → IfRefused (open_journal limits journal) (LeavesInput old.input new.input)
+  pub refused : uses_journal line ≡ true → status ≡ 4 → LeavesInput old.input new.input
+
 -- A run of a line, which may not be taken.
 pub record IsRunOf (line : Option Line) (limits : LimitNumbers) (old new : Seen) (status : ℕ) : Type 0 where
   pub answers : Answers line limits old new status
   pub leaves : Leaves line old new status
   pub reads : Reads line limits old new status
+  pub journals : Journals line limits old new status
 
 -- A run of a command line.
 abbrev pub IsRun : List Text → LimitNumbers → Seen → Seen → ℕ → Type 0

@@ -1,7 +1,10 @@
 -- What a command line answers, and what a run is.
 pub mod Cli
+pub mod Crashes
 pub mod Framings
 pub mod Headline
+pub mod Journals
+pub mod Kept
 pub mod Lines
 pub mod Loads
 pub mod Outcomes

@@ -68,5 +68,5 @@ pub record IsServed (s : Session) (files : Files) (old new : Seen) (status : ℕ
 
 -- where the output alone failed, what was to be stored is stored
 abbrev pub StoresFirst : Session → Files → Seen → Seen → ℕ → Type 0
-StoresFirst s files old new status = status ≡ 6 → IsQuiet old.shelf.faults new.shelf.faults → IsQuiet old.input.faults new.input.faults
+StoresFirst s files old new status = status ≡ 6 → IsQuiet old.shelf.faults new.shelf.faults → IsQuiet old.disk.faults new.disk.faults → IsQuiet old.input.faults new.input.faults
     → new.shelf.files ≡ Some (session_answer s files).files

@@ -1,10 +1,11 @@
--- What a line reads and may store: its files in the order of their loads, how much of them is asked for, and how much of the input is taken.
+-- What a line reads and may store: its files in the order of their loads, how much of them is asked for, how much of the input is taken, and
+-- whether the journal is opened.
 use Rattle.std.specs.Prelude.{◌≡◌, ◌≤◌, ⊤, ℕ, Bool, true, false, List, [], ◌∷◌, take, drop, not, ◌&&◌, Option, None, Some, if◌then◌else◌}
 use Rattle.ew_model.specs.Limits.{LimitNumbers, most_file_bytes}
 use Rattle.ew_outside.specs.Files.{Files}
 use Rattle.ew_outside.specs.Counts.{next}
 use Rattle.ew_outside.specs.Seen.{SourceSeen}
-use Rattle.command_table.specs.Table.{Text, Line, does, serves, create, edit, show, merge, upgrade, make, net, Opened, opened, refused, open_file}
+use Rattle.command_table.specs.Table.{Text, Line, does, serves, watches, exports, create, edit, show, merge, upgrade, make, net, Opened, opened, refused, open_file}
 
 -- what a line reads, and whether it may store
 pub record Shape : Type 0 where
@@ -16,18 +17,22 @@ pub record Shape : Type 0 where
   pub input : Bool
   -- something may be stored, and it is the first of these files
   pub stores : Bool
+  -- the journal is opened
+  pub journal : Bool
 
 -- the shape of a line, which may not be taken
 abbrev pub shape_of : Option Line → Shape
-shape_of (Some (does (create file))) = record { files = file ∷ []; needs = false; input = false; stores = true }
-shape_of (Some (does (edit file agent))) = record { files = file ∷ []; needs = true; input = true; stores = true }
-shape_of (Some (does (show listing file))) = record { files = file ∷ []; needs = true; input = false; stores = false }
-shape_of (Some (does (merge file other))) = record { files = file ∷ other ∷ []; needs = true; input = false; stores = true }
-shape_of (Some (does (upgrade file))) = record { files = file ∷ []; needs = true; input = false; stores = true }
-shape_of (Some (does (make seed count))) = record { files = []; needs = false; input = false; stores = false }
-shape_of (Some (does net)) = record { files = []; needs = false; input = true; stores = false }
-shape_of (Some (serves file)) = record { files = file ∷ []; needs = true; input = true; stores = true }
-shape_of None = record { files = []; needs = false; input = false; stores = false }
+shape_of (Some (does (create file))) = record { files = file ∷ []; needs = false; input = false; stores = true; journal = false }
+shape_of (Some (does (edit file agent))) = record { files = file ∷ []; needs = true; input = true; stores = true; journal = false }
+shape_of (Some (does (show listing file))) = record { files = file ∷ []; needs = true; input = false; stores = false; journal = false }
+shape_of (Some (does (merge file other))) = record { files = file ∷ other ∷ []; needs = true; input = false; stores = true; journal = false }
+shape_of (Some (does (upgrade file))) = record { files = file ∷ []; needs = true; input = false; stores = true; journal = false }
+shape_of (Some (does (make seed count))) = record { files = []; needs = false; input = false; stores = false; journal = false }
+shape_of (Some (does net)) = record { files = []; needs = false; input = true; stores = false; journal = false }
+shape_of (Some (serves file)) = record { files = file ∷ []; needs = true; input = true; stores = true; journal = false }
+shape_of (Some (watches agent)) = record { files = []; needs = false; input = true; stores = false; journal = true }
+shape_of (Some (exports file)) = record { files = file ∷ []; needs = false; input = false; stores = true; journal = true }
+shape_of None = record { files = []; needs = false; input = false; stores = false; journal = false }
 
 -- the line reads the input
 abbrev pub reads_input : Option Line → Bool
@@ -36,6 +41,10 @@ reads_input l = (shape_of l).input
 -- the line has files that have to be there
 abbrev pub needs_file : Option Line → Bool
 needs_file l = (shape_of l).needs
+
+-- the line opens the journal
+abbrev pub uses_journal : Option Line → Bool
+uses_journal l = (shape_of l).journal
 
 -- a run of the line may store something
 abbrev pub may_store : Option Line → Bool

@@ -24,6 +24,9 @@ pub data Refusal : Type 0 where
   -- a field that is bad, at which byte, and an event that isn't good, at which position
   bad_field : (name : List ℕ) (offset : ℕ) (fault : RecordFault) → Refusal
   bad_event : (name : List ℕ) (position : ℕ) (verdict : Ruling) → Refusal
+  -- the journal: a place where no batch is, and an event that isn't good, at which position
+  bad_batch : (offset : ℕ) → Refusal
+  bad_journal_event : (position : ℕ) (verdict : Ruling) → Refusal
   -- a line of a script that isn't in its grammar
   unreadable : (line : ℕ) → Refusal
   -- an edit that reaches past the end of a text of this length, of a line or of none
@@ -44,6 +47,7 @@ pub data Refusal : Type 0 where
   -- what passes a limit
   file_too_long : (name : List ℕ) (most : ℕ) → Refusal
   file_too_many : (name : List ℕ) (most : ℕ) → Refusal
+  journal_too_many : (most : ℕ) → Refusal
   input_too_long : (most : ℕ) → Refusal
   too_many_events : (most : ℕ) → Refusal
   too_many_heads : (heads : ℕ) → Refusal
@@ -59,6 +63,8 @@ refusal_status (unknown_version name version) = 4
 refusal_status (bad_digest name stored found) = 4
 refusal_status (bad_field name offset fault) = 4
 refusal_status (bad_event name position verdict) = 4
+refusal_status (bad_batch offset) = 4
+refusal_status (bad_journal_event position verdict) = 4
 refusal_status (unreadable line) = 5
 refusal_status (line_out_of_range line len) = 5
 refusal_status (out_of_range len) = 5
@@ -73,6 +79,7 @@ refusal_status (frame_too_long number len) = 5
 refusal_status (bad_body number) = 5
 refusal_status (file_too_long name most) = 7
 refusal_status (file_too_many name most) = 7
+refusal_status (journal_too_many most) = 7
 refusal_status (input_too_long most) = 7
 refusal_status (too_many_events most) = 7
 refusal_status (too_many_heads heads) = 7
@@ -91,6 +98,9 @@ refusal_text (bad_field name offset fault) =
     codes "egw: " ++ (name ++ (codes ": byte " ++ (decimal offset ++ (codes ": " ++ (field_words fault ++ codes "\n")))))
 refusal_text (bad_event name position verdict) =
     codes "egw: " ++ (name ++ (codes ": event " ++ (decimal position ++ (codes ": " ++ (verdict_words verdict ++ codes "\n")))))
+refusal_text (bad_batch offset) = codes "egw: journal: byte " ++ (decimal offset ++ codes ": bad batch\n")
+refusal_text (bad_journal_event position verdict) =
+    codes "egw: journal: event " ++ (decimal position ++ (codes ": " ++ (verdict_words verdict ++ codes "\n")))
 refusal_text (unreadable line) = codes "egw: line " ++ (decimal line ++ codes ": unreadable\n")
 refusal_text (line_out_of_range line len) = codes "egw: line " ++ (decimal line ++ (codes ": out of range, length " ++ (decimal len ++ codes "\n")))
 refusal_text (out_of_range len) = codes "egw: out of range, length " ++ (decimal len ++ codes "\n")
@@ -105,6 +115,7 @@ refusal_text (frame_too_long number len) = codes "egw: frame " ++ (decimal numbe
 refusal_text (bad_body number) = codes "egw: frame " ++ (decimal number ++ codes ": bad body\n")
 refusal_text (file_too_long name most) = codes "egw: " ++ (name ++ (codes ": more than " ++ (decimal most ++ codes " bytes\n")))
 refusal_text (file_too_many name most) = codes "egw: " ++ (name ++ (codes ": more than " ++ (decimal most ++ codes " events\n")))
+refusal_text (journal_too_many most) = codes "egw: journal: more than " ++ (decimal most ++ codes " events\n")
 refusal_text (input_too_long most) = codes "egw: input: more than " ++ (decimal most ++ codes " bytes\n")
 refusal_text (too_many_events most) = codes "egw: more than " ++ (decimal most ++ codes " events\n")
 refusal_text (too_many_heads heads) = codes "egw: " ++ (decimal heads ++ codes " heads, more than 16\n")

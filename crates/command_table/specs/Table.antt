@@ -43,7 +43,7 @@ use Rattle.command_table.specs.Loads.{File, missing, too_long, whole, whole_of}
 use Rattle.command_table.specs.VersionWords.{version_in}
 use Rattle.command_table.specs.Scripts.{Reading, Means, script, bad_line, NetReading, MeansNet, net_script, bad_net_line, Edited, ran, stopped_at, edited_by}
 use Rattle.command_table.specs.Text.{made_text, received_text, upgraded_text}
-use Rattle.command_table.specs.Refusals.{Refusal, refusal_status, refusal_text, not_taken, no_file, file_there, short_file, no_event_file, unknown_version, bad_digest, bad_field, bad_event, unreadable, line_out_of_range, out_of_range, no_peer, peer_there, no_packet, unknown, clash, file_too_long, file_too_many, input_too_long, too_many_events, too_many_heads}
+use Rattle.command_table.specs.Refusals.{Refusal, refusal_status, refusal_text, no_file, file_there, short_file, no_event_file, unknown_version, bad_digest, bad_field, bad_event, unreadable, line_out_of_range, out_of_range, no_peer, peer_there, no_packet, unknown, clash, file_too_long, file_too_many, input_too_long, too_many_events, too_many_heads}
 
 -- a word of a command line, in bytes
 abbrev pub Text : Type 0
@@ -70,10 +70,13 @@ pub data Command : Type 0 where
   make : (seed count : ℕ) → Command
   net : Command
 
--- a line that is taken: a command, or a session with a peer who is served with a file
+-- a line that is taken: a command, a session with a peer who is served with a file, a script whose events go into the journal line by line,
+-- or the journal's events as a file
 pub data Line : Type 0 where
   does : (command : Command) → Line
   serves : (file : Text) → Line
+  watches : (agent : Text) → Line
+  exports : (file : Text) → Line
 
 -- a command that has a file and nothing else
 abbrev pub file_line : (Text → Command) → List Row → Option Command
@@ -133,11 +136,18 @@ command_in name rows =
     else (if bytes_eq name (codes "marks") then file_line (show marks) rows
     else (if bytes_eq name (codes "upgrade") then file_line upgrade rows else None))))))))))))
 
+-- the agent, which has to be a name
+abbrev pub watch_line : List Row → Option Line
+watch_line rows = option_and_then (λ agent. if is_name agent then Some (watches agent) else None) (first_of (codes "agent") rows)
+
 -- the line of what `clap` finds in the words
 abbrev pub line_in : Option (Text × List Row) → Option Line
 line_in None = None
 line_in (Some p) =
-    if bytes_eq p.0 (codes "serve") then option_map serves (first_of (codes "file") p.1) else option_map does (command_in p.0 p.1)
+    if bytes_eq p.0 (codes "serve") then option_map serves (first_of (codes "file") p.1)
+    else (if bytes_eq p.0 (codes "watch") then watch_line p.1
+    else (if bytes_eq p.0 (codes "export") then option_map exports (first_of (codes "file") p.1)
+    else option_map does (command_in p.0 p.1)))
 
 -- a line, where clap has no fault
 abbrev pub where_none : Kinds → Option Line → Option Line
@@ -154,7 +164,7 @@ pub data Reply : Type 0 where
   stores : (out name bytes : List ℕ) → Reply
   refuses : (why : Refusal) → Reply
 
--- a file as it was opened: its events, which are good, or why it can't be
+-- a file or the journal as it was opened: its events, which are good, or why it can't be
 pub data Opened : Type 0 where
   opened : (events : List Event) → Opened
   refused : (why : Refusal) → Opened

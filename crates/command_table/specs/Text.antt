@@ -1,6 +1,7 @@
--- Words in refusals, the three lines that tell of success, and what is told where an object failed or memory ran out.
+-- Words in refusals, the four lines that tell of success, and what is told where an object failed or memory ran out.
 use Rattle.std.specs.Prelude.{ℕ, List, ◌++◌, codes}
 use Rattle.std.specs.Fmt.{decimal}
+use Rattle.ew_model.specs.Scripts.{id_text}
 use Rattle.ew_model.specs.Verdicts.{Ruling}
 use Rattle.ew_model.specs.Verdicts.Ruling.{Repeat, Clash, SelfParent, TooManyParents, ParentsUnsorted, Unknown, PoolFull, NotReduced, Skipped, GraphFull, OutOfRange, Good}
 use Rattle.file_words.specs.FileFaults.{RecordFault}
@@ -24,14 +25,14 @@ field_words Trailing = codes "trailing bytes"
 field_words UnusedAgent = codes "unused agent"
 
 -- Why an event isn't good, in words. (An event of a file is never refused for another reason than the last three: its
--- id is its own, and its parents stand before it, ascending.)
+-- id is its own, and its parents stand before it, ascending. One of a journal may be refused for the first six too.)
 abbrev pub verdict_words : Ruling → List ℕ
 verdict_words Repeat = codes "repeat"
 verdict_words Clash = codes "clash"
 verdict_words SelfParent = codes "own parent"
 verdict_words TooManyParents = codes "too many parents"
 verdict_words ParentsUnsorted = codes "parents unsorted"
-verdict_words (Unknown parent) = codes "unknown parent"
+verdict_words (Unknown parent) = codes "unknown " ++ id_text parent
 verdict_words PoolFull = codes "waiting list full"
 verdict_words GraphFull = codes "history full"
 verdict_words Good = codes "good"
@@ -49,6 +50,10 @@ received_text accepted waiting repeats refused cut =
     codes "accepted "
     ++ (decimal accepted ++ (codes " waiting " ++ (decimal waiting ++ (codes " repeats " ++ (decimal repeats ++ (codes " refused " ++ (decimal refused ++ (codes " cut " ++ (decimal cut ++ codes "\n")))))))))
 
+-- how many events of a line of a script stand in the journal
+abbrev pub kept_text : ℕ → List ℕ
+kept_text made = codes "kept " ++ (decimal made ++ codes "\n")
+
 -- which version of the event file was read, and of how many events
 abbrev pub upgraded_text : ℕ → ℕ → List ℕ
 upgraded_text version count = codes "version " ++ (decimal version ++ (codes " events " ++ (decimal count ++ codes "\n")))
@@ -56,6 +61,10 @@ upgraded_text version count = codes "version " ++ (decimal version ++ (codes " e
 -- told where the shelf failed
 abbrev pub shelf_failed : List ℕ
 shelf_failed = codes "egw: shelf failed\n"
+
+-- told where the disk failed
+abbrev pub disk_failed : List ℕ
+disk_failed = codes "egw: disk failed\n"
 
 -- told where the source failed
 abbrev pub source_failed : List ℕ
