@@ -1,6 +1,7 @@
 pub mod BothWays
 pub mod FramingLaws
 pub mod Joined
+pub mod Journals
 pub mod MergedFiles
 pub mod Merges
 pub mod Pasts

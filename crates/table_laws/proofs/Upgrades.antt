@@ -44,7 +44,7 @@ not_true true never = absurd (never refl)
 not_true false never = refl
 
 -- names that aren't the same compare so
-apart_names : (one other : Text) → (one ≡ other → ⊥) → name_eq one other ≡ false
+pub apart_names : (one other : Text) → (one ≡ other → ⊥) → name_eq one other ≡ false
 apart_names one other apart = not_true (name_eq one other) (λ same. apart (name_exact one other same))
 
 pub upgrades_keep : UpgradesKeep

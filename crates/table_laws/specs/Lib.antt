@@ -1,4 +1,5 @@
 pub mod FramingLaws
+pub mod JournalLaws
 pub mod MergeLaws
 pub mod PastLaws
 pub mod Sequences

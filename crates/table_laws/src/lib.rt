@@ -1,13 +1,14 @@
-//! What holds of the command table: of every list of runs, of merges, of upgrades, of past versions and replays, and of the frames of an input.
+//! What holds of the command table: of every list of runs, of merges, of upgrades, of watches and exports, of past versions and replays, and of the frames of an input.
 #![tactic(auto)]
 
 ghost use Rattle.table_laws.specs.FramingLaws.{FramingsAreCuts, FramingsAreFound, FramingsAreOne};
+ghost use Rattle.table_laws.specs.JournalLaws.{ExportsOpen, WatchesEdit};
 ghost use Rattle.table_laws.specs.MergeLaws.{MergesAgree, MergesHoldSame, MergesStore, MergesTakeAll};
 ghost use Rattle.table_laws.specs.PastLaws.{HeadsAreAVersion, HeadsShowAll, ReplaysMakeContent, VersionsAreTaken};
 ghost use Rattle.table_laws.specs.Sequences.{RunsFold};
 ghost use Rattle.table_laws.specs.UpgradeLaws.{UpgradesKeep};
 
-/// After a list of runs of which none met a fault or want of memory, the files are the fold of the
+/// After a list of runs of which none met a fault or want of memory, the files and the journal are the fold of the
 /// command table, and each run printed and answered what the table says.
 pub fn law_runs()
     ensures { RunsFold }
@@ -37,6 +38,16 @@ pub fn law_merge_same_events()
 /// Files of other names stay, and where the version was 2, no file changes.
 pub fn law_upgrade()
     ensures { UpgradesKeep }
+{}
+
+/// Where a watch is done, the journal holds the events that `edit` makes of the same script, behind those from before.
+pub fn law_watch()
+    ensures { WatchesEdit }
+{}
+
+/// Where an export is done, its file, which wasn't there, opens as the journal's events, and files of other names stay.
+pub fn law_export()
+    ensures { ExportsOpen }
 {}
 
 /// A word is taken for a version exactly where it is in the grammar of versions.
