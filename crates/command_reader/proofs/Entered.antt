@@ -1,10 +1,9 @@
 -- The line of a subcommand that was entered.
-use Rattle.std.proofs.Common.{◌≡◌, List, Bool, Option, None, Some, codes, false, if◌then◌else◌, sym, ap, ◌∙◌}
+use Rattle.std.proofs.Common.{◌≡◌, List, Option, None, Some, sym, ap}
 use Rattle.std.specs.Option.{option_map}
-use Rattle.std.specs.Str.{bytes_eq}
-use Rattle.clap.specs.Words.{Row, first_of}
+use Rattle.clap.specs.Words.{Row}
 use Rattle.ew_model.proofs.ListPlaces.{some_is}
-use Rattle.command_table.specs.Table.{Text, command_in, does, line_in, serves}
+use Rattle.command_table.specs.Table.{Text, line_in}
 
 none_is_some : {A : Type 0} (x : A) → Some x ≡ None → ⊥
 none_is_some x same = cc
@@ -18,12 +17,8 @@ both name_of rows_of (Some s) name rows named filled =
     let same_rows = some_is rows (rows_of s) filled in
     sym (λ i. Some (same_name i, same_rows i))
 
-not_served : (name : Text) (rows : List Row) → bytes_eq name (codes "serve") ≡ false → line_in (Some (name, rows)) ≡ option_map does (command_in name rows)
-not_served name rows other = ap (λ (b : Bool). if b then option_map serves (first_of (codes "file") rows) else option_map does (command_in name rows)) other
-
--- where it serves nobody, the line is its command
+-- the line is that of this name and these rows
 pub line_entered : {S : Type 0} (name_of : S → Text) (rows_of : S → List Row) (found : Option S) (name : Text) (rows : List Row) → Some name ≡ option_map name_of found
-    → Some rows ≡ option_map (λ (p : Text × List Row). p.1) (option_map {U = Text × List Row} (λ (s : S). (name_of s, rows_of s)) found) → bytes_eq name (codes "serve") ≡ false
-    → option_map does (command_in name rows) ≡ line_in (option_map {U = Text × List Row} (λ (s : S). (name_of s, rows_of s)) found)
-line_entered name_of rows_of found name rows named filled other =
-    sym (ap line_in (both name_of rows_of found name rows named filled) ∙ not_served name rows other)
+    → Some rows ≡ option_map (λ (p : Text × List Row). p.1) (option_map {U = Text × List Row} (λ (s : S). (name_of s, rows_of s)) found)
+    → line_in (Some (name, rows)) ≡ line_in (option_map {U = Text × List Row} (λ (s : S). (name_of s, rows_of s)) found)
+line_entered name_of rows_of found name rows named filled = sym (ap line_in (both name_of rows_of found name rows named filled))

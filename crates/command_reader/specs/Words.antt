@@ -1,5 +1,5 @@
 -- What the words of a command line were read as.
-use Rattle.command_table.specs.Table.{Listing, content, past, head_ids, log, replay, numbers, question, marks, Command, create, edit, show, merge, upgrade, make, net, Line, does, serves}
+use Rattle.command_table.specs.Table.{Listing, content, past, head_ids, log, replay, numbers, question, marks, Command, create, edit, show, merge, upgrade, make, net, Line, does, serves, watches, exports}
 use Rattle.command_reader.specs.declared.words as words
 use Rattle.command_reader.specs.declared.words.Listing.TheVariants as shown
 use Rattle.command_reader.specs.declared.words.Line.TheVariants as line
@@ -30,3 +30,5 @@ command_view taken.Net = net
 abbrev pub line_view : words.Line.Line → Line
 line_view (line.Does command) = does (command_view command)
 line_view (line.Serves name) = serves name.now
+line_view (line.Watches agent) = watches agent
+line_view (line.Exports name) = exports name.now

@@ -2,7 +2,7 @@
 ghost use Rattle.std.specs.Prelude.{◌≡◌, false, IfOk};
 ghost use Rattle.clap.specs.Words.{app_of, rule_of};
 ghost use Rattle.clap.specs.declared.builder.command.Command.TheViews.{out-Command};
-ghost use Rattle.command_table.specs.Cli.{bare_app, cat_app, edit_app, egw_app, file_app, file_commands, make_app, merge_app, net_app, number_rule, seed_rule, then_app, with_file_apps};
+ghost use Rattle.command_table.specs.Cli.{bare_app, cat_app, edit_app, egw_app, file_app, file_commands, make_app, merge_app, net_app, number_rule, seed_rule, then_app, watch_app, with_file_apps};
 
 use clap::builder::ValueParser;
 use clap::{Arg, Command};
@@ -25,6 +25,15 @@ fn edit_command<'a>(alloc: Global) -> Result<Command<'a>, NoMem>
     let file = Arg::new(alloc, "file").required(true);
     let agent = Arg::new(alloc, "agent").long("agent").required(true);
     Command::new(alloc, "edit").arg(file)?.arg(agent)
+}
+
+/// The command of an agent and no file.
+fn watch_command<'a>(alloc: Global) -> Result<Command<'a>, NoMem>
+    ensures app { IfOk result (λ c. app_of c ≡ watch_app) }
+    ensures local { IfOk result (λ c. (out-Command c).has_globals ≡ false) }
+{
+    let agent = Arg::new(alloc, "agent").long("agent").required(true);
+    Command::new(alloc, "watch").arg(agent)
 }
 
 /// The command that shows a text, as a whole or at a version.
@@ -104,8 +113,8 @@ fn with_file_command<'a>(
 }
 
 /// The commands of one file that have no options.
-const FILE_COMMANDS: [&str; 9] = [
-    "new", "heads", "log", "replay", "check", "ask", "serve", "marks", "upgrade",
+const FILE_COMMANDS: [&str; 10] = [
+    "new", "heads", "log", "replay", "check", "ask", "serve", "marks", "upgrade", "export",
 ];
 
 /// Adds the commands of one file that have no options.
@@ -133,6 +142,14 @@ fn with_edit<'a>(alloc: Global, command: Command<'a>) -> Result<Command<'a>, NoM
 {
     let edit = edit_command(alloc)?;
     command.subcommand(edit)
+}
+
+/// Adds the command that keeps a script in the journal.
+fn with_watch<'a>(alloc: Global, command: Command<'a>) -> Result<Command<'a>, NoMem>
+    ensures { IfOk result (λ c. app_of c ≡ then_app (app_of command.entry) watch_app) }
+{
+    let watch = watch_command(alloc)?;
+    command.subcommand(watch)
 }
 
 /// Adds the command of two files.
@@ -167,5 +184,6 @@ pub fn egw_command<'a>(alloc: Global) -> Result<Command<'a>, NoMem>
     let command = with_cat(alloc, command)?;
     let command = with_merge(alloc, command)?;
     let command = with_net(alloc, command)?;
-    with_make(alloc, command)
+    let command = with_make(alloc, command)?;
+    with_watch(alloc, command)
 }

@@ -1,8 +1,8 @@
 //! The words of a command line.
-ghost use Rattle.std.specs.Prelude.{◌≡◌, IfOk, codes, map, string_bytes};
+ghost use Rattle.std.specs.Prelude.{◌≡◌, IfOk, Some, codes, map, string_bytes};
 ghost use Rattle.std.specs.Option.{option_map};
 ghost use Rattle.clap.specs.Words.{first_of, found_of, rows_of, subcommand_rows_of};
-ghost use Rattle.command_table.specs.Table.{cat_line, command_in, create, edit_line, file_line, line_in, line_of, make_line, merge_line, number_up_to, seed_in, show, upgrade};
+ghost use Rattle.command_table.specs.Table.{cat_line, command_in, create, edit_line, file_line, line_in, line_of, make_line, merge_line, number_up_to, seed_in, show, upgrade, watch_line};
 ghost use Rattle.command_table.specs.Table as table;
 ghost use Rattle.command_reader.specs.Words.{command_view, line_view, listing_view};
 
@@ -54,6 +54,10 @@ pub enum Line<'a> {
     Does(Taken<'a>),
     /// A peer is served with this file.
     Serves(&'a str),
+    /// This agent's script goes into the journal, line by line.
+    Watches(Name),
+    /// The journal's events become this file.
+    Exports(&'a str),
 }
 
 /// The first value of an argument.
@@ -186,19 +190,58 @@ fn read_serve<'a>(values: &ArgMatches<'a>) -> Option<Line<'a>>
     Some(Line::Serves(file))
 }
 
+fn read_watch<'a>(values: &ArgMatches<'a>) -> Option<Line<'a>>
+    ensures { option_map line_view result ≡ watch_line (rows_of (found_of values.now)) }
+{
+    let agent = value(values, "agent")?;
+    let agent = Name::read(agent.as_bytes()).ok()?;
+    Some(Line::Watches(agent))
+}
+
+fn read_export<'a>(values: &ArgMatches<'a>) -> Option<Line<'a>>
+    ensures { option_map line_view result ≡ option_map table.exports (first_of (codes "file") (rows_of (found_of values.now))) }
+{
+    let file = value(values, "file")?;
+    Some(Line::Exports(file))
+}
+
+/// A command, if the words are one.
+fn read_does<'a>(
+    alloc: Global,
+    name: &str,
+    values: &ArgMatches<'a>,
+) -> Result<Option<Line<'a>>, NoMem>
+    ensures { IfOk result (λ l. option_map line_view l ≡ option_map table.does (command_in name.now (rows_of (found_of values.now)))) }
+{
+    match read_command(alloc, name, values)? {
+        Some(command) => Ok(Some(Line::Does(command))),
+        None => Ok(None),
+    }
+}
+
+/// The line of a subcommand, by its name and its values.
+fn read_subcommand<'a>(
+    alloc: Global,
+    name: &str,
+    values: &ArgMatches<'a>,
+) -> Result<Option<Line<'a>>, NoMem>
+    ensures { IfOk result (λ l. option_map line_view l ≡ line_in (Some (name.now, rows_of (found_of values.now)))) }
+{
+    match name {
+        "serve" => Ok(read_serve(values)),
+        "watch" => Ok(read_watch(values)),
+        "export" => Ok(read_export(values)),
+        _ => read_does(alloc, name, values),
+    }
+}
+
 fn read_matches<'a>(alloc: Global, matches: &ArgMatches<'a>) -> Result<Option<Line<'a>>, NoMem>
     ensures { IfOk result (λ l. option_map line_view l ≡ line_in (subcommand_rows_of matches.now)) }
 {
     let Some((name, values)) = matches.subcommand() else {
         return Ok(None);
     };
-    if name == "serve" {
-        return Ok(read_serve(values));
-    }
-    match read_command(alloc, name, values)? {
-        Some(command) => Ok(Some(Line::Does(command))),
-        None => Ok(None),
-    }
+    read_subcommand(alloc, name, values)
 }
 
 /// Takes the words, or `None` where `clap` doesn't, the agent is no name or the version isn't in its grammar.

@@ -1,8 +1,9 @@
 //! Why a line is refused: each reason, with its status and its text.
 ghost use Rattle.std.specs.Prelude.{◌≡◌, IfOk, string_bytes};
 ghost use Rattle.ew_model.specs.Answers.{ruling_of};
+ghost use Rattle.ew_model.specs.Verdicts.Ruling.{Unknown};
 ghost use Rattle.event_file.specs.Faults.{kind_of};
-ghost use Rattle.command_table.specs.Refusals.{bad_digest, bad_event, clash, refusal_status, refusal_text, unknown};
+ghost use Rattle.command_table.specs.Refusals.{bad_digest, bad_event, bad_journal_event, clash, refusal_status, refusal_text, unknown};
 ghost use Rattle.command_table.specs.Text.{field_words, verdict_words};
 ghost use Rattle.command_texts.specs.Reasons.{refusal_view};
 
@@ -15,7 +16,7 @@ use std::alloc::Global;
 
 // A line for each command.
 const USAGE: &str =
-    "usage: egw new FILE\n       egw edit FILE --agent NAME\n       egw cat FILE [--at VERSION]\n       egw heads FILE\n       egw log FILE\n       egw replay FILE\n       egw check FILE\n       egw merge FILE OTHER\n       egw ask FILE\n       egw serve FILE\n       egw net\n       egw make --seed N --count N\n       egw marks FILE\n       egw upgrade FILE\n";
+    "usage: egw new FILE\n       egw edit FILE --agent NAME\n       egw cat FILE [--at VERSION]\n       egw heads FILE\n       egw log FILE\n       egw replay FILE\n       egw check FILE\n       egw merge FILE OTHER\n       egw ask FILE\n       egw serve FILE\n       egw net\n       egw make --seed N --count N\n       egw marks FILE\n       egw upgrade FILE\n       egw watch --agent NAME\n       egw export FILE\n";
 
 /// Why a line is refused. Lines and frames are counted from 1; a name is told as it was given.
 #[derive(Debug, Drop)]
@@ -51,6 +52,15 @@ pub enum Refusal {
     /// The event at a position of the file isn't good after those before it.
     BadEvent {
         name: String,
+        position: u32,
+        verdict: Verdict,
+    },
+    /// At this byte of the journal a gate stands open, and no batch is behind it.
+    BadBatch {
+        offset: u64,
+    },
+    /// The event at a position of the journal isn't good after those before it.
+    BadJournalEvent {
         position: u32,
         verdict: Verdict,
     },
@@ -114,6 +124,10 @@ pub enum Refusal {
         name: String,
         most: u32,
     },
+    /// The journal has more than `most` events.
+    JournalTooMany {
+        most: u32,
+    },
     /// The input has more than `most` bytes.
     InputTooLong {
         most: u32,
@@ -141,7 +155,9 @@ impl Refusal {
             | Refusal::UnknownVersion { .. }
             | Refusal::BadDigest { .. }
             | Refusal::BadField { .. }
-            | Refusal::BadEvent { .. } => 4,
+            | Refusal::BadEvent { .. }
+            | Refusal::BadBatch { .. }
+            | Refusal::BadJournalEvent { .. } => 4,
             Refusal::Unreadable { .. }
             | Refusal::LineOutOfRange { .. }
             | Refusal::OutOfRange { .. }
@@ -156,6 +172,7 @@ impl Refusal {
             | Refusal::BadBody { .. } => 5,
             Refusal::FileTooLong { .. }
             | Refusal::FileTooMany { .. }
+            | Refusal::JournalTooMany { .. }
             | Refusal::InputTooLong { .. }
             | Refusal::TooManyEvents { .. }
             | Refusal::TooManyHeads { .. } => 7,
@@ -198,6 +215,12 @@ impl Refusal {
                 position,
                 verdict,
             } => event_line(alloc, name.as_str(), *position, *verdict),
+            Refusal::BadBatch { offset } => {
+                format!(in alloc; "egw: journal: byte {offset}: bad batch\n")
+            }
+            Refusal::BadJournalEvent { position, verdict } => {
+                journal_event_line(alloc, *position, *verdict)
+            }
             Refusal::Unreadable { line } => format!(in alloc; "egw: line {line}: unreadable\n"),
             Refusal::LineOutOfRange { line, len } => {
                 format!(in alloc; "egw: line {line}: out of range, length {len}\n")
@@ -228,6 +251,9 @@ impl Refusal {
             Refusal::FileTooMany { name, most } => {
                 format!(in alloc; "egw: {name}: more than {most} events\n")
             }
+            Refusal::JournalTooMany { most } => {
+                format!(in alloc; "egw: journal: more than {most} events\n")
+            }
             Refusal::InputTooLong { most } => {
                 format!(in alloc; "egw: input: more than {most} bytes\n")
             }
@@ -252,6 +278,13 @@ fn event_line(alloc: Global, name: &str, position: u32, verdict: Verdict) -> Res
 {
     let words = words_of_verdict(alloc, verdict)?;
     format!(in alloc; "egw: {name}: event {position}: {words}\n")
+}
+
+fn journal_event_line(alloc: Global, position: u32, verdict: Verdict) -> Result<String, NoMem>
+    ensures { IfOk result (λ t. string_bytes t ≡ refusal_text (bad_journal_event position (ruling_of verdict))) }
+{
+    let words = words_of_verdict(alloc, verdict)?;
+    format!(in alloc; "egw: journal: event {position}: {words}\n")
 }
 
 fn unknown_line(alloc: Global, id: &Id) -> Result<String, NoMem>
@@ -290,6 +323,14 @@ fn words_of_field(kind: RecordFault) -> &'static str
     }
 }
 
+/// That an event isn't held, in words.
+fn unknown_words(alloc: Global, id: &Id) -> Result<String, NoMem>
+    ensures { IfOk result (λ t. string_bytes t ≡ verdict_words (Unknown id.now)) }
+{
+    let Id { agent, seq } = id;
+    format!(in alloc; "unknown {agent}:{seq}")
+}
+
 /// Why an event isn't good, in words.
 fn words_of_verdict(alloc: Global, verdict: Verdict) -> Result<String, NoMem>
     ensures { IfOk result (λ t. string_bytes t ≡ verdict_words (ruling_of verdict)) }
@@ -300,7 +341,7 @@ fn words_of_verdict(alloc: Global, verdict: Verdict) -> Result<String, NoMem>
         Verdict::SelfParent => String::from_str(alloc, "own parent"),
         Verdict::TooManyParents => String::from_str(alloc, "too many parents"),
         Verdict::ParentsUnsorted => String::from_str(alloc, "parents unsorted"),
-        Verdict::Unknown(_) => String::from_str(alloc, "unknown parent"),
+        Verdict::Unknown(parent) => unknown_words(alloc, &parent),
         Verdict::NotReduced => String::from_str(alloc, "not reduced"),
         Verdict::Skipped => String::from_str(alloc, "skipped"),
         Verdict::OutOfRange { len } => format!(in alloc; "out of range, length {len}"),

@@ -1,4 +1,4 @@
-//! The lines that the program prints of an edit, of a merge and of an upgrade. Each ends with a newline. The only error is that memory ran out.
+//! The lines that the program prints of an edit, of a merge, of an upgrade and of what is kept. Each ends with a newline. The only error is that memory ran out.
 ghost use Rattle.std.specs.Prelude.{◌≡◌, IfOk};
 ghost use Rattle.command_table.specs.Text;
 ghost use Rattle.command_texts.specs.Told.{took_text};
@@ -12,6 +12,14 @@ pub fn made_text(alloc: Global, made: u64) -> Result<Vec<u8>, NoMem>
     ensures { IfOk result (λ t. t.items ≡ Text.made_text made) }
 {
     let text = format!(in alloc; "made {made}\n")?;
+    Ok(text.into_bytes())
+}
+
+/// How many events of a line of a script stand in the journal.
+pub fn kept_text(alloc: Global, made: u32) -> Result<Vec<u8>, NoMem>
+    ensures { IfOk result (λ t. t.items ≡ Text.kept_text made) }
+{
+    let text = format!(in alloc; "kept {made}\n")?;
     Ok(text.into_bytes())
 }
 

@@ -33,7 +33,7 @@ use std::alloc::Global;
 use std::sync::ledger::Ledger;
 
 /// Does one edit.
-fn do_edit<L: Ledger>(
+pub fn do_edit<L: Ledger>(
     replica: &mut Replica,
     agent: Name,
     edit: &Edit,
