@@ -1,0 +1,13 @@
+pub mod Adding
+pub mod Batches
+pub mod Edits
+pub mod Exporting
+pub mod Fronts
+pub mod Inputs
+pub mod Joining
+pub mod Keeping
+pub mod Lines
+pub mod Opening
+pub mod Scripts
+pub mod Telling
+pub mod Watching
