@@ -1,39 +1,42 @@
 -- The courses that a run may take, from what its plan, carrying it out and telling ensure.
-use Rattle.std.proofs.Common.{◌≡◌, ◌≤◌, ◌+◌, ◌⊎◌, inl, inr, ℕ, true, false, List, [], refl, sym, ◌∙◌, ap, subst, arith, Option, Some, None, IfSome, IfOk, Result, Ok, Err}
+use Rattle.std.proofs.Common.{◌≡◌, ◌+◌, ◌⊎◌, inl, inr, ℕ, true, false, [], refl, sym, ◌∙◌, ap, subst, arith, Option, Some, None, IfSome, IfOk, Result, Ok, Err}
 use Rattle.std.specs.Bool.{⊤}
 use Rattle.std.specs.Io.KnownBytes.{Appends}
 use Rattle.ew_model.specs.Limits.{LimitNumbers}
 use Rattle.ew_outside.specs.Bytes.{IsFlushed}
-use Rattle.ew_outside.specs.Counts.{AsksAtMost, IsQuiet, Rose, RisesOnceAtMost, next}
+use Rattle.ew_outside.specs.Counts.{AsksAtMost, IsQuiet, Rose, RisesOnceAtMost}
 use Rattle.ew_outside.specs.Outputs.{GrowsByFront}
 use Rattle.ew_outside.specs.declared.fault.Fault.{Fault}
 use Rattle.ew_outside.specs.declared.fault.Fault.TheVariants as fault_is
-use Rattle.command_table.specs.Headline.{UnlessServes, FaultLeaves}
+use Rattle.command_table.specs.Headline.{UnlessServes, UnlessSends, FaultLeaves}
 use Rattle.command_table.specs.Outcomes.{stored_by}
 use Rattle.command_table.specs.Refusals as table
 use Rattle.command_table.specs.Refusals.{refusal_status, refusal_text, not_taken}
-use Rattle.command_table.specs.Seen.{Seen, Object, shelf, source, sink, failed_text, TellsErr}
+use Rattle.command_table.specs.Seen.{Seen, Object, shelf, disk, source, sink, failed_text, TellsErr}
 use Rattle.command_table.specs.Text.{out_of_memory}
-use Rattle.command_table.specs.Table.{Line, does, serves, refuses}
+use Rattle.command_table.specs.Table.{Line, does, serves, watches, exports, refuses}
 use Rattle.command_table.specs.Reads.{shape_of, reads_input, needs_file, makes_file, most_asked, loads_of_all, TakesAtMost, LeavesInput, CountsLoads, LoadsFront, IfFileRefused}
 use Rattle.command_texts.specs.Reasons.{refusal_view}
 use Rattle.command_texts.specs.declared.refusal.Refusal.{Refusal}
-use Rattle.opened_files.specs.Views.{IsTakenReply, IsRefusal, LoadsAll, FailedLoadsBy, ReadsNone, reply_status, reply_view}
+use Rattle.opened_files.specs.Views.{IsRefusal, LoadsAll, FailedLoadsBy, ReadsNone, reply_view}
 use Rattle.opened_files.specs.declared.reply.Reply as own
 use Rattle.opened_files.specs.declared.reply.Reply.TheVariants as reply_is
 use Rattle.serve_plans.specs.Plans.{Causes, KeepsStreams}
 use Rattle.command_runs.specs.Lines.{Heard, IsReplyOf, MakesBy, MissesFor, PlansKnown, PlansSome, ReadsAll, SendsNone}
 use Rattle.command_runs.specs.declared.ending.Told.{Told}
-use Rattle.command_runs.specs.Endings.{EndFiles, EndFlushed, EndOut, EndShelfCount, EndSinkCount, EndStores, EndsReply, FilesAfter, IsTold, IsToldWhole, SaysNone, end_status, end_text, fault_status, out_of}
+use Rattle.command_runs.specs.Endings.{EndFiles, EndFlushed, EndOut, EndShelfCount, EndSinkCount, EndStores, EndsReply, FilesAfter, IsToldWhole, SaysNone, end_status, end_text, fault_status, out_of}
 use Rattle.command_runs.proofs.Faults.{Calm, Struck}
 use Rattle.command_runs.proofs.Replies.{after_plan, told_end}
 
 -- what the parts of a run ensure
 pub record Facts (l : Option Line) (limits : LimitNumbers) (planned : Result own.Reply Fault) (ending : Result (Option Told) Fault) (old mid new : Seen) (code : ℕ) : Type 0 where
-  pub told : PlansKnown l limits old.shelf old.input old.out mid.out planned
+  pub told : PlansKnown l limits old.shelf old.disk.bytes old.input old.out mid.out planned
   pub some : PlansSome l limits old.out mid.out planned
   pub heard : Heard l limits old.shelf old.input new.input old.out mid.out planned
   pub sends : SendsNone l old.out mid.out planned
+  pub source_alone : planned ≡ Err fault_is.Source → UnlessServes l (mid.out.taken ≡ old.out.taken)
+  pub disk_calm : new.disk.faults ≡ old.disk.faults
+  pub unopened : planned ≡ Err fault_is.Shelf → new.disk ≡ old.disk
   pub line : IsReplyOf l planned
   pub read : ReadsAll l limits old.input new.input planned
   pub unread : reads_input l ≡ false → LeavesInput old.input new.input
@@ -69,10 +72,20 @@ pub record Facts (l : Option Line) (limits : LimitNumbers) (planned : Result own
   pub whole : IsToldWhole ending old.err new.err
 
 -- what holds where a line sends nothing, of a line that sends nothing
-pub sends_none : {A B : Type 0} (l : Option Line) → (A → B) → UnlessServes l A → UnlessServes l B
+pub sends_none : {A B : Type 0} (l : Option Line) → (A → B) → UnlessSends l A → UnlessSends l B
 sends_none None f h = f h
 sends_none (Some (does command)) f h = f h
 sends_none (Some (serves file)) f h = tt
+sends_none (Some (watches agent)) f h = tt
+sends_none (Some (exports file)) f h = f h
+
+-- and where a line serves no peer
+pub serves_none : {A B : Type 0} (l : Option Line) → (A → B) → UnlessServes l A → UnlessServes l B
+serves_none None f h = f h
+serves_none (Some (does command)) f h = f h
+serves_none (Some (serves file)) f h = tt
+serves_none (Some (watches agent)) f h = f h
+serves_none (Some (exports file)) f h = f h
 
 -- the statuses of a refused line, and of words that aren't taken
 abbrev pub IsRefused : ℕ → Type 0
@@ -184,11 +197,11 @@ module _ (l : Option Line) (limits : LimitNumbers) (ending : Result (Option Told
         flushed = h.flushed;
         struck = record {
           rose = subst (Rose old.shelf.faults) (sym h.shelf_count) h.cause.0.1;
-          later = elim [ shelf ↦ omega (arith, h.cause.0.0, h.shelf_count) | source ↦ omega (arith, h.cause.1) | sink ↦ omega (arith, h.cause.2, h.sink_count) ];
-          others = elim [ shelf ↦ λ bad. absurd (bad refl) | source ↦ λ _. h.cause.1 | sink ↦ λ _. h.sink_count ∙ h.cause.2 ];
+          later = elim [ shelf ↦ omega (arith, h.cause.0.0, h.shelf_count) | disk ↦ omega (arith, h.disk_calm) | source ↦ omega (arith, h.cause.1) | sink ↦ omega (arith, h.cause.2, h.sink_count) ];
+          others = elim [ shelf ↦ λ bad. absurd (bad refl) | disk ↦ λ _. h.disk_calm | source ↦ λ _. h.cause.1 | sink ↦ λ _. h.sink_count ∙ h.cause.2 ];
         };
         text = told_end ending (Err fault_is.Shelf) old new h.which h.text;
-        leaves = inl (failed_loads, h.files ∙ h.same, h.end_stores ∙ h.no_store, h.out ∙ h.kept.1, h.kept.0);
+        leaves = inl (failed_loads, h.files ∙ h.same, h.end_stores ∙ h.no_store, h.out ∙ h.kept.1, h.kept.0, h.unopened refl);
         load = λ _. failed_loads;
       }
 
@@ -201,11 +214,11 @@ module _ (l : Option Line) (limits : LimitNumbers) (ending : Result (Option Told
     flushed = h.flushed;
     struck = record {
       rose = h.cause.1.1;
-      later = elim [ shelf ↦ omega (arith, h.cause.0, h.shelf_count) | source ↦ h.cause.1.0 | sink ↦ omega (arith, h.cause.2, h.sink_count) ];
-      others = elim [ shelf ↦ λ _. h.shelf_count ∙ h.cause.0 | source ↦ λ bad. absurd (bad refl) | sink ↦ λ _. h.sink_count ∙ h.cause.2 ];
+      later = elim [ shelf ↦ omega (arith, h.cause.0, h.shelf_count) | disk ↦ omega (arith, h.disk_calm) | source ↦ h.cause.1.0 | sink ↦ omega (arith, h.cause.2, h.sink_count) ];
+      others = elim [ shelf ↦ λ _. h.shelf_count ∙ h.cause.0 | disk ↦ λ _. h.disk_calm | source ↦ λ bad. absurd (bad refl) | sink ↦ λ _. h.sink_count ∙ h.cause.2 ];
     };
     text = told_end ending (Err fault_is.Source) old new h.which h.text;
-    leaves = (h.no_loss ∙ h.failed_loads, (h.files ∙ h.same, h.end_stores ∙ h.no_store, sends_none l (λ same. h.out ∙ same.0) h.sends));
+    leaves = (h.no_loss ∙ h.failed_loads, (h.files ∙ h.same, h.end_stores ∙ h.no_store, sends_none l (λ same. h.out ∙ same.0) h.sends), serves_none l (λ same. h.out ∙ same) (h.source_alone refl));
     load = λ bad. cc;
   }
 
@@ -218,8 +231,8 @@ module _ (l : Option Line) (limits : LimitNumbers) (ending : Result (Option Told
     flushed = h.flushed;
     struck = record {
       rose = subst (Rose old.out.faults) (sym h.sink_count) h.cause.2.1;
-      later = elim [ shelf ↦ omega (arith, h.cause.0, h.shelf_count) | source ↦ omega (arith, h.cause.1) | sink ↦ omega (arith, h.cause.2.0, h.sink_count) ];
-      others = elim [ shelf ↦ λ _. h.shelf_count ∙ h.cause.0 | source ↦ λ _. h.cause.1 | sink ↦ λ bad. absurd (bad refl) ];
+      later = elim [ shelf ↦ omega (arith, h.cause.0, h.shelf_count) | disk ↦ omega (arith, h.disk_calm) | source ↦ omega (arith, h.cause.1) | sink ↦ omega (arith, h.cause.2.0, h.sink_count) ];
+      others = elim [ shelf ↦ λ _. h.shelf_count ∙ h.cause.0 | disk ↦ λ _. h.disk_calm | source ↦ λ _. h.cause.1 | sink ↦ λ bad. absurd (bad refl) ];
     };
     text = told_end ending (Err fault_is.Sink) old new h.which h.text;
     leaves = h.no_loss ∙ h.failed_loads;
@@ -232,7 +245,7 @@ module _ (l : Option Line) (limits : LimitNumbers) (ending : Result (Option Told
     files = h.files ∙ h.same;
     stores = h.end_stores ∙ h.no_store;
     out = h.out;
-    calm = record { shelf_same = h.shelf_count ∙ h.cause.0; source_same = h.cause.1; sink_same = h.sink_count ∙ h.cause.2 };
+    calm = record { shelf_same = h.shelf_count ∙ h.cause.0; disk_same = h.disk_calm; source_same = h.cause.1; sink_same = h.sink_count ∙ h.cause.2 };
     text = told_end ending (Err fault_is.OutOfMemory) old new h.which h.text;
   }
 
@@ -246,7 +259,7 @@ module _ (l : Option Line) (limits : LimitNumbers) (why : Refusal) (told : Told)
     stores = h.end_stores ∙ h.no_store;
     out = h.out;
     flushed = h.flushed;
-    calm = record { shelf_same = h.shelf_count ∙ h.cause.0; source_same = h.cause.1; sink_same = h.sink_count ∙ h.cause.2 };
+    calm = record { shelf_same = h.shelf_count ∙ h.cause.0; disk_same = h.disk_calm; source_same = h.cause.1; sink_same = h.sink_count ∙ h.cause.2 };
     text = subst (TellsErr old new) h.which.1 h.text;
   }
 
@@ -260,7 +273,7 @@ module _ (l : Option Line) (limits : LimitNumbers) (old mid new : Seen) (code : 
     stores = h.end_stores ∙ ap (stored_by (reply_view p)) h.no_store;
     out = h.out.0;
     flushed = h.out.1;
-    calm = record { shelf_same = h.shelf_count ∙ h.cause.0; source_same = h.cause.1; sink_same = h.sink_count ∙ h.cause.2 };
+    calm = record { shelf_same = h.shelf_count ∙ h.cause.0; disk_same = h.disk_calm; source_same = h.cause.1; sink_same = h.sink_count ∙ h.cause.2 };
     text = h.text;
     quiet = h.silent;
   }
@@ -275,8 +288,8 @@ module _ (l : Option Line) (limits : LimitNumbers) (old mid new : Seen) (code : 
     flushed = h.flushed;
     struck = record {
       rose = subst (λ m. Rose m new.out.faults) h.cause.2 h.sink_count.1;
-      later = elim [ shelf ↦ omega (arith, h.shelf_count, h.cause.0) | source ↦ omega (arith, h.cause.1) | sink ↦ omega (arith, h.sink_count.0, h.cause.2) ];
-      others = elim [ shelf ↦ λ _. h.shelf_count ∙ h.cause.0 | source ↦ λ _. h.cause.1 | sink ↦ λ bad. absurd (bad refl) ];
+      later = elim [ shelf ↦ omega (arith, h.shelf_count, h.cause.0) | disk ↦ omega (arith, h.disk_calm) | source ↦ omega (arith, h.cause.1) | sink ↦ omega (arith, h.sink_count.0, h.cause.2) ];
+      others = elim [ shelf ↦ λ _. h.shelf_count ∙ h.cause.0 | disk ↦ λ _. h.disk_calm | source ↦ λ _. h.cause.1 | sink ↦ λ bad. absurd (bad refl) ];
     };
     text = h.text;
     failed_loads = h.no_loss ∙ h.failed_loads;
@@ -292,8 +305,8 @@ module _ (l : Option Line) (limits : LimitNumbers) (old mid new : Seen) (code : 
     flushed = h.flushed;
     struck = record {
       rose = subst (λ m. Rose m new.shelf.faults) h.cause.0 h.shelf_count.1;
-      later = elim [ shelf ↦ omega (arith, h.shelf_count.0, h.cause.0) | source ↦ omega (arith, h.cause.1) | sink ↦ omega (arith, h.sink_count, h.cause.2) ];
-      others = elim [ shelf ↦ λ bad. absurd (bad refl) | source ↦ λ _. h.cause.1 | sink ↦ λ _. h.sink_count ∙ h.cause.2 ];
+      later = elim [ shelf ↦ omega (arith, h.shelf_count.0, h.cause.0) | disk ↦ omega (arith, h.disk_calm) | source ↦ omega (arith, h.cause.1) | sink ↦ omega (arith, h.sink_count, h.cause.2) ];
+      others = elim [ shelf ↦ λ bad. absurd (bad refl) | disk ↦ λ _. h.disk_calm | source ↦ λ _. h.cause.1 | sink ↦ λ _. h.sink_count ∙ h.cause.2 ];
     };
     text = h.text;
     failed_loads = h.no_loss ∙ h.failed_loads;
@@ -305,7 +318,7 @@ module _ (l : Option Line) (limits : LimitNumbers) (old mid new : Seen) (code : 
     files = h.files ∙ h.same;
     stores = h.end_stores ∙ h.no_store;
     out = h.out;
-    calm = record { shelf_same = h.shelf_count ∙ h.cause.0; source_same = h.cause.1; sink_same = h.sink_count ∙ h.cause.2 };
+    calm = record { shelf_same = h.shelf_count ∙ h.cause.0; disk_same = h.disk_calm; source_same = h.cause.1; sink_same = h.sink_count ∙ h.cause.2 };
     text = h.text;
   }
 

@@ -11,3 +11,10 @@ pub mod Touches
 pub mod Lines
 pub mod Listings
 pub mod MadeReplies
+pub mod Kept
+pub mod KeptLines
+pub mod Keeping
+pub mod DiskRuns
+pub mod Watching
+pub mod Exporting
+pub mod PlainRuns

@@ -1,6 +1,5 @@
 -- From the plan of a command, or of a session, to the plan of its line.
-use Rattle.std.proofs.Common.{◌≡◌, ◌≤◌, ◌⊎◌, inl, ℕ, true, false, List, [], ◌∷◌, Option, Some, None, Result, Ok, Err, IfErr, IfOk, IfSome, refl, sym, subst, arith, Bool}
-use Rattle.std.specs.Prelude.{⊤}
+use Rattle.std.proofs.Common.{◌≡◌, inl, ℕ, true, false, List, [], ◌∷◌, Option, Some, None, Result, Ok, Err, IfErr, IfOk, IfSome, refl, sym, subst, arith}
 use Rattle.std.proofs.lemmas.Bool.{false≢true}
 use Rattle.std.proofs.KnownBytes.{Appends-nil}
 use Rattle.ew_model.specs.Limits.{LimitNumbers}
@@ -9,14 +8,13 @@ use Rattle.ew_outside.specs.Files.{Files}
 use Rattle.ew_outside.specs.Seen.{ShelfSeen, SourceSeen, SinkSeen}
 use Rattle.ew_outside.specs.declared.fault.Fault.{Fault}
 use Rattle.ew_outside.specs.declared.fault.Fault.TheVariants as fault_is
-use Rattle.command_table.specs.Headline.{ReadsToEnd}
-use Rattle.command_table.specs.Lines.{Meaning, IsInput, session_of}
+use Rattle.command_table.specs.Lines.{IsInput}
 use Rattle.command_table.specs.Loads.{missing}
-use Rattle.command_table.specs.Possible.{MayComeTo, MayReplyTo}
-use Rattle.command_table.specs.Reads.{reads_input, shape_of, IfFileRefused, IfFirstRefused, IfRefused, LeavesInput, CountsLoads, LoadsFront, Shape}
+use Rattle.command_table.specs.Possible.{MayReplyTo}
+use Rattle.command_table.specs.Reads.{reads_input, IfFileRefused, IfFirstRefused, IfRefused, CountsLoads, LoadsFront, Shape}
 use Rattle.command_table.specs.Refusals.{no_file, input_too_long}
 use Rattle.command_table.specs.Scripts.{Reading, Means, MeansNet}
-use Rattle.command_table.specs.Sessions.{Session, closed_by}
+use Rattle.command_table.specs.Sessions.{closed_by}
 use Rattle.command_table.specs.Table.{Text, Command, create, edit, show, merge, upgrade, make, net, Line, does, serves, Reply, refuses, ReadingOf, MeansTo, reply_to, create_reply, make_reply, merge_reply, show_reply, upgrade_reply, over_both, over_events, opened_as, open_file}
 use Rattle.peer_definitions.specs.Making.{made}
 use Rattle.opened_files.specs.declared.reply.Reply as code
@@ -210,11 +208,11 @@ command_replies (make seed count) limits files left result told alone m bytes re
 command_replies net limits files left result told alone m bytes reading at input =
     by_input MeansNet (reply_to net limits) files left m bytes reading result at (input refl).0 (input refl).1 told
 
-pub command_known : (command : Command) (limits : LimitNumbers) (shelf : ShelfSeen) (input : SourceSeen) (out : SinkSeen) (result : Result code.Reply Fault)
+pub command_known : (command : Command) (limits : LimitNumbers) (shelf : ShelfSeen) (journal : Option (List ℕ)) (input : SourceSeen) (out : SinkSeen) (result : Result code.Reply Fault)
     → PlansBy (MeansTo command) (reply_to command limits) shelf.files input.left result
     → (reads_input (Some (does command)) ≡ false → PlansAlone (reply_to command limits) shelf.files result)
-    → PlansKnown (Some (does command)) limits shelf input out out result
-command_known command limits shelf input out result told alone = λ m bytes reading at means.
+    → PlansKnown (Some (does command)) limits shelf journal input out out result
+command_known command limits shelf journal input out result told alone = λ m j bytes reading at known means.
     closes_silent out.taken out.flushed (reply_to command limits m bytes reading) result
     (command_replies command limits shelf.files input.left result told alone m bytes reading at means)
 
@@ -269,9 +267,9 @@ command_keeps input input' out (Err fault_is.OutOfMemory) kept = tt
 
 -- ---- a session
 
-pub session_known : (file : Text) (limits : LimitNumbers) (shelf : ShelfSeen) (input : SourceSeen) (out out' : SinkSeen) (result : Result code.Reply Fault)
-    → Serves file limits shelf.files input.left out.taken out'.taken out'.flushed result → PlansKnown (Some (serves file)) limits shelf input out out' result
-session_known file limits shelf input out out' result told = λ m bytes framing at means.
+pub session_known : (file : Text) (limits : LimitNumbers) (shelf : ShelfSeen) (journal : Option (List ℕ)) (input : SourceSeen) (out out' : SinkSeen) (result : Result code.Reply Fault)
+    → Serves file limits shelf.files input.left out.taken out'.taken out'.flushed result → PlansKnown (Some (serves file)) limits shelf journal input out out' result
+session_known file limits shelf journal input out out' result told = λ m j bytes framing at known means.
     let first : Serves file limits (Some m) input.left out.taken out'.taken out'.flushed result =
     subst (λ x. Serves file limits x input.left out.taken out'.taken out'.flushed result) at told in
     let second : Serves file limits (Some m) (Some bytes) out.taken out'.taken out'.flushed result =

@@ -7,9 +7,8 @@ use Rattle.ew_outside.specs.Counts.{IsQuiet}
 use Rattle.ew_outside.specs.Outputs.{GrowsByFront, Sends}
 use Rattle.command_table.specs.Sessions.{Session, printed_by}
 use Rattle.command_table.specs.Outcomes.{IsClosed, IsSession, FailsToStore, stored_by}
-use Rattle.command_table.specs.Seen.{Seen, Object, shelf, source, sink, TellsErr}
+use Rattle.command_table.specs.Seen.{Seen, Object, shelf, disk, source, sink, TellsErr}
 use Rattle.command_table.specs.Table.{Line}
-use Rattle.command_texts.specs.Reasons.{refusal_view}
 use Rattle.opened_files.specs.Views.{reply_view}
 use Rattle.opened_files.specs.declared.reply.Reply as own
 use Rattle.opened_files.specs.declared.reply.Reply.TheVariants as reply_is
@@ -62,6 +61,7 @@ prints_front s p old mid new flushed h g =
 -- a session that was broken off while the shelf failed had a load that failed
 not_failed_loads : (l : Option Line) (object : Object) (old mid new : Seen) (code : ℕ) → BrokenOff l object old mid new code → old.shelf.faults < new.shelf.faults → IsQuiet old.shelf.failed_loads new.shelf.failed_loads → ⊥
 not_failed_loads l shelf old mid new code h rose quiet = quiet_not_rose _ _ quiet (h.load refl)
+not_failed_loads l disk old mid new code h rose quiet = let same = h.struck.others shelf (λ bad. cc) in omega (arith, same, rose)
 not_failed_loads l source old mid new code h rose quiet = let same = h.struck.others shelf (λ bad. cc) in omega (arith, same, rose)
 not_failed_loads l sink old mid new code h rose quiet = let same = h.struck.others shelf (λ bad. cc) in omega (arith, same, rose)
 

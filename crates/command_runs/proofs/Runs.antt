@@ -11,26 +11,26 @@ use Rattle.ew_outside.specs.Counts.{AsksAtMost, Rose, next}
 use Rattle.ew_outside.specs.Files.{Files}
 use Rattle.ew_outside.specs.declared.fault.Fault.{Fault}
 use Rattle.ew_outside.specs.declared.fault.Fault.TheVariants as fault_is
-use Rattle.command_table.specs.Headline.{FaultLeaves, Hears, IfServes, UnlessServes, IsRun, IsRunOf, IsStatus, StoresNothing, NamesFault, ReadsToEnd}
-use Rattle.command_table.specs.Lines.{Meaning, IsInput, session_of}
-use Rattle.command_table.specs.Outcomes.{IsClosed, StoresFirst, stored_by}
+use Rattle.command_table.specs.Headline.{Hears, IfServes, UnlessSends, Journals, IsRun, IsRunOf, IsStatus, StoresNothing, NamesFault, ReadsToEnd}
+use Rattle.command_table.specs.Lines.{session_of}
+use Rattle.command_table.specs.Outcomes.{IsClosed, stored_by}
 use Rattle.command_table.specs.Possible.{MayComeTo}
-use Rattle.command_table.specs.Reads.{needs_file, makes_file, may_store, most_asked, shape_of, IfFileRefused, LeavesInput, CountsLoads, TakesAtMost}
+use Rattle.command_table.specs.Reads.{needs_file, makes_file, may_store, most_asked, shape_of, IfFileRefused, LeavesInput, CountsLoads}
 use Rattle.command_table.specs.Refusals as table
 use Rattle.command_table.specs.Refusals.{not_taken, refusal_status}
-use Rattle.command_table.specs.Seen.{Seen, Object, shelf, source, sink, faults_of, TellsErr}
+use Rattle.command_table.specs.Seen.{Seen, Object, shelf, sink, faults_of, TellsErr}
 use Rattle.command_table.specs.Sessions.{Session, IsPrompt, RepliesTo, exchanged, opened_state}
-use Rattle.command_table.specs.Table.{Text, Line, does, serves, opened, open_file, refuses}
+use Rattle.command_table.specs.Table.{Text, Line, does, serves, watches, exports, opened, open_file, refuses}
 use Rattle.command_table.specs.Cli.{usage as usage_text}
 use Rattle.command_table.specs.Text.{out_of_memory}
 use Rattle.command_texts.specs.Reasons.{refusal_view}
-use Rattle.opened_files.specs.Views.{IsRefusal, MissesBy, ReadsNone, reply_status, reply_view}
+use Rattle.opened_files.specs.Views.{MissesBy, ReadsNone, reply_status, reply_view}
 use Rattle.opened_files.specs.declared.reply.Reply as own
 use Rattle.opened_files.specs.declared.reply.Reply.TheVariants as reply_is
 use Rattle.serve_plans.specs.Plans.{Causes, ReadsOn, ReadsWithin, SendsReplies}
 use Rattle.command_runs.specs.declared.ending.Told.{Told}
 use Rattle.command_runs.specs.Endings.{EndFlushed, EndOut, out_of}
-use Rattle.command_runs.specs.Lines.{Heard, IsNotOfSink, IsReplyOf, MakesBy, MissesFor, ReadsAll, SendsNone}
+use Rattle.command_runs.specs.Lines.{IsReplyOf, MakesBy, MissesFor, ReadsAll, SendsNone}
 use Rattle.command_runs.proofs.Faults.{calm_object}
 use Rattle.command_runs.proofs.Courses.{Course, Done, Refused, Stopped, Landed, Broken, Starved, Facts, IsDoing, IsStoring, course, loaded_all, sends_none, told_whole}
 use Rattle.command_runs.proofs.Outputting.{is_session, stores_none_so}
@@ -71,7 +71,7 @@ untaken_status x h = ap refusal_status (same x h)
 
 module _ (l : Option Line) (planned : Result own.Reply Fault) (old mid new : Seen) (code : ℕ) (sends : SendsNone l old.out mid.out planned) where
   -- where nothing was printed at last, a line that sends nothing leaves the output as it was
-  kept_out : new.out.taken ≡ mid.out.taken → UnlessServes l (new.out.taken ≡ old.out.taken)
+  kept_out : new.out.taken ≡ mid.out.taken → UnlessSends l (new.out.taken ≡ old.out.taken)
   kept_out same = sends_none l (λ s. same ∙ s.0) sends
 
   pub among_so : Course l planned old mid new code → IsStatus code
@@ -315,6 +315,8 @@ if_hears : (l : Option Line) (limits : LimitNumbers) (planned : Result own.Reply
     → Facts l limits planned ending old mid new code → IfServes l limits old new code
 if_hears None limits planned ending old mid new code h = tt
 if_hears (Some (does command)) limits planned ending old mid new code h = tt
+if_hears (Some (watches agent)) limits planned ending old mid new code h = tt
+if_hears (Some (exports file)) limits planned ending old mid new code h = tt
 if_hears (Some (serves file)) limits planned ending old mid new code h = hears file limits planned ending old mid new code h
 
 only_usage_so : (l : Option Line) (planned : Result own.Reply Fault) (old mid new : Seen) (code : ℕ) → SendsNone l old.out mid.out planned → Course l planned old mid new code
@@ -324,14 +326,14 @@ only_usage_so (Some l) planned old mid new code sends k line is = absurd cc
 
 -- what the parts make of a run
 pub is_run : (l : Option Line) (limits : LimitNumbers) (planned : Result own.Reply Fault) (ending : Result (Option Told) Fault) (old mid new : Seen) (code : ℕ)
-    → Facts l limits planned ending old mid new code → IsRunOf l limits old new code
-is_run l limits planned ending old mid new code h =
+    → Facts l limits planned ending old mid new code → Journals l limits old new code → IsRunOf l limits old new code
+is_run l limits planned ending old mid new code h journals =
     let k = course l limits planned ending old mid new code h in
     record {
       answers = record {
-        known = λ files input meaning at means.
-            let s = session_of l limits files input meaning in
-            let follows = h.told files input meaning at means in
+        known = λ files journal input meaning at told means.
+            let s = session_of l limits files journal input meaning in
+            let follows = h.told files journal input meaning at told means in
             (is_served l s planned files old mid new code follows at k, sends_none l (λ s'. stores_first l s planned files old mid new code follows at k s'.1) h.sends);
         some = (h.some.0, h.some.1, is_session l h.some.0 planned old mid new code h.some.2 k);
         among = among_so l planned old mid new code h.sends k;
@@ -367,6 +369,7 @@ is_run l limits planned ending old mid new code h =
         refused = refused_unread l limits planned ending old mid new code h;
         hears = if_hears l limits planned ending old mid new code h;
       };
+      journals = journals;
     }
 
 -- a run whose status is the process's

@@ -1,5 +1,5 @@
 -- Lines that only read come to sessions that store nothing.
-use Rattle.std.proofs.Common.{◌≡◌, inl, inr, ◌⊎◌, ℕ, List, true, false, Option, None, Some, refl, sym, ◌∙◌, ap}
+use Rattle.std.proofs.Common.{◌≡◌, inl, inr, ℕ, List, false, Option, None, Some, refl, sym, ◌∙◌, ap}
 use Rattle.std.proofs.lemmas.Bool.{false≢true}
 use Rattle.ew_model.specs.declared.id.Id.{Id}
 use Rattle.ew_model.specs.Edits.{EditRefusal}
@@ -12,12 +12,14 @@ use Rattle.peer_definitions.specs.Making.{Made, made}
 use Rattle.peer_definitions.specs.Making.Made.{Going, Stopped}
 use Rattle.peer_definitions.specs.Runs.{RunOutcome, net_run}
 use Rattle.peer_definitions.specs.Runs.RunOutcome.{Ran, Broke}
+use Rattle.ew_model.specs.declared.event.Event.{Event}
+use Rattle.command_table.specs.Journals.{watch_end, watch_script}
 use Rattle.command_table.specs.Outcomes.{stored_by}
-use Rattle.command_table.specs.Possible.{MayComeTo, MayNet, MayReplyTo}
+use Rattle.command_table.specs.Possible.{MayComeTo, MayNet, MayReplyTo, MayWatchOver}
 use Rattle.command_table.specs.Reads.{may_store}
-use Rattle.command_table.specs.Scripts.{NetReading, bad_net_line, net_script}
+use Rattle.command_table.specs.Scripts.{NetReading, bad_net_line, net_script, Reading, bad_line, script, watched_by}
 use Rattle.command_table.specs.Sessions.{Session}
-use Rattle.command_table.specs.Table.{Command, create, edit, show, merge, upgrade, make, net, Line, does, serves, Listing, Reply, prints, Opened, opened, refused, line_refusal, make_reply, net_refusal, net_run_reply, net_script_reply, opened_as, over_events, show_reply, unknown_in, unless_unknown, listing_text}
+use Rattle.command_table.specs.Table.{Text, Command, create, edit, show, merge, upgrade, make, net, Line, does, serves, watches, exports, Listing, Reply, prints, Opened, opened, refused, line_refusal, make_reply, net_refusal, net_run_reply, net_script_reply, opened_as, over_events, show_reply, unknown_in, unless_unknown, listing_text}
 
 module _ (limits : LimitNumbers) (n : ℕ) where
   unless_stores : (o : Option Id) (out : List ℕ) → stored_by (unless_unknown o (prints out)) n ≡ n
@@ -66,7 +68,24 @@ module _ (limits : LimitNumbers) (n : ℕ) where
   command_stores (make seed count) reply only may = ap (λ r. stored_by r n) may ∙ make_stores (made limits seed count)
   command_stores net reply only may = net_stores reply may
 
+  ends_store : (stopped : Option (ℕ × EditRefusal)) → stored_by (watch_end limits stopped) n ≡ n
+  ends_store None = refl
+  ends_store (Some (line, OutOfRange len)) = refl
+  ends_store (Some (line, TooManyHeads heads)) = refl
+  ends_store (Some (line, Full count)) = refl
+
+  watched_stores : (agent : Text) (events : List Event) (reading : Reading) → stored_by (watch_script agent limits events reading).session.closing n ≡ n
+  watched_stores agent events (bad_line line) = refl
+  watched_stores agent events (script edits) = ends_store (watched_by limits agent events edits).stopped
+
+  watch_stores : (agent : Text) (o : Opened) (s : Session) → MayWatchOver agent limits o s → stored_by s.closing n ≡ n
+  watch_stores agent (refused why) s may = ap (λ (x : Session). stored_by x.closing n) may
+  watch_stores agent (opened events) s (inl long) = ap (λ (x : Session). stored_by x.closing n) long
+  watch_stores agent (opened events) s (inr may) = ap (λ (x : Session). stored_by x.closing n) may.4 ∙ watched_stores agent events may.1
+
   pub reads_alone : (l : Option Line) (s : Session) → may_store l ≡ false → MayComeTo l limits s → stored_by s.closing n ≡ n
   reads_alone None s only may = ap (λ (x : Session). stored_by x.closing n) may
   reads_alone (Some (does command)) s only may = ap (λ (x : Session). stored_by x.closing n) may.2 ∙ command_stores command may.0 only may.1
   reads_alone (Some (serves file)) s only may = absurd (false≢true (sym only))
+  reads_alone (Some (watches agent)) s only may = watch_stores agent may.0 s may.2
+  reads_alone (Some (exports file)) s only may = absurd (false≢true (sym only))

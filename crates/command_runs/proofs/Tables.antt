@@ -11,10 +11,8 @@ use Rattle.ew_outside.specs.Outputs.{GrowsByFront, Sends}
 use Rattle.command_table.specs.Sessions.{Session, session_answer}
 use Rattle.command_table.specs.Table.{answer_of}
 use Rattle.command_table.specs.Outcomes.{IsAnswered, IsServed, StoresFirst}
-use Rattle.command_table.specs.Headline.{UnlessServes}
-use Rattle.command_table.specs.Seen.{Seen, Object, shelf, source, sink, faults_of, TellsErr}
-use Rattle.command_table.specs.Table.{Line, does, serves}
-use Rattle.command_texts.specs.Reasons.{refusal_view}
+use Rattle.command_table.specs.Seen.{Seen, Object, shelf, disk, source, sink, faults_of, TellsErr}
+use Rattle.command_table.specs.Table.{Line}
 use Rattle.opened_files.specs.Views.{reply_view}
 use Rattle.opened_files.specs.declared.reply.Reply as own
 use Rattle.opened_files.specs.declared.reply.Reply.TheVariants as reply_is
@@ -39,7 +37,7 @@ appended_length old new before bytes added at told all =
     omega (arith, long, length-append before bytes, length-append before added)
 
 -- and of a front no more than of the whole
-front_length : (old new : Option (List ℕ)) (before bytes whole : List ℕ) → old ≡ Some before → new ≡ Some (before ++ bytes) → GrowsByFront old new whole
+pub front_length : (old new : Option (List ℕ)) (before bytes whole : List ℕ) → old ≡ Some before → new ≡ Some (before ++ bytes) → GrowsByFront old new whole
     → length bytes ≤ length whole
 front_length old new before bytes whole at told g =
     let long = appended_length old new before bytes (take g.0 whole) at told g.1 in
@@ -179,18 +177,19 @@ module _ (l : Option Line) (s : Session) (planned : Result own.Reply Fault) (fil
 
   -- nothing but the output failed, and it had sent nothing before: a store came first
   other_stops : (object : Object) → Rose (faults_of object old) (faults_of object new) → (object ≡ sink → ⊥)
-      → IsQuiet old.shelf.faults new.shelf.faults → IsQuiet old.input.faults new.input.faults → ⊥
-  other_stops shelf rose other first second = quiet_not_rose _ _ first rose
-  other_stops source rose other first second = quiet_not_rose _ _ second rose
-  other_stops sink rose other first second = other refl
+      → IsQuiet old.shelf.faults new.shelf.faults → IsQuiet old.disk.faults new.disk.faults → IsQuiet old.input.faults new.input.faults → ⊥
+  other_stops shelf rose other first second third = quiet_not_rose _ _ first rose
+  other_stops disk rose other first second third = quiet_not_rose _ _ second rose
+  other_stops source rose other first second third = quiet_not_rose _ _ third rose
+  other_stops sink rose other first second third = other refl
 
   pub stores_first : Course l planned old mid new code → IsNotOfSink planned → StoresFirst s files old new code
-  stores_first (Done p is h) none six first second = absurd (omega (arith, h.zero, six))
-  stores_first (Refused why is h) none six first second = absurd (omega (arith, h.refusal, h.status_is, six))
-  stores_first (Stopped object x other named is h) none six first second = absurd (other_stops object h.struck.rose (λ bad. subst IsNotOfSink (is ∙ ap Err (named bad)) none) first second)
-  stores_first (Landed p is h) none six first second = absurd (quiet_not_rose _ _ first h.struck.rose)
-  stores_first (Broken p is h) none six first second = stored_so p is h.files
-  stores_first (Starved h) none six first second = absurd (omega (arith, h.eight, six))
+  stores_first (Done p is h) none six first second third = absurd (omega (arith, h.zero, six))
+  stores_first (Refused why is h) none six first second third = absurd (omega (arith, h.refusal, h.status_is, six))
+  stores_first (Stopped object x other named is h) none six first second third = absurd (other_stops object h.struck.rose (λ bad. subst IsNotOfSink (is ∙ ap Err (named bad)) none) first second third)
+  stores_first (Landed p is h) none six first second third = absurd (quiet_not_rose _ _ first h.struck.rose)
+  stores_first (Broken p is h) none six first second third = stored_so p is h.files
+  stores_first (Starved h) none six first second third = absurd (omega (arith, h.eight, six))
 
   completes : Course l planned old mid new code → ((object : Object) → IsQuiet (faults_of object old) (faults_of object new))
       → (code ≡ (session_answer s files).status) ⊎ (code ≡ 8)

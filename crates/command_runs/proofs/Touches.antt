@@ -2,7 +2,7 @@
 use Rattle.std.proofs.Common.{ℕ, List, arith, Option, None, Some}
 use Rattle.ew_model.specs.Limits.{LimitNumbers}
 use Rattle.ew_outside.specs.Files.{Files}
-use Rattle.command_table.specs.Table.{Command, create, edit, show, merge, upgrade, make, net, Line, does, serves}
+use Rattle.command_table.specs.Table.{Command, create, edit, show, merge, upgrade, make, net, Line, does, serves, watches, exports}
 use Rattle.opened_files.specs.Touches.{CommandTakes}
 use Rattle.serve_plans.specs.SessionTouches.{session_touches}
 use Rattle.command_runs.specs.LineTouches.{LineTakes}
@@ -19,8 +19,10 @@ command_takes (make seed count) limits files n = omega arith
 command_takes net limits files n = tt
 
 -- it takes no more than its line may take
-pub takes_nothing : (l : Option Line) (limits : LimitNumbers) (files : Option Files) (left : Option (List ℕ)) (n : ℕ) → LineTakes l limits files left n n
-takes_nothing None limits files left n = omega arith
-takes_nothing (Some (does command)) limits files left n = command_takes command limits files n
-takes_nothing (Some (serves name)) limits files None n = tt
-takes_nothing (Some (serves name)) limits files (Some input) n = λ f cut. untouched (session_touches name limits f.frames) files n
+pub takes_nothing : (l : Option Line) (limits : LimitNumbers) (files : Option Files) (journal left : Option (List ℕ)) (n : ℕ) → LineTakes l limits files journal left n n
+takes_nothing None limits files journal left n = omega arith
+takes_nothing (Some (does command)) limits files journal left n = command_takes command limits files n
+takes_nothing (Some (watches agent)) limits files journal left n = λ j told. omega arith
+takes_nothing (Some (exports name)) limits files journal left n = λ j told. omega arith
+takes_nothing (Some (serves name)) limits files journal None n = tt
+takes_nothing (Some (serves name)) limits files journal (Some input) n = λ f cut. untouched (session_touches name limits f.frames) files n

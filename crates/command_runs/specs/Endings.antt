@@ -5,18 +5,20 @@ use Rattle.std.specs.Io.KnownBytes.{Appends}
 use Rattle.ew_outside.specs.Files.{Files}
 use Rattle.ew_outside.specs.Counts.{IsQuiet, Rose}
 use Rattle.ew_outside.specs.Bytes.{IsFlushed}
-use Rattle.ew_outside.specs.Outputs.{GrowsByFront}
-use Rattle.ew_outside.specs.Seen.{SinkSeen}
+use Rattle.ew_outside.specs.Outputs.{GrowsByFront, Tells}
+use Rattle.ew_outside.specs.Seen.{ShelfSeen, SinkSeen}
 use Rattle.ew_outside.specs.declared.fault.Fault.{Fault}
 use Rattle.ew_outside.specs.declared.fault.Fault.TheVariants as fault_is
 use Rattle.command_table.specs.Outcomes.{stored_by}
 use Rattle.command_table.specs.Refusals.{refusal_status, refusal_text}
-use Rattle.command_table.specs.Text.{shelf_failed, source_failed, sink_failed, out_of_memory}
+use Rattle.command_table.specs.Text.{shelf_failed, disk_failed, source_failed, sink_failed, out_of_memory}
 use Rattle.command_texts.specs.Reasons.{refusal_view}
 use Rattle.command_texts.specs.declared.refusal.Refusal.{Refusal}
 use Rattle.opened_files.specs.Views.{reply_view}
 use Rattle.opened_files.specs.declared.reply.Reply as code
 use Rattle.opened_files.specs.declared.reply.Reply.TheVariants as reply_is
+use Rattle.journal_plans.specs.declared.stop.Stop.{Stop}
+use Rattle.journal_plans.specs.declared.stop.Stop.TheVariants as stop
 use Rattle.command_runs.specs.declared.ending.Told.{Told}
 
 -- what the reply stores, applied to a map
@@ -126,3 +128,28 @@ PrintLeaves (Ok (Some told)) old new bytes = ⊥
 PrintLeaves (Err fault_is.Sink) old new bytes =
     GrowsByFront old.taken new.taken bytes × (new.flushed ≡ old.flushed) × ((old.faults ≤ new.faults) × Rose old.faults new.faults)
 PrintLeaves (Err fault) old new bytes = ⊥
+
+-- a reply, or what stopped it, was carried out and told by this ending
+pub record IsEnded (planned : Result code.Reply Fault) (ending : Result (Option Told) Fault) (shelf shelf' : ShelfSeen) (out out' err err' : SinkSeen) (code : ℕ) : Type 0 where
+  pub which : EndsReply planned ending
+  pub files : EndFiles planned ending shelf.files shelf'.files
+  pub taken : EndOut planned ending out.taken out'.taken out'.flushed
+  pub flushed : EndFlushed planned ending out.flushed out'.flushed
+  pub shelf_count : EndShelfCount planned ending shelf.faults shelf'.faults
+  pub sink_count : EndSinkCount planned ending out.faults out'.faults
+  pub no_miss : shelf'.misses ≡ shelf.misses
+  pub no_load : shelf'.loads ≡ shelf.loads
+  pub no_loss : shelf'.failed_loads ≡ shelf.failed_loads
+  pub no_ask : shelf'.asked ≡ shelf.asked
+  pub stores : EndStores planned ending shelf.stores shelf'.stores
+  pub status : code ≡ end_status ending
+  pub text : Tells err.taken err'.taken err.faults err'.faults (end_text ending)
+  pub silent : SaysNone ending err err'
+  pub whole : IsToldWhole ending err err'
+
+-- what was planned over the journal was carried out and told, or what stopped it was told
+abbrev pub EndsKept : Result code.Reply Stop → ShelfSeen → ShelfSeen → SinkSeen → SinkSeen → SinkSeen → SinkSeen → ℕ → Type 0
+EndsKept (Err stop.Disk) shelf shelf' out out' err err' code =
+    (shelf' ≡ shelf) × (out' ≡ out) × (code ≡ 6) × Tells err.taken err'.taken err.faults err'.faults disk_failed × (IsQuiet err.faults err'.faults → IsFlushed err'.taken err'.flushed)
+EndsKept (Err (stop.Fault fault)) shelf shelf' out out' err err' code = (shelf' ≡ shelf) × (out' ≡ out) × IsEnded (Err fault) (Err fault) shelf shelf' out out' err err' code
+EndsKept (Ok p) shelf shelf' out out' err err' code = (ending : Result (Option Told) Fault) × IsEnded (Ok p) ending shelf shelf' out out' err err' code

@@ -4,12 +4,13 @@ use Rattle.ew_outside.specs.Counts.{Rose}
 use Rattle.ew_outside.specs.Files.{Files}
 use Rattle.ew_outside.specs.Seen.{ShelfSeen, SourceSeen, SinkSeen}
 use Rattle.ew_model.specs.Limits.{LimitNumbers}
-use Rattle.command_table.specs.Headline.{UnlessServes, ReadsToEnd}
-use Rattle.command_table.specs.Lines.{Meaning, IsInput, session_of}
+use Rattle.command_table.specs.Headline.{UnlessSends, ReadsToEnd}
+use Rattle.command_table.specs.Journals.{Journal}
+use Rattle.command_table.specs.Lines.{Meaning, IsInput, IsJournalOf, session_of}
 use Rattle.command_table.specs.Possible.{MayComeTo, MayReplyTo}
 use Rattle.command_table.specs.Refusals.{not_taken}
 use Rattle.command_table.specs.Sessions.{Session}
-use Rattle.command_table.specs.Table.{Command, Line, does, serves, Reply, refuses}
+use Rattle.command_table.specs.Table.{Command, Line, serves, Reply, refuses}
 use Rattle.opened_files.specs.declared.reply.Reply as code
 use Rattle.ew_outside.specs.declared.fault.Fault.{Fault}
 use Rattle.ew_outside.specs.declared.fault.Fault.TheVariants as fault_is
@@ -44,10 +45,11 @@ MayPlan command limits (Err _) = ⊤
 
 -- ---- of a line
 
--- over files that are known, and an input that is known or isn't read, what was sent and the reply are the table's session
-abbrev pub PlansKnown : Option Line → LimitNumbers → ShelfSeen → SourceSeen → SinkSeen → SinkSeen → Result code.Reply Fault → Type 0
-PlansKnown l limits shelf input out out' planned = (files : Files) (bytes : List ℕ) (meaning : Meaning l) → shelf.files ≡ Some files
-    → IsInput limits l input.left bytes meaning → FollowsSession (session_of l limits files bytes meaning) out.taken out'.taken out'.flushed planned
+-- over files that are known, a journal that is known or isn't opened, and an input that is known or isn't read, what was sent and the reply
+-- are the table's session
+abbrev pub PlansKnown : Option Line → LimitNumbers → ShelfSeen → Option (List ℕ) → SourceSeen → SinkSeen → SinkSeen → Result code.Reply Fault → Type 0
+PlansKnown l limits shelf told input out out' planned = (files : Files) (journal : Journal) (bytes : List ℕ) (meaning : Meaning l) → shelf.files ≡ Some files
+    → IsJournalOf limits l told journal → IsInput limits l input.left bytes meaning → FollowsSession (session_of l limits files journal bytes meaning) out.taken out'.taken out'.flushed planned
 
 -- they are a session that the line comes to over some files and some input
 abbrev pub PlansSome : Option Line → LimitNumbers → SinkSeen → SinkSeen → Result code.Reply Fault → Type 0
@@ -60,7 +62,7 @@ IsNotOfSink planned = ⊤
 
 -- a line that sends nothing leaves the output as it is, and isn't stopped by it
 abbrev pub SendsNone : Option Line → SinkSeen → SinkSeen → Result code.Reply Fault → Type 0
-SendsNone l out out' planned = UnlessServes l ((out'.taken ≡ out.taken) × IsNotOfSink planned)
+SendsNone l out out' planned = UnlessSends l ((out'.taken ≡ out.taken) × IsNotOfSink planned)
 
 -- a line that isn't taken is refused for its words, and one that is taken for another reason
 abbrev pub IsReplyOf : Option Line → Result code.Reply Fault → Type 0

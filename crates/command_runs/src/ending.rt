@@ -1,6 +1,7 @@
 //! How a run ends, once its reply is made.
 ghost use Rattle.std.specs.Prelude.{◌≡◌};
 ghost use Rattle.command_runs.specs.Endings.{EndFiles, EndFlushed, EndOut, EndShelfCount, EndSinkCount, EndStores, EndsReply, IsTold, IsToldWhole, PrintLeaves, SaysNone, end_status, end_text, fault_status, fault_text};
+ghost use Rattle.command_table.specs.Text.{disk_failed};
 ghost use Rattle.ew_outside.specs.Bytes.{IsFlushed};
 ghost use Rattle.ew_outside.specs.Counts.{IsQuiet};
 ghost use Rattle.ew_outside.specs.Outputs.{Tells};
@@ -78,6 +79,15 @@ pub fn carry_out<H: Shelf, K: Sink>(
             Err(fault) => Err(Fault::from(fault)),
         },
     }
+}
+
+/// Tells that the disk failed.
+pub fn tell_disk<E: Sink>(err: &mut E) -> u8
+    ensures status { result ≡ 6 }
+    ensures text { Tells (E.seen err.old).taken (E.seen err.new).taken (E.seen err.old).faults (E.seen err.new).faults disk_failed }
+    ensures flushed { IsQuiet (E.seen err.old).faults (E.seen err.new).faults → IsFlushed (E.seen err.new).taken (E.seen err.new).flushed }
+{
+    say(err, b"egw: disk failed\n", 6)
 }
 
 /// Answers the status, and tells what there is to tell.

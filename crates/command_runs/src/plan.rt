@@ -1,7 +1,7 @@
 //! From a line to what is to be done.
-ghost use Rattle.std.specs.Prelude.{◌≡◌, ◌+◌, true, false, IfOk, IfSome, Some};
+ghost use Rattle.std.specs.Prelude.{◌≡◌, ◌+◌, ℕ, List, Option, true, false, IfOk, IfSome, None, Some};
 ghost use Rattle.std.specs.Option.{option_map};
-ghost use Rattle.command_table.specs.Reads.{IfFileRefused, LeavesInput, CountsLoads, LoadsFront, TakesAtMost, makes_file, most_asked, needs_file, reads_input, shape_of};
+ghost use Rattle.command_table.specs.Reads.{IfFileRefused, LeavesInput, CountsLoads, LoadsFront, TakesAtMost, makes_file, most_asked, needs_file, reads_input, shape_of, uses_journal};
 ghost use Rattle.command_table.specs.Table.{MeansTo, does, reply_to};
 ghost use Rattle.opened_files.specs.Touches.{CommandTakes};
 ghost use Rattle.opened_files.specs.Views.{IsTakenReply, LoadsAll, FailedLoadsBy, ReadsNone, ShelfCauses};
@@ -30,7 +30,7 @@ use std::alloc::Global;
 use std::sync::ledger::Ledger;
 
 /// Reads what the line reads, and answers what is to be done. A session is served by then, up to what is to be stored and printed
-/// at last; of another line nothing is stored or printed yet.
+/// at last; of another line nothing is stored or printed yet. The line has no use for the journal.
 pub fn plan<H: Shelf, S: Source, K: Sink, L: Ledger>(
     alloc: Global,
     line: Option<Line<'_>>,
@@ -40,7 +40,8 @@ pub fn plan<H: Shelf, S: Source, K: Sink, L: Ledger>(
     out: &mut K,
     steps: &mut Steps<L>,
 ) -> Result<Reply, Fault>
-    ensures told { PlansKnown (option_map line_view line.entry) limits.now (H.seen shelf.old) (S.seen input.old) (K.seen out.old) (K.seen out.new) result }
+    requires plain { uses_journal (option_map line_view line) ≡ false }
+    ensures told { (journal : Option (List ℕ)) → PlansKnown (option_map line_view line.entry) limits.now (H.seen shelf.old) journal (S.seen input.old) (K.seen out.old) (K.seen out.new) result }
     ensures some { PlansSome (option_map line_view line.entry) limits.now (K.seen out.old) (K.seen out.new) result }
     ensures heard { Heard (option_map line_view line.entry) limits.now (H.seen shelf.old) (S.seen input.old) (S.seen input.new) (K.seen out.old) (K.seen out.new) result }
     ensures sends { SendsNone (option_map line_view line.entry) (K.seen out.old) (K.seen out.new) result }
@@ -62,12 +63,13 @@ pub fn plan<H: Shelf, S: Source, K: Sink, L: Ledger>(
     ensures stores { (H.seen shelf.new).stores ≡ (H.seen shelf.old).stores }
     ensures ends { RisesOnceAtMost (S.seen input.old).ends (S.seen input.new).ends }
     ensures refused { needs_file (option_map line_view line.entry) ≡ true → ReadsNone (S.seen input.old) (S.seen input.new) result }
-    ensures most { LineTakes (option_map line_view line.entry) limits.now (H.seen shelf.old).files (S.seen input.old).left steps.old steps.new }
+    ensures most { LineTakes (option_map line_view line.entry) limits.now (H.seen shelf.old).files None (S.seen input.old).left steps.old steps.new }
 {
     match line {
         None => Ok(Reply::Refuses(Refusal::NotTaken)),
         Some(Line::Does(command)) => plan_command(alloc, command, limits, shelf, input, steps),
         Some(Line::Serves(file)) => serve(alloc, file, limits, shelf, input, out, steps),
+        Some(Line::Watches(_) | Line::Exports(_)) => unreachable!(),
     }
 }
 

@@ -10,6 +10,7 @@ ghost use Rattle.command_table.specs.Text.{out_of_memory};
 
 use crate::ending::tell;
 use crate::top::run;
+use event_journal::Disk;
 use ew_model::limits::Limits;
 use ew_model::steps::Steps;
 use ew_outside::{Fault, Shelf, Sink, Source};
@@ -18,12 +19,13 @@ use std::process::ExitCode;
 use std::sync::ledger::{Blank, Ledger};
 
 /// Runs a command line over a ledger of its own.
-pub fn run_uncounted<L: Ledger, H: Shelf, S: Source, K: Sink, E: Sink>(
+pub fn run_uncounted<L: Ledger, H: Shelf, D: Disk, S: Source, K: Sink, E: Sink>(
     alloc: Global,
     blank: Blank,
     words: &[String],
     limits: &Limits,
     shelf: &mut H,
+    disk: &mut D,
     input: &mut S,
     out: &mut K,
     err: &mut E,
@@ -31,19 +33,22 @@ pub fn run_uncounted<L: Ledger, H: Shelf, S: Source, K: Sink, E: Sink>(
     requires name { blank.name ≡ L.name }
     requires parts { blank.parts ≡ L.parts }
     requires some { 0 < blank.parts }
-    ensures run { IsRun (map string_bytes words.now) limits.now (seen (H.seen shelf.old) (S.seen input.old) (K.seen out.old) (E.seen err.old)) (seen (H.seen shelf.new) (S.seen input.new) (K.seen out.new) (E.seen err.new)) result }
+    ensures run { IsRun (map string_bytes words.now) limits.now (seen (H.seen shelf.old) (D.seen disk.old) (S.seen input.old) (K.seen out.old) (E.seen err.old)) (seen (H.seen shelf.new) (D.seen disk.new) (S.seen input.new) (K.seen out.new) (E.seen err.new)) result }
 {
     let mut steps = Steps::<L>::new(blank);
-    run(alloc, words, limits, shelf, input, out, err, &mut steps)
+    run(
+        alloc, words, limits, shelf, disk, input, out, err, &mut steps,
+    )
 }
 
 /// Runs a command line, and answers its status as that of the process.
-pub fn run_process<L: Ledger, H: Shelf, S: Source, K: Sink, E: Sink>(
+pub fn run_process<L: Ledger, H: Shelf, D: Disk, S: Source, K: Sink, E: Sink>(
     alloc: Global,
     blank: Blank,
     words: &[String],
     limits: &Limits,
     shelf: &mut H,
+    disk: &mut D,
     input: &mut S,
     out: &mut K,
     err: &mut E,
@@ -51,10 +56,10 @@ pub fn run_process<L: Ledger, H: Shelf, S: Source, K: Sink, E: Sink>(
     requires name { blank.name ≡ L.name }
     requires parts { blank.parts ≡ L.parts }
     requires some { 0 < blank.parts }
-    ensures { IsRun (map string_bytes words.now) limits.now (seen (H.seen shelf.old) (S.seen input.old) (K.seen out.old) (E.seen err.old)) (seen (H.seen shelf.new) (S.seen input.new) (K.seen out.new) (E.seen err.new)) (exit_status result) }
+    ensures { IsRun (map string_bytes words.now) limits.now (seen (H.seen shelf.old) (D.seen disk.old) (S.seen input.old) (K.seen out.old) (E.seen err.old)) (seen (H.seen shelf.new) (D.seen disk.new) (S.seen input.new) (K.seen out.new) (E.seen err.new)) (exit_status result) }
 {
-    ExitCode::from(run_uncounted::<L, H, S, K, E>(
-        alloc, blank, words, limits, shelf, input, out, err,
+    ExitCode::from(run_uncounted::<L, H, D, S, K, E>(
+        alloc, blank, words, limits, shelf, disk, input, out, err,
     ))
 }
 

@@ -2,6 +2,7 @@
 #![tactic(auto)]
 
 use command_runs::start::{end_starved, run_process};
+use event_journal::FileDisk;
 use ew_model::NoMem;
 use ew_model::limits::Limits;
 use ew_outside::{DirShelf, StdSink, StdSource};
@@ -26,22 +27,30 @@ fn read_arguments(rt: &HostRuntime) -> Result<Vec<String>, NoMem> {
     Ok(words)
 }
 
-/// Makes the shelf and the streams of the process, and runs its words over them.
+/// The file in the current folder that holds the journal.
+const JOURNAL: &str = "egw.journal";
+
+/// Makes the shelf, the disk and the streams of the process, and runs its words over them.
 fn main(rt: HostRuntime) -> ExitCode {
     let alloc = rt.alloc();
     let mut err = StdSink::new(rt.stderr());
     let Ok(words) = read_arguments(&rt) else {
         return end_starved(&mut err);
     };
+    let Ok(journal) = String::from_str(alloc, JOURNAL) else {
+        return end_starved(&mut err);
+    };
     let mut shelf = DirShelf::new(alloc, &rt);
+    let mut disk = FileDisk::new(&rt, journal);
     let mut input = StdSource::new(rt.stdin());
     let mut out = StdSink::new(rt.stdout());
-    run_process::<Brand, _, _, _, _>(
+    run_process::<Brand, _, _, _, _, _>(
         alloc,
         Blank::new(1),
         &words,
         &Limits::program(),
         &mut shelf,
+        &mut disk,
         &mut input,
         &mut out,
         &mut err,

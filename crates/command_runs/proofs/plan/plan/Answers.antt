@@ -1,17 +1,17 @@
-use Rattle.std.proofs.Common.{refl, inl, true, false, Some, None, sym, ap}
+use Rattle.std.proofs.Common.{refl, inl, None, sym}
 use Rattle.std.proofs.lemmas.Bool.{false≢true}
 use Rattle.std.proofs.KnownBytes.{Appends-nil}
 use Rattle.command_table.specs.Refusals.{not_taken}
 use Rattle.command_table.specs.Sessions.{closed_by}
-use Rattle.command_table.specs.Table.{does, refuses, serves}
+use Rattle.command_table.specs.Table.{refuses}
 use Rattle.command_table.specs.Reads.{LeavesInput, shape_of}
 use Rattle.opened_files.proofs.Reading.{takes_none}
-use Rattle.command_reader.specs.Words.{command_view, line_view}
-use Rattle.command_runs.proofs.Lines.{asks_most, asks_none, command_causes, command_keeps, command_known, command_reads, command_some, file_refused, loads_one, no_front, none_made, not_of_sink, one_all, one_front, one_refused, reads_same, session_known, session_reads, taken_line}
+use Rattle.command_reader.specs.Words.{line_view}
+use Rattle.command_runs.proofs.Lines.{asks_most, asks_none, command_causes, command_keeps, command_known, command_reads, command_some, file_refused, loads_one, no_front, none_made, not_of_sink, one_all, one_front, one_refused, session_known, session_reads, taken_line}
 use Rattle.command_runs.proofs.plan.plan.Goals as goal
 
 pub returns-in-Some-Does-clause-told : goal.returns-in-Some-Does-clause-told
-returns-in-Some-Does-clause-told g c = rw c.in-Some-Does.is (rw c.in-Some-Does.field-0-is (command_known _ c.args.limits.now (g.H.Shelf.seen c.args.shelf.now) (g.S.Source.seen c.args.input.now) (g.K.Sink.seen c.args.out.now) c.plan_command.result c.plan_command.ensures.told c.plan_command.ensures.alone))
+returns-in-Some-Does-clause-told g c = rw c.in-Some-Does.is (rw c.in-Some-Does.field-0-is (λ journal. command_known _ c.args.limits.now (g.H.Shelf.seen c.args.shelf.now) journal (g.S.Source.seen c.args.input.now) (g.K.Sink.seen c.args.out.now) c.plan_command.result c.plan_command.ensures.told c.plan_command.ensures.alone))
 
 pub returns-in-Some-Does-clause-some : goal.returns-in-Some-Does-clause-some
 returns-in-Some-Does-clause-some g c = rw c.in-Some-Does.is (rw c.in-Some-Does.field-0-is (command_some _ c.args.limits.now (g.K.Sink.seen c.args.out.now) c.plan_command.result c.plan_command.ensures.some))
@@ -62,7 +62,7 @@ pub returns-in-Some-Does-clause-most : goal.returns-in-Some-Does-clause-most
 returns-in-Some-Does-clause-most g c = rw c.in-Some-Does.is (rw c.in-Some-Does.field-0-is (c.plan_command.ensures.most))
 
 pub returns-in-Some-Serves-clause-told : goal.returns-in-Some-Serves-clause-told
-returns-in-Some-Serves-clause-told g c = rw c.in-Some-Serves.is (rw c.in-Some-Serves.field-0-is (session_known _ c.args.limits.now (g.H.Shelf.seen c.args.shelf.now) (g.S.Source.seen c.args.input.now) (g.K.Sink.seen c.args.out.now) (g.K.Sink.seen c.serve.new.out) c.serve.result c.serve.ensures.told))
+returns-in-Some-Serves-clause-told g c = rw c.in-Some-Serves.is (rw c.in-Some-Serves.field-0-is (λ journal. session_known _ c.args.limits.now (g.H.Shelf.seen c.args.shelf.now) journal (g.S.Source.seen c.args.input.now) (g.K.Sink.seen c.args.out.now) (g.K.Sink.seen c.serve.new.out) c.serve.result c.serve.ensures.told))
 
 pub returns-in-Some-Serves-clause-some : goal.returns-in-Some-Serves-clause-some
 returns-in-Some-Serves-clause-some g c = rw c.in-Some-Serves.is (rw c.in-Some-Serves.field-0-is (c.serve.ensures.some))
@@ -113,7 +113,7 @@ pub returns-in-Some-Serves-clause-most : goal.returns-in-Some-Serves-clause-most
 returns-in-Some-Serves-clause-most g c = rw c.in-Some-Serves.is (rw c.in-Some-Serves.field-0-is (c.serve.ensures.most))
 
 pub returns-in-None-clause-told : goal.returns-in-None-clause-told
-returns-in-None-clause-told g c = rw c.in-None.is ((λ files bytes meaning at means. (refl, (Appends-nil _, inl refl))))
+returns-in-None-clause-told g c = rw c.in-None.is ((λ told files journal bytes meaning at known means. (refl, (Appends-nil _, inl refl))))
 
 pub returns-in-None-clause-some : goal.returns-in-None-clause-some
 returns-in-None-clause-some g c = rw c.in-None.is ((closed_by (refuses not_taken), refl, (refl, (Appends-nil _, inl refl))))
