@@ -1,6 +1,6 @@
 """The rows of command_trials, carried out by the second reader: what .ci/rows.py computes answers with.
 
-It runs tools/second_reader.py over files, an input and outputs in memory, of which single calls fail, and knows nothing of the
+It runs tools/second_reader.py over files, a journal, an input and outputs in memory, of which single calls fail, and knows nothing of the
 program. What a row may say stands at the head of crates/command_trials/src/main.rt.
 """
 
@@ -13,8 +13,9 @@ import types
 
 from egw_bytes import with_digest
 
-OBJECTS = ("shelf", "source", "out", "err")
+OBJECTS = ("shelf", "disk", "source", "out", "err")
 ROOM = 100_000  # what an output takes at most
+DISK_PIECE = 65_536  # what a read of the disk takes at most
 # What the system says of a file in memory: nothing changes it during a run.
 FOUND = types.SimpleNamespace(st_dev=0, st_ino=0, st_size=0, st_mtime_ns=0)
 
@@ -36,21 +37,22 @@ class Opened:
 
 
 class Outside:
-    """Files, an input and outputs in memory: for each object the numbers of the calls that fail, and what was made of it."""
+    """Files, a journal, an input and outputs in memory: for each object the numbers of the calls that fail, and what was made of it."""
 
     def __init__(self, files):
-        self.files, self.next = files, {}
+        self.files, self.journal, self.next = files, b"", {}
         self.begin_run()
 
     def begin_run(self):
         """Takes over what was made ready for this run."""
         self.failing = {what: self.next.pop(what, ()) for what in OBJECTS}
-        self.landing = self.next.pop("land", ())
+        self.landing, self.tear = self.next.pop("land", ()), self.next.pop("tear", 0)
         self.left, self.given = self.next.pop("in", b""), self.next.pop("slow", ROOM)
         self.piece = {"out": self.next.pop("piece", ROOM), "err": self.next.pop("err_piece", ROOM)}
         self.room = {"out": min(self.next.pop("room", ROOM), ROOM), "err": ROOM}
         self.made = dict.fromkeys(OBJECTS, 0)
         self.stores = []  # the numbers of the shelf's calls that were stores
+        self.writes = {}  # the numbers of the disk's calls that were writes, and of how many bytes
         self.taken = {"out": b"", "err": b""}
         self.flushed = 0
 
@@ -102,6 +104,37 @@ class Outside:
             self.flushed = len(self.taken[what])
 
 
+class Disk:
+    """The journal in memory. A disk is asked for its length, read by pieces, written at a place and synced."""
+
+    def __init__(self, outside):
+        self.outside = outside
+
+    def call(self):
+        self.outside.refuse(self.outside.call("disk"))
+
+    def sync(self):
+        self.call()
+
+    def read(self):
+        self.call()
+        data, whole = b"", self.outside.journal
+        while len(data) < len(whole):
+            self.call()
+            data += whole[len(data) : len(data) + DISK_PIECE]
+        return data
+
+    def write(self, at, data):
+        """Writes a piece and syncs it. Of one that fails there stand its first bytes, as many as the row says."""
+        outside = self.outside
+        outside.writes[outside.made["disk"]] = len(data)
+        fails = outside.call("disk")
+        left = data[: outside.tear] if fails else data
+        outside.journal = outside.journal[:at] + left + outside.journal[at + len(left) :]
+        outside.refuse(fails)
+        self.sync()
+
+
 class Reader:
     """The second reader, over what is in memory."""
 
@@ -129,7 +162,7 @@ class Reader:
             with self.code.using("shelf"):
                 outside.store(file, self.code.file_bytes(events))
 
-        edges = {"open": outside.open, "store": store, "write_all": outside.write_all}
+        edges = {"open": outside.open, "store": store, "write_all": outside.write_all, "Disk": lambda: Disk(outside)}
         edges["os"] = types.SimpleNamespace(read=outside.read, fsencode=os.fsencode, fstat=lambda _: FOUND)
         vars(self.code).update(edges)
         sys.argv = ["second_reader.py", *map(os.fsdecode, words)]
@@ -159,7 +192,7 @@ class Rows:
         self.reader, self.bytes = reader, {}
 
     def begin(self, head):
-        """Begins a group: an empty shelf, under these limits."""
+        """Begins a group: an empty shelf and an empty journal, under these limits."""
         if head == "program":
             self.reader.set_program_limits()
         else:
@@ -183,6 +216,8 @@ class Rows:
             self.bytes[first] = with_digest(self.bytes[more])
         elif verb == "file":
             self.outside.files[first] = self.bytes[more]
+        elif verb == "journal":
+            self.outside.journal = self.bytes[rest]
         elif verb == "in":
             self.outside.next["in"] = unescaped(rest)
         elif verb == "in_bytes":
@@ -191,7 +226,7 @@ class Rows:
             self.outside.next[first] = [int(number) for number in more.split()]
         elif verb == "land":
             self.outside.next["land"] = [int(number) for number in rest.split()]
-        elif verb in ("slow", "piece", "err_piece", "room"):
+        elif verb in ("slow", "piece", "err_piece", "room", "tear"):
             self.outside.next[verb] = int(rest)
         else:
             return False
@@ -215,6 +250,8 @@ class Rows:
             return str(self.status)
         if verb == "printed":
             return "yes" if outside.taken["out"] == self.bytes[rest] else "no"
+        if verb == "kept":
+            return "yes" if outside.journal == self.bytes[rest] else "no"
         file, name = rest.split()
         if verb != "same" or name not in self.bytes:
             raise ValueError(asked)

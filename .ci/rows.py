@@ -1,12 +1,13 @@
-"""The table of calls that fail: for each command each call of the shelf, the input and the outputs fails once. And bytes changed.
+"""The table of calls that fail: for each command each call of the shelf, the disk, the input and the outputs fails once. And bytes changed.
 
     rows.py REPOSITORY          compares: the second reader has to give the answer of each row of crates/command_trials/stdin, and
                                 the table has to stand at its end, whole
     rows.py REPOSITORY write    writes the table there, with the answers of the second reader, and how many rows each group has
 
 Of each case of CASES the call number k of an object fails, for k from 0 to the number of calls that the case makes, which is the
-run in which nothing fails. A store that fails is tried twice: its bytes don't land, and do. Behind them come files, frames and
-scripts with one byte changed, or cut at each place, and runs of events in files of version 2. The program has no part in it.
+run in which nothing fails. A store that fails is tried twice: its bytes don't land, and do. A write to the disk that fails is tried with
+none, some and all of its bytes. What the journal then holds is told by an export. Behind them come files, journals, frames and scripts
+with one byte changed, or cut at each place, and runs of events in files of version 2. The program has no part in it.
 """
 
 import pathlib
@@ -16,7 +17,7 @@ from collections import namedtuple
 sys.dont_write_bytecode = True
 sys.path[:0] = [str(pathlib.Path(__file__).parent), str(pathlib.Path(__file__).parent.parent / "tools")]
 
-from egw_bytes import DELETE, FALLING, INSERT, MARK, content, content_2, event_bytes, frame, number, record, run, sized  # noqa: E402
+from egw_bytes import DELETE, FALLING, INSERT, MARK, batch, content, content_2, event_bytes, frame, number, record, run, sized  # noqa: E402
 from outside import OBJECTS, Reader, Rows, escaped  # noqa: E402
 
 ROOT = pathlib.Path(sys.argv[1])
@@ -24,8 +25,9 @@ TRIALS = ROOT / "crates" / "command_trials"
 FIRST = "named bytes of the table of calls that fail"
 
 # What a case runs: its title, the words, which named bytes each file has, the input, and what the next run meets besides. NEW in the
-# words is a name that no run before has used. The limits are those of the program, or events, waiting, input and body.
-Case = namedtuple("Case", "title words files input more limits", defaults=({}, b"", (), "program"))
+# words is a name that no run before has used. The limits are those of the program, or events, waiting, input and body. The journal is
+# named bytes, where the line has use for it.
+Case = namedtuple("Case", "title words files input more limits journal", defaults=({}, b"", (), "program", None))
 
 
 def typed(agent, text, position=0):
@@ -60,8 +62,22 @@ FILES = {
     "xyz_2": content_2([b"b"], [run(0, 0, [], INSERT, 0, b"xyz")], 3),
     "both_2": content_2([b"a", b"b"], [run(0, 0, [], INSERT, 0, b"abc"), run(1, 0, [], INSERT, 0, b"xyz")], 6),
     "abcQ_2": content_2([b"a", b"b"], [run(0, 0, [], INSERT, 0, b"abc"), run(1, 0, [2], INSERT, 3, b"Q")], 4),
+    "abcxy_2": content_2([b"a", b"b"], [run(0, 0, [], INSERT, 0, b"abc"), run(1, 0, [2], INSERT, 3, b"xy")], 5),
     "marked_2": content_2([b"a", b"b"], [run(0, 0, [], INSERT, 0, b"a"), run(0, 1, [0], MARK, None, b"m_1"), run(1, 0, [1], INSERT, 1, b"Q")], 3),
     "unreduced_2": content_2([b"a", b"b"], [run(0, 0, [], INSERT, 0, b"ab"), run(1, 0, [0, 1], INSERT, 0, b"X")], 3),
+}
+# Journals: two words in a batch each, what ends them, and such that are refused.
+BATCH_ABC = batch([inserts(b"a", n, [(b"a", n - 1)] if n else [], n, ch) for n, ch in enumerate("abc")])
+BATCH_XY = batch([inserts(b"b", 0, [(b"a", 2)], 3, "x"), inserts(b"b", 1, [(b"b", 0)], 4, "y")])
+SHUT = bytes(1)
+JOURNALS = {
+    "none": b"",
+    "begun": SHUT,
+    "abc": BATCH_ABC + SHUT,
+    "abcxy": BATCH_ABC + BATCH_XY + SHUT,
+    "torn": BATCH_ABC + SHUT + BATCH_XY[1:9],
+    "cut": BATCH_ABC + BATCH_XY[:-1],
+    "unready": BATCH_ABC + batch([inserts(b"b", 1, [(b"a", 2)], 3, "x")]) + SHUT,
 }
 HAVE = frame(1, number(1) + b"\x01a" + number(2))
 EVENTS = frame(2, number(1) + inserts(b"b", 0, [(b"a", 2)], 3, "Q"))
@@ -161,6 +177,27 @@ CASES = [
     Case("net by a line that is refused", "net", {}, b"peer a\nins a 0 x\nshow b\n"),
     Case("net past the limit of events", "net", {}, b"peer a\nins a 0 abc\nins a 0 x\n", (), "3 1 64 668"),
     Case("net past the limit of the input", "net", {}, b"peer a\n" + b"agree\n" * 10, (), "3 1 64 668"),
+    Case("watch", "watch --agent b", {}, b"ins 3 Q\ndel 0 0\n\nins 0 RS\n", journal="abc"),
+    Case("watch, in pieces", "watch --agent b", {}, b"ins 3 Q\nmark m\n", ("slow 4", "piece 3"), journal="abcxy"),
+    Case("watch over no journal", "watch --agent a", {}, b"ins 0 ab\n", journal="none"),
+    Case("watch over a journal without a batch", "watch --agent a", {}, b"ins 0 a\n", journal="begun"),
+    Case("watch over the rest of a torn batch", "watch --agent a", {}, b"ins 0 a\n", journal="torn"),
+    Case("watch of a line of three batches", "watch --agent a", {}, b"ins 0 abcde\ndel 0 1\n", (), "9 1 64 1332", "none"),
+    Case("watch of no lines", "watch --agent b", journal="abc"),
+    Case("watch of lines that make no events", "watch --agent b", {}, b"ins 0 \ndel 3 0\n", journal="none"),
+    Case("watch of a line that is unreadable", "watch --agent b", {}, b"ins 0 x\nins 00 x", journal="abc"),
+    Case("watch of a line that is out of range", "watch --agent b", {}, b"ins 0 x\nins 9 x\nins 0 y", journal="abc"),
+    Case("watch past the limit of events", "watch --agent b", {}, b"ins 0 x\nins 0 yz", (), "5 1 64 2000", "abc"),
+    Case("watch past the limit of the input", "watch --agent b", {}, b"ins 0 " + b"x" * 60, (), "9 1 64 2000", "abc"),
+    Case("watch over a journal that is cut", "watch --agent b", {}, b"ins 0 x", journal="cut"),
+    Case("watch over a journal with a bad event", "watch --agent b", {}, b"ins 0 x", journal="unready"),
+    Case("watch over a journal past the limit of events", "watch --agent b", {}, b"ins 0 x", (), "4 1 64 2000", "abcxy"),
+    Case("export", "export NEW", journal="abcxy"),
+    Case("export of no journal", "export NEW", journal="none"),
+    Case("export, where the file is there", "export F", F, journal="none"),
+    Case("export of a journal that is cut", "export NEW", journal="cut"),
+    Case("export of a journal with a bad event", "export NEW", journal="unready"),
+    Case("export of a journal past the limit of events", "export NEW", {}, b"", (), "4 1 64 2000", "abcxy"),
     Case("make", "make --seed 7 --count 3"),
     Case("make, in pieces", "make --seed 7 --count 3", {}, b"", ("piece 9",)),
     Case("make of no events", "make --seed 18446744073709551615 --count 0"),
@@ -172,7 +209,7 @@ CASES = [
 ]
 
 # Lines that are tried with each room up to the one that is enough.
-ROOMED = [Case("cat", "cat F", F), Case("merge", "merge F G", FG), Case("serve", "serve F", F, EVENTS + BYE)]
+ROOMED = [Case("cat", "cat F", F), Case("merge", "merge F G", FG), Case("serve", "serve F", F, EVENTS + BYE), Case("watch", "watch --agent b", {}, b"ins 3 Q\nins 0 RS\n", journal="abc")]
 
 # A change of one byte of the file of one letter, and what has to be told of it: worked out by hand.
 CHANGES = [
@@ -237,6 +274,8 @@ class Table:
         for name, data in FILES.items():
             self.ready(f"bytes {name}_undigested {spelled(data)}")
             self.ready(f"sealed {name}_file {name}_undigested")
+        for name, data in JOURNALS.items():
+            self.ready(f"bytes {name}_journal {spelled(data)}".rstrip(" "))
 
     def run(self, case, *settings):
         """A run of a case, and all that is asked of it."""
@@ -244,27 +283,43 @@ class Table:
         self.fresh += 1
         for file, name in case.files.items():
             self.ready(f"file {file} {name}_file")
+        if case.journal:
+            self.ready(f"journal {case.journal}_journal")
         for row in [*case.more, *settings, *([f"in {spelled(case.input)}"] if case.input else [])]:
             self.ready(row)
         self.ask(f"run {words}")
+        self.made = dict(self.rows.outside.made), self.rows.outside.stores, self.rows.outside.writes
         self.ask("calls")
-        if self.rows.outside.taken["out"]:
+        self.printed = len(self.rows.outside.taken["out"])
+        if self.printed:
             self.ask("flushed")
         named = {data: name for name, data in self.rows.bytes.items() if name.endswith("_file")}
         for file in case.files or [word for word in words.split(" ")[1:] if word[0] in "NFG"]:
             found = self.rows.outside.files.get(file, self.rows.bytes["empty_file"])
             self.ask(f"same {file} {named[found]}")
+        if case.journal:
+            self.ask(f"kept {case.journal}_journal")
+            self.show_journal()
+
+    def show_journal(self):
+        """What the journal holds, shown by an export."""
+        self.ask(f"run export J{self.fresh}")
+        if f"J{self.fresh}" in self.rows.outside.files:
+            self.ask(f"run log J{self.fresh}")
 
     def add(self, case):
         """All rows of a case: each call fails, and then none of them. Nothing tells that number of the error output's calls."""
         self.begin(case.limits, f"each call fails: {case.title}")
         self.run(case)
-        made, stores = dict(self.rows.outside.made), self.rows.outside.stores
+        made, stores, writes = self.made
         for what in OBJECTS:
             for k in range(made[what] + 1):
                 self.run(case, f"fail {what} {k}")
                 if what == "shelf" and k in stores:
                     self.run(case, f"fail {what} {k}", f"land {k}")
+                if what == "disk" and k in writes:
+                    for tear in sorted({1, writes[k] // 2, writes[k]} - {0}):
+                        self.run(case, f"fail {what} {k}", f"tear {tear}")
 
     def file_bytes(self, name, data, asked="cat F"):
         """A file of these bytes, with their digest behind them."""
@@ -278,7 +333,7 @@ class Table:
         for case in ROOMED:
             self.begin("program", f"an output without room: {case.title}")
             self.run(case)
-            for room in range(len(self.rows.outside.taken["out"]) + 1):
+            for room in range(self.printed + 1):
                 self.run(case, f"room {room}")
 
     def add_changes(self):
@@ -395,6 +450,21 @@ class Table:
                     self.ask(f"run {words}")
                     self.ask("same F abc_file")
 
+    def add_journals(self):
+        """A journal with each byte made 255, with one added to each byte, and cut at each place: what an export finds."""
+        whole = JOURNALS["abcxy"]
+        for how, journals in (
+            ("with each byte made 255", [whole[:place] + b"\xff" + whole[place + 1 :] for place in range(len(whole))]),
+            ("with one added to each byte", [whole[:place] + number((whole[place] + 1) % 256, 1) + whole[place + 1 :] for place in range(len(whole))]),
+            ("that is cut at each place", [whole[:size] for size in range(len(whole))]),
+        ):
+            self.begin("program", f"a journal {how}")
+            for journal in journals:
+                self.fresh += 1
+                self.ready(f"bytes changed_journal {spelled(journal)}".rstrip(" "))
+                self.ready("journal changed_journal")
+                self.show_journal()
+
     def text(self):
         return "\n\n".join("\n".join(group) for group in self.groups) + "\n"
 
@@ -411,6 +481,7 @@ def make_table(reader):
     table.add_boundaries()
     table.add_upgrades()
     table.add_inputs()
+    table.add_journals()
     return table.text()
 
 

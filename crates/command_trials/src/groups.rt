@@ -66,6 +66,9 @@ fn answer(world: &World, last: Option<&Ran>, verb: &str, rest: &str) -> Result<S
     if verb == "same" {
         return Ok(String::from_str(alloc, world.same(rest)?)?);
     }
+    if verb == "kept" {
+        return Ok(String::from_str(alloc, world.kept(rest)?)?);
+    }
     let last = last.ok_or(Fault::Unreadable)?;
     match verb {
         "run" => Ok(last.answer(alloc)?),

@@ -6,6 +6,7 @@ use crate::slow::Slow;
 use crate::words::{line_words, push_escaped};
 use crate::world::World;
 use command_runs::start::run_uncounted;
+use event_journal::{MemDisk, Tear};
 use ew_model::NoMem;
 use std::alloc::Global;
 use std::fmt::Write;
@@ -17,6 +18,7 @@ use trial_rows::fault::Fault;
 #[derive(Drop)]
 pub struct Ran {
     status: u8,
+    disk: MemDisk,
     source: Slow,
     out: Narrow,
     err: Narrow,
@@ -27,6 +29,8 @@ fn run_over(world: &mut World, words: &[String], setting: Setting) -> Result<Ran
     let Setting {
         input,
         given,
+        disk,
+        tear,
         source,
         out,
         err,
@@ -38,18 +42,23 @@ fn run_over(world: &mut World, words: &[String], setting: Setting) -> Result<Ran
     let mut source = Slow::new(input, given, source);
     let mut out = Narrow::new(world.alloc, room, piece, out)?;
     let mut err = Narrow::new(world.alloc, ROOM, err_piece, err)?;
-    let status = run_uncounted::<Brand, _, _, _, _>(
+    let journal = world.journal.to_vec(world.alloc)?;
+    let mut disk = MemDisk::new(world.alloc, journal, disk, Tear::Front { count: tear })?;
+    let status = run_uncounted::<Brand, _, _, _, _, _>(
         world.alloc,
         Blank::new(1),
         words,
         &world.limits,
         &mut world.shelf,
+        &mut disk,
         &mut source,
         &mut out,
         &mut err,
     );
+    world.journal = disk.bytes().to_vec(world.alloc)?;
     Ok(Ran {
         status,
+        disk,
         source,
         out,
         err,
@@ -101,11 +110,14 @@ impl Ran {
     /// How often each object was called, and how many bytes of the input are left.
     pub fn calls(&self, world: &World) -> Result<String, NoMem> {
         let shelf = world.shelf.calls.made();
+        let disk = self.disk.made().len();
         let source = self.source.source.calls.made();
         let out = self.out.sink.calls.made();
         let err = self.err.sink.calls.made();
         let left = self.source.source.left.as_slice().len();
-        format!(in world.alloc; "shelf {shelf} source {source} out {out} err {err} left {left}")
+        format!(in world.alloc;
+            "shelf {shelf} disk {disk} source {source} out {out} err {err} left {left}"
+        )
     }
 
     /// How many bytes of the output are flushed.

@@ -7,13 +7,15 @@ use trial_rows::fault::Fault;
 use trial_rows::words::first_word;
 
 /// The input of a run and how many bytes it gives at a time, the numbers of the calls that fail, of the stores that land though they
-/// fail, for how many bytes the output has room, and how many bytes each output takes at a time.
+/// fail, how many bytes land of a write to the disk that fails, for how many bytes the output has room, and how many bytes each output takes at a time.
 #[derive(Drop)]
 pub struct Setting {
     pub input: Vec<u8>,
     pub given: usize,
     pub shelf: Vec<u64>,
     pub landing: Vec<u64>,
+    pub disk: Vec<u64>,
+    pub tear: usize,
     pub source: Vec<u64>,
     pub out: Vec<u64>,
     pub err: Vec<u64>,
@@ -30,6 +32,8 @@ impl Setting {
             given: usize::MAX,
             shelf: Vec::new(alloc),
             landing: Vec::new(alloc),
+            disk: Vec::new(alloc),
+            tear: 0,
             source: Vec::new(alloc),
             out: Vec::new(alloc),
             err: Vec::new(alloc),
@@ -45,6 +49,7 @@ impl Setting {
         let calls = numbers(alloc, calls)?;
         match object {
             "shelf" => self.shelf = calls,
+            "disk" => self.disk = calls,
             "source" => self.source = calls,
             "out" => self.out = calls,
             "err" => self.err = calls,

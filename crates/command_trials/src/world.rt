@@ -1,4 +1,4 @@
-//! What the rows of a group run over: files, named bytes, and what the next run is to meet.
+//! What the rows of a group run over: files, the journal's bytes, named bytes, and what the next run is to meet.
 
 use crate::setting::Setting;
 use crate::words::{number, numbers};
@@ -14,6 +14,7 @@ pub struct World {
     pub alloc: Global,
     pub limits: Limits,
     pub shelf: MemShelf,
+    pub journal: Vec<u8>,
     pub bytes: FileMap,
     pub next: Setting,
 }
@@ -24,15 +25,17 @@ impl World {
             alloc,
             limits: Limits::program(),
             shelf: MemShelf::new(alloc, Vec::new(alloc), Vec::new(alloc)),
+            journal: Vec::new(alloc),
             bytes: FileMap::new(alloc),
             next: Setting::new(alloc),
         }
     }
 
-    /// Begins a group: an empty shelf, under these limits. Named bytes stay.
+    /// Begins a group: an empty shelf and an empty disk, under these limits. Named bytes stay.
     pub fn begin(&mut self, limits: Limits) {
         self.limits = limits;
         self.shelf.files = FileMap::new(self.alloc);
+        self.journal = Vec::new(self.alloc);
         self.next = Setting::new(self.alloc);
     }
 
@@ -105,6 +108,7 @@ impl World {
             "front" => self.name_front(rest)?,
             "sealed" => self.name_sealed(rest)?,
             "file" => self.store(rest)?,
+            "journal" => self.journal = self.named(rest)?.to_vec(self.alloc)?,
             _ => return self.set(verb, rest),
         }
         Ok(true)
@@ -116,6 +120,7 @@ impl World {
             "in" => self.next.input = unescaped(self.alloc, rest)?,
             "in_bytes" => self.next.input = self.named(rest)?.to_vec(self.alloc)?,
             "fail" => self.next.fail(self.alloc, rest)?,
+            "tear" => self.next.tear = number(rest)? as usize,
             "land" => self.next.landing = numbers(self.alloc, rest)?,
             "slow" => self.next.given = number(rest)? as usize,
             "room" => self.next.room = number(rest)? as usize,
@@ -124,6 +129,15 @@ impl World {
             _ => return Ok(false),
         }
         Ok(true)
+    }
+
+    /// Whether the journal has these bytes: `NAME`.
+    pub fn kept(&self, name: &str) -> Result<&'static str, Fault> {
+        if self.journal.as_slice() == self.named(name)? {
+            Ok("yes")
+        } else {
+            Ok("no")
+        }
     }
 
     /// Whether a file has these bytes: `FILE NAME`.
