@@ -164,7 +164,7 @@ def command_of(words):
 
 def shape_of(text):
     """An error text without its names and numbers."""
-    text = re.sub(rb"^egw: (?!line|frame|input|file |no file|clash|unknown|more than|\d+ heads|shelf|source|sink)[^:]*: ", b"egw: F: ", text)
+    text = re.sub(rb"^egw: (?!line|frame|input|journal|file |no file|clash|unknown|more than|\d+ heads|shelf|disk|source|sink)[^:]*: ", b"egw: F: ", text)
     text = re.sub(rb"(no file|file|clash|unknown|no peer|peer) [^\n]*?( is there)?\n", rb"\1 NAME\2\n", text)
     return re.sub(rb"[0-9a-f]{64}|[0-9]+", b"N", text).decode(errors="replace").strip()
 

@@ -23,6 +23,8 @@ USAGE = b"""usage: egw new FILE
        egw make --seed N --count N
        egw marks FILE
        egw upgrade FILE
+       egw watch --agent NAME
+       egw export FILE
 """
 
 Id = namedtuple("Id", "agent seq")  # a name's bytes and a number: compared in this order, as the page wants it

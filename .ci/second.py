@@ -10,7 +10,7 @@ sys.dont_write_bytecode = True
 sys.path[:0] = [str(pathlib.Path(__file__).parent), str(pathlib.Path(__file__).parent.parent / "tools")]
 
 from beside import FOLDER, ROOT, Alone, Beside, list_all, reader  # noqa: E402
-from egw_bytes import DELETE, FALLING, INSERT, MARK, content, content_2, counted, event_bytes, frame, id_bytes, number, record, run, with_digest  # noqa: E402
+from egw_bytes import DELETE, FALLING, INSERT, MARK, batch, content, content_2, counted, event_bytes, frame, id_bytes, number, record, run, with_digest  # noqa: E402
 from histories import MOST_EVENTS, MOST_FILE, MOST_INPUT, USAGE, Draws, Event, History, Id, Op, file_of, parts_of  # noqa: E402
 
 SEED = 2718281828
@@ -684,7 +684,7 @@ def scripts(beside, draws):
 # Lines of words
 
 
-WORDS = ["new", "edit", "cat", "heads", "log", "check", "merge", "replay", "ask", "serve", "make", "net", "marks", "upgrade", "F", "F", "F", "G", "--agent", "--agent", "--agent=a", "--agent=", "--agent==a", "a",
+WORDS = ["watch", "export", "new", "edit", "cat", "heads", "log", "check", "merge", "replay", "ask", "serve", "make", "net", "marks", "upgrade", "F", "F", "F", "G", "--agent", "--agent", "--agent=a", "--agent=", "--agent==a", "a",
          "-", "--", "--", "", "-h", "--help", "help", "-V", "--version", "--at", "--at", "--at=", "--at=root", "--at=a:1", "root", "a:0", "a:2,a:0", "b:0", "--seed", "--seed=7", "--count", "--count=3", "7", "-F", "--agents", "--agen", "-agent", "---", "--=", "a" * 32, "a" * 33, "-1", "ä", "-ä", "=", "a b"]
 TAKEN = [["edit", "F", "--agent", "a"], ["edit", "--agent", "a", "F"], ["edit", "--agent=a", "--", "F"], ["edit", "F", "--agent=a"], ["edit", "--agent", "a", "--", "-F"],
          ["edit", "F", "--", "--agent", "a"], ["edit", "F", "--agent", "--", "a"], ["edit", "F", "--agent", "a", "--agent", "a"], ["edit", "F", "--agent", "a", "--agent=a"],
@@ -716,6 +716,12 @@ TAKEN = [["edit", "F", "--agent", "a"], ["edit", "--agent", "a", "F"], ["edit", 
          ["marks", "F", "--agent", "a"], ["marks", "F", "--at", "a:0"], ["marks", "F", "--help"], ["help", "marks"], ["Marks", "F"], ["mark", "F"], ["marks ", "F"], [b"marks", b"\xff"],
          ["upgrade", "F"], ["upgrade"], ["upgrade", "F", "G"], ["upgrade", "F", "F"], ["upgrade", "--", "F"], ["upgrade", "F", "--"], ["upgrade", "--", "-F"], ["upgrade", "-F"], ["upgrade", "G"], ["upgrade", "nowhere"],
          ["upgrade", ""], ["upgrade", "F", "--agent", "a"], ["upgrade", "F", "--at", "a:0"], ["upgrade", "F", "--help"], ["help", "upgrade"], ["Upgrade", "F"], ["upgrades", "F"], ["upgrade ", "F"], [b"upgrade", b"\xff"],
+         ["watch", "--agent", "a"], ["watch"], ["watch", "--agent"], ["watch", "--agent=a"], ["watch", "--agent=a", "--"], ["watch", "--", "--agent", "a"], ["watch", "--agent", "a", "F"], ["watch", "F", "--agent", "a"],
+         ["watch", "--agent", "a", "--", "F"], ["watch", "--agent", "-a"], ["watch", "--agent=-a"], ["watch", "--agent", ""], ["watch", "--agent="], ["watch", "--agent", "-"], ["watch", "--agent", "a" * 32], ["watch", "--agent", "a" * 33],
+         ["watch", "--agent", "a.b"], ["watch", "--agent", "a", "--agent", "a"], ["watch", "--agent=a", "--agent=b"], ["watch", "--at", "root"], ["watch", "--agent", "a", "--at", "root"], ["watch", "--agent", "a", "--help"], ["watch", ""],
+         ["watch", "-"], ["help", "watch"], ["Watch", "--agent", "a"], ["watches", "--agent", "a"], ["--agent", "a", "watch"], [b"watch", b"--agent", b"\xff"],
+         ["export", "E"], ["export", "E"], ["export"], ["export", "F"], ["export", "E2", "F"], ["export", "--", "E3"], ["export", "E4", "--"], ["export", "--", "-E"], ["export", "-E"], ["export", ""], ["export", "-"],
+         ["export", "nowhere/E"], ["export", "F/E"], ["export", "E5", "--agent", "a"], ["export", "E5", "--at", "root"], ["export", "E5", "--help"], ["help", "export"], ["Export", "E5"], ["exports", "E5"], [b"export", b"\xff"],
          ["make", "--seed", "1", "--count", "1"], ["make", "--count", "1", "--seed", "1"], ["make", "--seed=1", "--count=1"], ["make", "--seed=1", "--count", "1"], ["make", "--count=1", "--seed", "1"],
          ["make", "--seed", "1"], ["make", "--count", "1"], ["make"], ["make", "--seed", "1", "--count"], ["make", "--seed", "--count", "1"], ["make", "--seed=", "--count=1"], ["make", "--seed=1", "--count="],
          ["make", "--seed=1", "--seed=1", "--count=1"], ["make", "--seed=1", "--count=1", "--count=1"], ["make", "--seed=1", "--count=1", "--"], ["make", "--", "--seed=1", "--count=1"],
@@ -742,7 +748,7 @@ def words(beside, draws):
     beside.run("new", "F")
     beside.run("edit", "F", "--agent", "a", input=b"ins 0 abc")
     beside.copy("F", "kept")
-    lines = TAKEN + [[draws.one_of(WORDS[:14])] + [draws.one_of(WORDS) for _ in range(draws.below(6))] for _ in range(400)]
+    lines = TAKEN + [[draws.one_of(WORDS[:16])] + [draws.one_of(WORDS) for _ in range(draws.below(6))] for _ in range(400)]
     lines += [["edit"] + [draws.one_of(["F", "--agent", "--agent=a", "a", "--", "-", "-x", ""]) for _ in range(1 + draws.below(5))] for _ in range(200)]
     lines += [["cat"] + [draws.one_of(["F", "F", "--at", "--at=a:1", "a:0", "root", "b:0", "--", "-", "-x", ""]) for _ in range(1 + draws.below(5))] for _ in range(200)]
     lines += [["make"] + [draws.one_of(["--seed", "--seed=7", "--count", "--count=3", "5", "5", "+4", "-", "--", "F"]) for _ in range(1 + draws.below(5))] for _ in range(200)]
@@ -750,6 +756,65 @@ def words(beside, draws):
         beside.run(*line, input=b"ins 0 x")
     beside.clear()
     return len(lines)
+
+
+# Journals
+
+
+def letter(agent, seq, parents, at=0, ch="x"):
+    """An insertion in a batch."""
+    return event_bytes((agent, seq), parents, INSERT, at, ord(ch))
+
+
+ROOT_A, ROOT_B = letter(b"a", 0, []), letter(b"b", 0, [])
+ONE_A, ONE_B = (b"a", 0), (b"b", 0)
+# Of each journal its batches, each a list of events.
+JUDGED = [
+    [[ROOT_A], [ROOT_A]], [[ROOT_A, letter(b"a", 0, [], 0, "y")]], [[letter(b"a", 0, [ONE_A])]], [[ROOT_A, ROOT_B], [letter(b"c", 0, [ONE_B, ONE_A])]], [[ROOT_A], [letter(b"c", 0, [ONE_A, ONE_A])]],
+    [[letter(b"b", 0, [(b"a", n) for n in range(17)])]], [[letter(b"b", 0, [(b"a", n) for n in range(255)])]], [[ROOT_A, letter(b"b", 0, [ONE_A, (b"z", 9)])]], [[ROOT_A, letter(b"a", 1, [ONE_A]), letter(b"b", 0, [ONE_A, (b"a", 1)])]],
+    [[ROOT_A, letter(b"a", 2, [ONE_A])]], [[ROOT_A, letter(b"a", 1, [])]], [[ROOT_A], [letter(b"b", 0, [ONE_A], 2)]], [[ROOT_A], [ROOT_B], [event_bytes((b"c", 0), [ONE_A, ONE_B], MARK, b"m")]],
+    [[ROOT_A], [event_bytes((b"b", 0), [ONE_A], DELETE, 1)]], [[letter(b"p%02d" % n, 0, []) for n in range(17)]], [[], [ROOT_A]], [[ROOT_A], []],
+]
+
+
+def journals(beside, draws):
+    """Scripts that are kept one after another, and what exports make of them; then journals with bytes that are changed, cut or put behind."""
+    beside.part = "journals"
+    count = 0
+    for _ in range(12):
+        letters = 0
+        for n in range(1 + draws.below(5)):
+            script = draw_script(draws, letters) if draws.below(4) else draws.one_of([b"mark m\nins 0 x", b"ins 0 x\nnonsense", b"ins 0 ab\ndel 9999 1\nins 0 y", b"", b"del 0 0", b"ins 0 " + b"x" * 1700])
+            beside.run("watch", "--agent", draws.one_of(["a", "b", "ab"]), input=script)
+            beside.run("export", f"E{n}")
+            letters = len(beside.run("cat", f"E{n}")[1].decode())
+        list_all(beside, f"E{n}")
+        whole = (beside.sides[0][0] / "egw.journal").read_bytes()
+        for _ in range(12):
+            place, byte = draws.below(len(whole) + 1), bytes([draws.below(256)])
+            changed = draws.one_of([whole[:place], whole[:place] + byte + whole[place + 1 :], whole + byte * draws.below(9), whole[:place] + byte + whole[place:]])
+            count += 1
+            exported(beside, changed)
+        beside.clear()
+    for batches in JUDGED:
+        count += 1
+        exported(beside, b"".join(map(batch, batches)) + b"\0")
+    for line in LINES:
+        exported(beside, batch([ROOT_A]) + b"\2rest", line + b"\nins 0 z")
+    beside.clear()
+    return count
+
+
+def exported(beside, journal, script=b"ins 0 y"):
+    """What an export makes of a journal, and a watch of it."""
+    beside.file("egw.journal", journal)
+    if beside.run("export", "X")[0] == 0:
+        list_all(beside, "X")
+    beside.run("watch", "--agent", "c", input=script)
+    beside.run("export", "Y")
+    for folder, _ in beside.sides:
+        for name in ("X", "Y"):
+            (folder / name).unlink(missing_ok=True)
 
 
 # Made histories
@@ -905,6 +970,8 @@ def limits(beside):
         beside.run("net", input=b"\n" * (MOST_INPUT + more))
         beside.run("net", input=b"peer a\nins a 1 x\nins a 0 " + b"x" * (MOST_INPUT - 24 + more))
         beside.run("net", input=b"peer a\nins a 0 \nshow " + b"a" * (31 + more) + b"\nins a 0 " + b"x" * 1_000_000)
+    for more in (0, 1):
+        beside.run("watch", "--agent", "a", input=b"\n" * (MOST_INPUT + more))
     beside.run("edit", "F", "--agent", "a", input=b"\n" * MOST_INPUT)
     beside.run("edit", "F", "--agent", "a", input=b"\n" * (MOST_INPUT + 1))
     beside.run("edit", "F", "--agent", "a", input=b"ins 1 " + b"x" * (MOST_INPUT - 6))
@@ -993,6 +1060,28 @@ def refusals(beside):
     beside.run("serve", "nowhere", input=FOLDER)
     beside.run("make", "--seed", "1", "--count", "5", input=FOLDER)
     beside.run("net", input=FOLDER)
+    beside.run("watch", "--agent", "a", input=FOLDER)
+    with open("/dev/full", "wb") as full:
+        beside.run("watch", "--agent", "a", input=b"ins 0 x\nins 0 y", out=full)
+        beside.run("watch", "--agent", "a", input=b"ins 9 x", err=full)
+        beside.run("export", "E", out=full)
+        beside.run("export", "F", err=full)
+    for name in ("folder", "F/x", "nowhere/x", "loop", "dangling", "link", "n" * 250, "n" * 256, "."):
+        beside.run("export", name)
+    for folder, _ in beside.sides:
+        (folder / "egw.journal").unlink()
+        (folder / "egw.journal").mkdir()
+    beside.run("watch", "--agent", "a", input=b"ins 0 x")
+    beside.run("watch", "--agent", "a", input=FOLDER)
+    beside.run("export", "G")
+    beside.run("export", "F")
+    for target in ("kept_elsewhere", "nowhere/x", "/dev/full"):
+        for folder, _ in beside.sides:
+            path = folder / "egw.journal"
+            path.unlink() if path.is_symlink() else path.rmdir()
+            path.symlink_to(target)
+        beside.run("watch", "--agent", "a", input=b"ins 0 x")
+        beside.run("export", "H" + target[:1].replace("/", "d"))
     beside.clear()
 
 
@@ -1004,11 +1093,13 @@ WANTED += [(4, f"egw: F: event N: {fault}") for fault in ("not reduced", "skippe
 WANTED += [(5, "egw: line N: unreadable"), (5, "egw: line N: out of range, length N"), (5, "egw: clash NAME"), (5, "egw: unknown NAME")]
 WANTED += [(5, f"egw: line N: {fault}") for fault in ("no peer NAME", "peer NAME is there", "no packet N")]
 WANTED += [(5, f"egw: frame N: {fault}") for fault in ("cut", "bad kind N", "too long, N", "bad body")]
-WANTED += [(6, f"egw: {what} failed") for what in ("shelf", "source", "sink")]
+WANTED += [(4, "egw: journal: byte N: bad batch")]
+WANTED += [(4, f"egw: journal: event N: {fault}") for fault in ("repeat", "clash", "own parent", "too many parents", "parents unsorted", "unknown NAME", "not reduced", "skipped", "out of range, length N")]
+WANTED += [(6, f"egw: {what} failed") for what in ("shelf", "disk", "source", "sink")]
 WANTED += [(7, "egw: F: more than N bytes"), (7, "egw: F: more than N events"), (7, "egw: input: more than N bytes"), (7, "egw: N heads, more than N")]
-# (`egw: more than N events` wants a history at the limit: the rows of command_trials have it at small limits.)
+# (`egw: more than N events` wants a history at the limit, and `egw: journal: more than N events` a journal beyond it: the rows of command_trials have it at small limits.)
 # And each status that a command may come to, but for memory.
-STATUSES = {"cat --at": (0, 2, 3, 4, 5, 6, 7), "replay": (0, 2, 3, 4, 6, 7), "ask": (0, 2, 3, 4, 6, 7), "serve": (0, 2, 3, 4, 5, 6, 7), "make": (0, 2, 6), "net": (0, 2, 5, 6, 7), "marks": (0, 2, 3, 4, 6, 7), "upgrade": (0, 2, 3, 4, 6, 7)}
+STATUSES = {"cat --at": (0, 2, 3, 4, 5, 6, 7), "replay": (0, 2, 3, 4, 6, 7), "ask": (0, 2, 3, 4, 6, 7), "serve": (0, 2, 3, 4, 5, 6, 7), "make": (0, 2, 6), "net": (0, 2, 5, 6, 7), "marks": (0, 2, 3, 4, 6, 7), "upgrade": (0, 2, 3, 4, 6, 7), "watch": (0, 2, 4, 5, 6, 7), "export": (0, 2, 3, 4, 6)}
 
 
 def main():
@@ -1024,6 +1115,7 @@ def main():
     asked = versions(beside, draws)
     scripts_run = scripts(beside, draws)
     lines = words(beside, draws)
+    kept = journals(beside, draws)
     made(beside, draws)
     nets(beside, draws)
     limits(beside)
@@ -1037,7 +1129,7 @@ def main():
             if not beside.statuses[command, status]:
                 beside.wrong(f"never seen: status {status} of {command}")
     parts = ", ".join(f"{part} {count}" for part, count in beside.parts.items())
-    print(f"the second reader: {sum(beside.parts.values())} runs compared ({parts}), over {files} files, {asked} words for a version, {served} sessions, {scripts_run} scripts and {lines} lines of words")
+    print(f"the second reader: {sum(beside.parts.values())} runs compared ({parts}), over {files} files, {asked} words for a version, {served} sessions, {scripts_run} scripts, {lines} lines of words and {kept} journals")
     told = ", ".join(f"{command} {sum(beside.statuses[command, status] for status in statuses)}" for command, statuses in STATUSES.items())
     print(f"the second reader: of these {told}")
     if beside.failing:

@@ -32,6 +32,15 @@ def operation(kind, what, ch):
     return number(kind, 1) + number(what) + (b"" if ch is None else number(ch))
 
 
+# Journals
+
+
+def batch(events):
+    """An open gate, the length of a body, and the body of an Events frame."""
+    body = counted(events)
+    return b"\1" + number(len(body)) + body
+
+
 # Files
 
 

@@ -1,9 +1,9 @@
 #!/usr/bin/env python3
 """A second implementation of `egw`, written from docs/FORMATS.md alone.
 
-It has new, edit, cat, heads, log, replay, check, merge, ask, serve, net, make, marks and upgrade. Its
-authors had never seen the program, but for those of `serve`, `net`, `make` and `marks`. It reads and writes
-event files of both versions, and stores version 2.
+It has new, edit, cat, heads, log, replay, check, merge, ask, serve, net, make, marks, upgrade, watch and
+export. Its authors had never seen the program, but for those of `serve`, `net`, `make`, `marks`, `watch` and
+`export`. It reads and writes event files of both versions, and stores version 2.
 The sections follow those of the page. Python 3, nothing else.
 """
 
@@ -39,7 +39,7 @@ LINE = re.compile('ins %s (.*)|del %s %s|mark (%s)' % (NUMBER, NUMBER, NUMBER, N
 USAGE = 'usage: egw ' + '\n       egw '.join((
     'new FILE', 'edit FILE --agent NAME', 'cat FILE [--at VERSION]', 'heads FILE', 'log FILE',
     'replay FILE', 'check FILE', 'merge FILE OTHER', 'ask FILE', 'serve FILE', 'net',
-    'make --seed N --count N', 'marks FILE', 'upgrade FILE'))
+    'make --seed N --count N', 'marks FILE', 'upgrade FILE', 'watch --agent NAME', 'export FILE'))
 
 
 # An id is a pair (name, number), so ids compare as the page orders them.
@@ -613,6 +613,104 @@ def first_frame(data, number):
     return data[0], content, 5 + size
 
 
+# Journals
+
+
+JOURNAL = 'egw.journal'
+OPEN_GATE, CLOSED_GATE = b'\1', b'\0'
+
+
+def read_batches(data):
+    """The events of a journal's batches, and the place of the gate behind the last one."""
+    events, gate = [], 0
+    while len(data) > 1 and data[gate:gate + 1] == OPEN_GATE:
+        size = int.from_bytes(data[gate + 1:gate + 5], 'little')
+        end = gate + 5 + size
+        body = Body(data[gate + 5:end])
+        try:
+            batch = body.events() if size <= MAX_BODY and end < len(data) else []
+        except BadBody:
+            batch = []
+        if not batch or body.at < size:
+            raise Refusal(4, 'journal: byte %d: bad batch' % gate)
+        events += batch
+        if len(events) > MAX_EVENTS:
+            raise Refusal(7, 'journal: more than %d events' % MAX_EVENTS)
+        gate = end
+    return events, gate
+
+
+def judge_journal(events):
+    """The history of a journal's events, each of which has to be good."""
+    history = History('journal')
+    for event in events:
+        unknown = [parent for parent in event.parents if parent not in history.where]
+        if event.id in history.where:
+            raise history.not_good('repeat' if history.events[history.where[event.id]] == event else 'clash')
+        if event.id in event.parents:
+            raise history.not_good('own parent')
+        if len(event.parents) > MAX_PARENTS:
+            raise history.not_good('too many parents')
+        if list(event.parents) != sorted(set(event.parents)):
+            raise history.not_good('parents unsorted')
+        if unknown:
+            raise history.not_good('unknown %s' % spell(unknown[0]))
+        history.add(event)
+    return history
+
+
+class Disk:
+    """The journal's file in this folder, made where it isn't there, and locked until the program ends."""
+
+    def __init__(self):
+        self.file = os.open(JOURNAL, os.O_RDWR | os.O_CREAT, 0o666)
+        fcntl.flock(self.file, fcntl.LOCK_EX | fcntl.LOCK_NB)
+        folder = os.open('.', os.O_RDONLY)
+        os.fsync(folder)
+        os.close(folder)
+
+    def sync(self):
+        """Wait until what was written is kept."""
+        os.fsync(self.file)
+
+    def read(self):
+        """All bytes."""
+        return os.pread(self.file, os.fstat(self.file).st_size, 0)
+
+    def write(self, at, data):
+        """Write all bytes at a place, and wait until they are kept."""
+        while data:
+            count = os.pwrite(self.file, data, at)
+            at, data = at + count, data[count:]
+        self.sync()
+
+
+class Journal:
+    """A journal that was opened: its history, and the place of its last gate."""
+
+    def __init__(self):
+        with using('disk'):
+            self.disk = Disk()
+            self.disk.sync()
+            data = self.disk.read()
+        events, self.gate = read_batches(data)
+        if len(data) < 2:
+            with using('disk'):
+                self.disk.write(0, CLOSED_GATE)
+        self.history = judge_journal(events)
+
+    def keep(self, events):
+        """Append these events, in batches as full as they may be."""
+        count = (MAX_BODY - 4) // EVENT_ROOM
+        for at in range(0, len(events), count):
+            part = events[at:at + count]
+            body = struct.pack('<I', len(part)) + b''.join(map(event_bytes, part))
+            with using('disk'):
+                self.disk.write(self.gate + 1, struct.pack('<I', len(body)) + body + CLOSED_GATE)
+                self.disk.write(self.gate, OPEN_GATE)
+            self.gate += 5 + len(body)
+
+
 # Serving a peer
 
 
@@ -946,12 +1044,17 @@ def store(file, events):
 # Commands: each takes the files and the values of its option, and gives what is printed, a text or bytes
 
 
+def expect_none(file):
+    """Refuse a file that is there."""
+    loaded.pop(file, None)
+    with using('shelf'), contextlib.suppress(FileNotFoundError), open(file.encode(), 'rb', buffering=0) as there:
+        os.read(there.fileno(), 1)
+        raise Refusal(3, 'file %s is there' % file)
+
+
 def run_new(files, _values):
     """Make the file of no events."""
-    loaded.pop(files[0], None)
-    with using('shelf'), contextlib.suppress(FileNotFoundError), open(files[0].encode(), 'rb', buffering=0) as there:
-        os.read(there.fileno(), 1)
-        raise Refusal(3, 'file %s is there' % files[0])
+    expect_none(files[0])
     store(files[0], [])
     return ''
 
@@ -1057,6 +1160,29 @@ def run_upgrade(files, _values):
     return 'version %d events %d\n' % (history.file_version, len(history.events))
 
 
+def run_watch(_files, values):
+    """Do the edits of a script, keep the events of each line in the journal, and tell of each line that is kept."""
+    journal = Journal()
+    with using('source'):
+        script = read_all(0, MAX_INPUT, 'input')
+    for number, edit in parse_script(script, parse_line):
+        before = len(journal.history.events)
+        do_edit(journal.history, values[0], number, edit)
+        made = journal.history.events[before:]
+        journal.keep(made)
+        if made:
+            with using('sink'):
+                write_all(1, b'kept %d\n' % len(made))
+    return ''
+
+
+def run_export(files, _values):
+    """Store the file of the journal's events."""
+    expect_none(files[0])
+    store(files[0], Journal().history.events)
+    return ''
+
+
 def run_net(_files, _values):
     """Run a net script; nothing is printed unless all lines were run."""
     with using('source'):
@@ -1143,6 +1269,7 @@ COMMANDS = {'new': (run_new, 1, {}), 'edit': (run_edit, 1, {'--agent': (1, parse
             'log': (run_log, 1, {}), 'marks': (run_marks, 1, {}), 'replay': (run_replay, 1, {}),
             'check': (run_check, 1, {}), 'ask': (run_ask, 1, {}), 'serve': (run_serve, 1, {}),
             'upgrade': (run_upgrade, 1, {}), 'merge': (run_merge, 2, {}), 'net': (run_net, 0, {}),
+            'watch': (run_watch, 0, {'--agent': (1, parse_name)}), 'export': (run_export, 1, {}),
             'make': (run_make, 0, {'--seed': (1, parse_up_to(2 ** 64 - 1)), '--count': (1, parse_up_to(MAX_MADE, '-'))})}
 
 
