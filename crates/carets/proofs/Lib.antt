@@ -1,3 +1,3 @@
-mod UpTo
-mod Held
-mod Sides
+pub mod Held
+pub mod Sides
+pub mod UpTo

@@ -33,11 +33,11 @@ use Rattle.carets.proofs.Held.{note_of, char_of_note, chars_held}
 use Rattle.carets.proofs.UpTo.{firsts, first_up_to, up_to_first, own_place, no_fewer, own_char, char_told, up_to, up_to_itself}
 
 -- THE CHARACTERS OF A GOOD HISTORY
-text_sorted : (history : List Event) → IsGood history → IsStrictlySortedBy inserted_cmp (text_chars history)
+pub text_sorted : (history : List Event) → IsGood history → IsStrictlySortedBy inserted_cmp (text_chars history)
 unfolding tree
 text_sorted history good = sorted_visible (all_entries 0 (tree_on 0 history)) (tree_apart history (good_laid_out history good))
 
-chars_apart : (history : List Event) → IsGood history → IdsApart (all_chars history)
+pub chars_apart : (history : List Event) → IsGood history → IdsApart (all_chars history)
 unfolding tree
 chars_apart history good = tree_ids_apart history (good_laid_out history good)
 
@@ -45,7 +45,7 @@ text_among : (history : List Event) (z : Inserted) → Among z (text_chars histo
 text_among history z m = ordered_among (all_entries 0 (tree history)) z (visible_among (all_entries 0 (tree history)) z m)
 
 -- the side of one of its characters
-side_of : (history : List Event) (z : Inserted) → IsGood history → Among z (all_chars history) → side history (Behind z.id) ≡ firsts z (text_chars history)
+pub side_of : (history : List Event) (z : Inserted) → IsGood history → Among z (all_chars history) → side history (Behind z.id) ≡ firsts z (text_chars history)
 side_of history z good m = ap (λ (o : Option Inserted). many_up_to o (text_chars history)) (own_char (all_chars history) z (chars_apart history good) m)
 
 -- the caret behind a character

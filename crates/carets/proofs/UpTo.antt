@@ -84,7 +84,7 @@ module _ (c : Inserted) where
       more false e lt = absurd (false≢true e)
 
   -- where one isn't, none behind it is
-  none_up_to : (zs : List Inserted) → ((z : Inserted) → Among z zs → is_up_to c z ≡ false) → firsts zs ≡ 0
+  pub none_up_to : (zs : List Inserted) → ((z : Inserted) → Among z zs → is_up_to c z ≡ false) → firsts zs ≡ 0
   none_up_to [] none = refl
   none_up_to (z ∷ zs) none =
       ap (λ (b : Bool). length (cond b (z ∷ filter (is_up_to c) zs) (filter (is_up_to c) zs))) (none z (inl refl)) ∙ none_up_to zs (λ w m. none w (inr m))

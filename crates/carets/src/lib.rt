@@ -12,7 +12,7 @@ pub fn law_own_index()
     ensures { CaretsAreAtTheirIndex }
 {}
 
-/// Two carets that were taken in one version keep their order in each history that holds the version's.
+/// Two carets that were taken in one version keep their order in each good history that holds all events of the first.
 pub fn law_order()
     ensures { CaretsKeepTheirOrder }
 {}

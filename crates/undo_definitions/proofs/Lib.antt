@@ -1,7 +1,8 @@
+pub mod Fitting
 mod Making
 mod Others
 mod Rows
 pub mod Scripts
 mod Steps
-mod Undos
+pub mod Undos
 pub mod Wants

@@ -24,13 +24,13 @@ use Rattle.undo_definitions.proofs.Scripts.{script}
 use Rattle.undo_definitions.proofs.Steps.{put_in, taken}
 
 -- A LIST THAT IS CHANGED AT A PLACE
-push_here : {X : Type 0} (front : List X) (x : X) (n : ℕ) → length front ≡ n → length (front ++ x ∷ []) ≡ suc n
+pub push_here : {X : Type 0} (front : List X) (x : X) (n : ℕ) → length front ≡ n → length (front ++ x ∷ []) ≡ suc n
 push_here front x n e = length-append front (x ∷ []) ∙ omega (arith, e)
 
-insert_here : {X : Type 0} (front rest : List X) (x : X) (n : ℕ) → length front ≡ n → insert (front ++ rest) n x ≡ (front ++ x ∷ []) ++ rest
+pub insert_here : {X : Type 0} (front rest : List X) (x : X) (n : ℕ) → length front ≡ n → insert (front ++ rest) n x ≡ (front ++ x ∷ []) ++ rest
 insert_here front rest x n e = (λ i. take_at front rest n e i ++ x ∷ drop_at front rest n e i) ∙ sym (append_assoc front (x ∷ []) rest)
 
-remove_here : {X : Type 0} (front rest : List X) (x : X) (n : ℕ) → length front ≡ n → remove (front ++ x ∷ rest) n ≡ front ++ rest
+pub remove_here : {X : Type 0} (front rest : List X) (x : X) (n : ℕ) → length front ≡ n → remove (front ++ x ∷ rest) n ≡ front ++ rest
 remove_here front rest x n e =
     let behind : drop (suc n) (front ++ x ∷ rest) ≡ rest = ap (drop (suc n)) (sym (append_assoc front (x ∷ []) rest)) ∙ drop_at (front ++ x ∷ []) rest (suc n) (push_here front x n e) in
     λ i. take_at front (x ∷ rest) n e i ++ behind i

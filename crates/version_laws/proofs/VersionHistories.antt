@@ -81,3 +81,7 @@ version_good history good = all_good_after [] history tt good (λ named. tt)
 -- The law of the histories of versions.
 pub versions_are_histories : VersionsAreHistories
 versions_are_histories history version good = record { good = version_good history good version; text = subgraph_text history version (good_laid_out history good) }
+
+-- a graph of a version's events is good
+pub part_good : (history part : List Event) (version : List Id) → IsGood history → part ≡ version_events history version → IsGood part
+part_good history part version good is = subst IsGood (sym is) (versions_are_histories history version good).good
