@@ -1,0 +1,4 @@
+pub mod Blame
+pub mod BlameLaws
+pub mod Pieces
+pub mod Widths
