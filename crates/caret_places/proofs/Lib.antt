@@ -1,0 +1,4 @@
+mod Along
+mod Insertions
+mod Standing
+mod Versions

@@ -1,0 +1,13 @@
+//! Where carets are taken in a version's text, and where they stand in that of a whole history.
+#![tactic(auto)]
+
+mod fault;
+pub mod indexes;
+mod sides;
+pub mod taking;
+mod whole;
+
+pub use fault::{CaretFault, IndexFault};
+pub use indexes::{index_of, indexes_of};
+pub use taking::{caret_at, carets_at};
+pub use whole::{caret_in_text, index_in_text};
