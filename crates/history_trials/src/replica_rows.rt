@@ -4,7 +4,7 @@ ghost use Rattle.std.specs.Prelude.{◌≤◌, length};
 
 use crate::pieces::{Pieces, receive_all, waiting};
 use crate::readback::is_read_back;
-use ew_model::event::Event;
+use ew_model::event::{Event, Op};
 use ew_model::limits::Limits;
 use ew_model::name::Name;
 use ew_model::steps::Steps;
@@ -15,7 +15,8 @@ use std::sync::ledger::Ledger;
 use trial_rows::fault::Fault;
 use trial_rows::report::Report;
 use trial_rows::show;
-use trial_rows::words::{first_word, history, id, ids, number, two_numbers, typed};
+use trial_rows::words::{event, first_word, history, id, ids, number, two_numbers, typed};
+use undo::{UndoFault, Undone, undo};
 
 /// The limits of the program, or so many events and so many that wait.
 fn limits(words: &str) -> Result<Limits, Fault> {
@@ -74,6 +75,8 @@ fn change<L: Ledger>(
     match verb {
         "ins" => insert(alloc, replica, rest, steps),
         "del" => delete(alloc, replica, rest, steps),
+        "ops" => do_all(alloc, replica, rest, steps),
+        "undo" => undo_from(alloc, replica, rest, steps),
         "load" => load(alloc, replica, rest, steps),
         "at" => text_at(alloc, replica, rest, steps),
         "back" => Ok(show::yes_or_no(alloc, is_read_back(alloc, replica, steps)?)?),
@@ -157,6 +160,65 @@ fn delete<L: Ledger>(
         return Err(Fault::Unreadable);
     }
     edited(alloc, replica.delete(agent, at, n, steps))
+}
+
+/// Operations that an agent does in a row.
+fn do_all<L: Ledger>(
+    alloc: Global,
+    replica: &mut Replica,
+    rest: &str,
+    steps: &mut Steps<L>,
+) -> Result<String, Fault> {
+    let (word, rest) = first_word(rest);
+    let agent = Name::read(word.as_bytes())?;
+    let ops = operations(alloc, rest)?;
+    if replica.awaits(&agent) {
+        return Err(Fault::Unreadable);
+    }
+    edited(alloc, replica.edit(agent, &ops, steps))
+}
+
+/// The operations, one a word, each written as that of an event.
+fn operations(alloc: Global, text: &str) -> Result<Vec<Op>, Fault> {
+    let mut ops = Vec::new(alloc);
+    for word in text.split_whitespace() {
+        let named = format!(in alloc; "a:0 {word}")?;
+        let e = event(alloc, named.as_str())?;
+        ops.push(e.op)?;
+    }
+    Ok(ops)
+}
+
+/// An agent undoes so many events, from an id on.
+fn undo_from<L: Ledger>(
+    alloc: Global,
+    replica: &mut Replica,
+    rest: &str,
+    steps: &mut Steps<L>,
+) -> Result<String, Fault> {
+    let (word, rest) = first_word(rest);
+    let agent = Name::read(word.as_bytes())?;
+    let (word, count) = first_word(rest);
+    let first = id(word)?;
+    let undone = Undone {
+        agent: first.agent,
+        first: first.seq,
+        count: number(count)?,
+    };
+    if replica.awaits(&agent) {
+        return Err(Fault::Unreadable);
+    }
+    undone_by(alloc, undo(alloc, replica, agent, &undone, steps))
+}
+
+/// The number of an undo's events, or why it is refused.
+fn undone_by(alloc: Global, answer: Result<u32, UndoFault>) -> Result<String, Fault> {
+    match answer {
+        Ok(count) => Ok(show::number(alloc, count)?),
+        Err(UndoFault::NoEvent(id)) => Ok(format!(in alloc; "unknown {id}")?),
+        Err(UndoFault::OutOfMemory) => Err(Fault::OutOfMemory),
+        Err(fault) => Ok(format!(in alloc; "{fault:?}")?),
+    }
 }
 
 /// Makes the replica anew of events, or tells why not: then it is as it was.

@@ -1,6 +1,7 @@
 -- What an edit makes may be appended, and what is kept after it.
-use Rattle.std.proofs.Common.{◌≡◌, ℕ, ◌+◌, ◌≤◌, false, List, [], ◌∷◌, ◌++◌, map, length, None, sym, ap, ◌∙◌, subst, arith}
+use Rattle.std.proofs.Common.{◌≡◌, ℕ, ◌+◌, ◌≤◌, false, List, [], ◌∷◌, ◌++◌, map, length, length-append, None, sym, ap, ◌∙◌, subst, arith}
 use Rattle.std.proofs.lemmas.List.{length-map}
+use Rattle.ew_model.specs.declared.event.Op.{Op}
 use Rattle.ew_model.specs.declared.event.Event.{Event}
 use Rattle.ew_model.specs.declared.text_op.TextOp.{TextOp}
 use Rattle.ew_model.specs.Limits.{LimitNumbers}
@@ -9,12 +10,11 @@ use Rattle.ew_model.specs.Texts.{text_of}
 use Rattle.ew_model.specs.TextLaws.{own_change}
 use Rattle.ew_model.specs.Verdicts.{IsGood}
 use Rattle.ew_model.specs.Kept.{IsKept, ReplicaState, is_awaited}
-use Rattle.ew_model.specs.Cuts.{is_critical}
-use Rattle.ew_model.specs.Edits.{Edit, ops_of, events_of_edit, needed_length, edit_refusal}
+use Rattle.ew_model.specs.Edits.{Edit, ops_of, events_of_ops, events_of_edit, needed_length, edit_refusal}
 use Rattle.ew_model.specs.Edits.Edit.{Insert, Delete, Mark}
 use Rattle.ew_model.specs.EditLaws.{number_made, size_of}
-use Rattle.ew_model.proofs.EditLaws.{IsOfText, edits_are_good, edits_keep, edits_change_text, not_refused as allowed}
-use Rattle.ew_model.proofs.EditTexts.{edit_fits, edit_changes, edit_long}
+use Rattle.ew_model.proofs.EditEvents.{MayDo, ops_done}
+use Rattle.ew_model.proofs.EditLaws.{IsOfText, edits_are_good, edits_change_text, fresh_behind, may_edit, ops_long, ops_of_agent, not_refused as allowed}
 use Rattle.ew_model.proofs.TextLengths.{length_changed, text_is_short}
 use Rattle.rope.specs.Lengths.{AllStayShort}
 use Rattle.waiting_pool.specs.Waiting.{Waiting, events_of}
@@ -23,7 +23,7 @@ use Rattle.replica.specs.Appending.{CanAppend}
 use Rattle.replica.specs.Keeping.{IsUpToDate}
 use Rattle.replica.specs.Lengths.{prefix_lengths, lengths_through}
 use Rattle.replica.proofs.EditCuts.{edit_cut}
-use Rattle.replica.proofs.EditLengths.{edit_lengths}
+use Rattle.replica.proofs.EditLengths.{ops_lengths}
 use Rattle.replica.proofs.Fronts.{made_admitted}
 use Rattle.replica.proofs.LengthLaws.{prefix_lengths-append}
 
@@ -32,25 +32,35 @@ pub stay_short : (t : List ℕ) (changes : List TextOp) → length t + length ch
 stay_short t [] h = omega (arith, h)
 stay_short t (op ∷ changes) h = (omega (arith, h), stay_short (changed_by op t) changes (omega (arith, h, length_changed op t)))
 
+-- Operations that an agent may do, for which no waiting event waits and there is room, may be appended.
+pub can_append_ops : (limits : LimitNumbers) (held waiting : List Event) (agent : List ℕ) (ops : List Op) → IsKept limits held waiting → is_awaited held waiting agent ≡ false → limits.events ≤ 16777216
+    → MayDo held ops → length held + length ops ≤ limits.events → CanAppend limits held waiting (events_of_ops held agent ops) (map own_change ops)
+can_append_ops limits held waiting agent ops kept awaited few may room =
+    let made = events_of_ops held agent ops in
+    let done = ops_done held agent ops may in
+    record {
+      kept = record {
+        orderly = record { good = done.good; fresh = fresh_behind held waiting agent made (ops_of_agent held agent ops) kept.orderly.fresh awaited; apart = kept.orderly.apart };
+        few = omega (arith, length-append held made, ops_long held agent ops, room);
+        few_wait = kept.few_wait;
+      };
+      admitted = made_admitted held made done.good;
+      cut = edit_cut held agent ops done.good;
+      fit = may.fit;
+      short = stay_short (text_of held) (map own_change ops) (omega (arith, length-map ops own_change, text_is_short held may.good, room, few));
+      lengths = ops_lengths held agent ops may;
+      text = sym done.text;
+    }
+
+-- So may those of an edit that isn't refused.
 pub can_append : (limits : LimitNumbers) (held waiting : List Event) (agent : List ℕ) (edit : Edit) → IsOfText held agent edit → IsKept limits held waiting → is_awaited held waiting agent ≡ false → limits.events ≤ 16777216
     → edit_refusal limits held agent edit ≡ None → CanAppend limits held waiting (events_of_edit held agent edit) (map own_change (ops_of edit))
 can_append limits held waiting agent edit text kept awaited few none =
-    let made = events_of_edit held agent edit in
-    let good : IsGood held = kept.orderly.good in
-    let inside = (allowed limits held agent edit none).inside in
-    let changed = edits_change_text limits held agent edit good none in
-    let after : IsKept limits (held ++ made) waiting = edits_keep limits held waiting agent edit kept awaited none in
-    record {
-      kept = after;
-      admitted = made_admitted held made after.orderly.good;
-      cut =
-          ap (λ es. is_critical (held ++ es) (length held)) text.events
-          ∙ edit_cut held agent (ops_of edit) (subst (λ es. IsGood (held ++ es)) text.events after.orderly.good);
-      fit = edit_fits edit (text_of held) inside;
-      short = stay_short (text_of held) (map own_change (ops_of edit)) (omega (arith, length-map (ops_of edit) own_change, edit_long edit, text_is_short held good, changed.1, text.made, (edits_are_good limits held agent edit good kept.few none).1, few));
-      lengths = edit_lengths limits held agent edit text good none;
-      text = edit_changes edit (text_of held) inside ∙ sym changed.0;
-    }
+    let ops = ops_of edit in
+    let made : length (events_of_edit held agent edit) ≡ length ops = ap length text.events ∙ ops_long held agent ops in
+    let room = (edits_are_good limits held agent edit kept.orderly.good kept.few none).1 in
+    subst (λ es. CanAppend limits held waiting es (map own_change ops)) (sym text.events)
+    (can_append_ops limits held waiting agent ops kept awaited few (may_edit limits held agent edit text kept.orderly.good none) (omega (arith, made, room)))
 
 -- what was appended is up to date
 pub appended : (limits : LimitNumbers) (held : List Event) (pool : Waiting) (made : List Event) (changes : List TextOp) (text lengths : List ℕ) → IsUpToDate limits held pool text lengths → CanAppend limits held (events_of pool) made changes

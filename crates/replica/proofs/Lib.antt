@@ -2,6 +2,7 @@ pub mod AnswerRows
 pub mod Appends
 pub mod Beginnings
 pub mod Chains
+pub mod Doing
 pub mod EditAnswers
 pub mod EditCuts
 pub mod EditLengths

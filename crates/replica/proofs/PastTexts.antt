@@ -33,10 +33,6 @@ pub version_few : (history part : List Event) (version : List Id) → part ≡ s
 version_few history part version is =
     subst (λ (es : List Event). length es ≤ length history) (sym is) (length-filter-le (λ (e : Event). is_among (ancestors history version) e.id) history)
 
--- these are a good history,
-pub version_good : (history part : List Event) (version : List Id) → IsGood history → part ≡ version_events history version → IsGood part
-version_good history part version good is = subst IsGood (sym is) (versions_are_histories history version good).good
-
 -- and have the version's text
 pub version_text : (history part : List Event) (version : List Id) → IsGood history → part ≡ version_events history version → text_of part ≡ text_at history version
 version_text history part version good is = ap text_of is ∙ sym (versions_are_histories history version good).text

@@ -7,9 +7,11 @@ pub mod Fronts
 pub mod Giving
 pub mod Keeping
 pub mod LazyTexts
+pub mod Later
 pub mod Lengths
 pub mod Marking
 pub mod Offering
+pub mod Operations
 pub mod Reaching
 pub mod Receiving
 pub mod Refusing

@@ -22,17 +22,17 @@ ghost use Rattle.ew_model.specs.TouchLaws.{NoneOutOfRange};
 ghost use Rattle.ew_model.specs.Touches.{touches};
 ghost use Rattle.ew_model.specs.Verdicts.{first_bad, first_unknown};
 ghost use Rattle.event_graph.specs.Subgraphs.{events_at};
-ghost use Rattle.event_runs.specs.RunOps.{ops_of, IndicesFit};
 ghost use Rattle.replica.specs.Answers.{EditsBy, Loads, refusal_of};
 ghost use Rattle.replica.specs.Appending.{CanAppend, chain_from};
 ghost use Rattle.replica.specs.Desks.{desk_of_replica, IsBegun};
 ghost use Rattle.replica.specs.Editing.{edit_view};
 ghost use Rattle.replica.specs.Keeping.{head_positions};
+ghost use Rattle.replica.specs.Later.{later_ops, LaterFit};
 ghost use Rattle.replica.specs.Lengths.{prefix_lengths};
 ghost use Rattle.replica.specs.Marking.{CanMark};
 ghost use Rattle.replica.specs.Reaching.{Reaches};
 ghost use Rattle.replica.specs.Receiving.{Receives, StandsBetween, StopsBetween};
-ghost use Rattle.replica.specs.Refusing.{refusal_by};
+ghost use Rattle.replica.specs.Refusing.{refusal_by, refusal_to_make};
 ghost use Rattle.waiting_pool.specs.Waiting.{events_of};
 
 use crate::admit::extend;
@@ -41,6 +41,7 @@ use crate::desk::Progress;
 use crate::edit::{Edit, characters};
 use crate::fault::{EditFault, LoadFault, VersionFault};
 use crate::heads::head_ids;
+use crate::later::Later;
 use crate::lazy_text::LazyText;
 use crate::lengths::length_below;
 use crate::listed::listed;
@@ -53,7 +54,6 @@ use crate::rounds::{Intake, round};
 use crate::took::{Stopped, Took};
 use agreement::agrees;
 use event_graph::Graph;
-use event_runs::RunOps;
 use ew_model::NoMem;
 use ew_model::event::{Event, Op};
 use ew_model::id::Id;
@@ -414,7 +414,7 @@ impl Replica {
     {
         let _ = steps;
         let text = characters(self.alloc, text)?;
-        self.edit(agent, &Edit::Insert { at, text })
+        self.edit_text(agent, &Edit::Insert { at, text })
     }
 
     /// Deletes n characters from an index on: one event for each. Answers how many events were made.
@@ -431,7 +431,7 @@ impl Replica {
         ensures steps { steps.new ≡ steps.old }
     {
         let _ = steps;
-        self.edit(agent, &Edit::Delete { at, n })
+        self.edit_text(agent, &Edit::Delete { at, n })
     }
 
     /// Saves the history under a label: events that join all heads, so that one head is left. With at most 16 heads it is one
@@ -459,7 +459,7 @@ impl Replica {
     }
 
     /// Makes the events of an edit, and holds them.
-    fn edit(&mut self, agent: Name, edit: &Edit) -> Result<u32, EditFault>
+    fn edit_text(&mut self, agent: Name, edit: &Edit) -> Result<u32, EditFault>
         requires { is_awaited self.old.held self.old.waiting agent ≡ false }
         ensures edits { EditsBy agent (edit_view edit.now) self.old self.new result }
         ensures text { OnOk result (text_of self.new.held ≡ edited (edit_view edit.now) (text_of self.old.held)) }
@@ -473,7 +473,7 @@ impl Replica {
         let _most = self.limits.events();
         let (op, rest) = edit.ops();
         let (first, changes) = self.make(self.alloc, agent, edit, op)?;
-        let n = self.append(&first, rest, changes.as_slice())?;
+        let n = self.append(&first, Later::Run(rest), changes.as_slice())?;
         Ok(n)
     }
 
@@ -485,18 +485,30 @@ impl Replica {
         if u64::from(len) < edit.needed() {
             return Some(EditFault::OutOfRange { len });
         }
-        if edit.size() == 0 {
+        self.refusal_to_make(edit.size())
+    }
+
+    /// The first reason against so many new events.
+    pub(crate) fn refusal_to_make(&self, size: u64) -> Option<EditFault>
+        ensures { option_and_then refusal_of result ≡ refusal_to_make (length (heads self.now.held)) (length self.now.held) self.now.limits.events size }
+    {
+        if size == 0 {
             return None;
         }
         let heads = self.head_count();
         if heads > MOST_PARENTS {
             return Some(EditFault::TooManyHeads { heads });
         }
-        if u64::from(self.room()) < edit.size() {
+        if u64::from(self.room()) < size {
             let count = self.count();
             return Some(EditFault::Full { count });
         }
         None
+    }
+
+    /// What it takes its memory from.
+    pub(crate) fn alloc(&self) -> Global {
+        self.alloc
     }
 
     /// How many more events may be held.
@@ -536,11 +548,16 @@ impl Replica {
     /// Holds one more event and those of operations that go on from it, and changes the text. Answers how many they are. It does all
     /// of it or nothing.
     #[tactic(auto, using(crate::proofs::Chains::chain_from_long))]
-    fn append(&mut self, first: &Event, rest: RunOps<'_>, changes: &[TextOp]) -> Result<u32, NoMem>
-        requires can { CanAppend self.old.limits self.old.held self.old.waiting (chain_from first.now (ops_of rest)) changes.now }
-        requires fit { IndicesFit rest }
-        ensures count { IfOk result (λ n. n ≡ length (chain_from first.now (ops_of rest.entry))) }
-        ensures ok { OnOk result (self.new ≡ record { limits = self.old.limits; held = self.old.held ++ chain_from first.now (ops_of rest.entry); waiting = self.old.waiting }) }
+    pub(crate) fn append(
+        &mut self,
+        first: &Event,
+        rest: Later<'_>,
+        changes: &[TextOp],
+    ) -> Result<u32, NoMem>
+        requires can { CanAppend self.old.limits self.old.held self.old.waiting (chain_from first.now (later_ops rest)) changes.now }
+        requires fit { LaterFit rest }
+        ensures count { IfOk result (λ n. n ≡ length (chain_from first.now (later_ops rest.entry))) }
+        ensures ok { OnOk result (self.new ≡ record { limits = self.old.limits; held = self.old.held ++ chain_from first.now (later_ops rest.entry); waiting = self.old.waiting }) }
         ensures err { OnErr result (self.new ≡ self.old) }
     {
         let _most = self.limits.events();

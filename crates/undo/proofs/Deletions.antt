@@ -1,6 +1,6 @@
 -- The fate of each character, by the deletions one after another.
-use Rattle.std.proofs.Common.{◌≡◌, ℕ, zero, suc, ◌<◌, ◌≤◌, Bool, true, false, not, cond, ◌&&◌, ◌||◌, List, [], ◌∷◌, ◌++◌, map, filter, length, get_or, set, take, replicate, option_map, Option, Some, slice_get, refl, sym, ap, ◌∙◌, subst}
-use Rattle.std.specs.List.{list_any, cons_option, AllByRecursion}
+use Rattle.std.proofs.Common.{◌≡◌, ℕ, suc, ◌≤◌, Bool, true, false, not, cond, ◌&&◌, ◌||◌, List, [], ◌∷◌, ◌++◌, map, filter, length, get_or, set, take, option_map, Option, Some, slice_get, refl, sym, ap, ◌∙◌, subst}
+use Rattle.std.specs.List.{list_any, cons_option}
 use Rattle.std.proofs.lemmas.List.{length-map, take_all}
 use Rattle.std.proofs.lemmas.List.Folds.{list_any-append}
 use Rattle.std.proofs.lemmas.Option.{slice_get-map, get_or_from_slice_get}
@@ -8,45 +8,26 @@ use Rattle.ew_model.specs.declared.id.Id.{Id}
 use Rattle.ew_model.specs.declared.event.Event.{Event}
 use Rattle.ew_model.specs.Ids.{id_eq, is_among}
 use Rattle.ew_model.specs.Ancestors.{ids_of}
-use Rattle.ew_model.specs.Entries.{Entry, deletes, is_deleted}
+use Rattle.ew_model.specs.Entries.{Entry, is_deleted}
 use Rattle.ew_model.specs.Entries.Entry.{Insertion, Deletion, Mark}
-use Rattle.ew_model.specs.Tree.{Noted, all_entries, tree}
+use Rattle.ew_model.specs.Tree.{Noted, tree}
 use Rattle.ew_model.specs.Verdicts.{IsGood}
 use Rattle.ew_model.proofs.CoverLaws.{ids_alike}
-use Rattle.ew_model.proofs.GoodLaws.{good_laid_out}
-use Rattle.ew_model.proofs.GraphAlike as alike
 use Rattle.ew_model.proofs.ListParts.{take_next}
-use Rattle.ew_model.proofs.OperationLaws.{got}
-use Rattle.ew_model.proofs.SetLaws.{among_map}
-use Rattle.ew_model.proofs.SortingLaws.{all_at}
-use Rattle.transform.specs.Placing.{deletion_by, deletions_in, ids_at, AreTargets}
+use Rattle.transform.specs.Placing.{deletion_by, deletions_in, AreTargets}
+use Rattle.tree_places.proofs.Targets.{IsPair, is_target, all_pairs, map_agree, good_distinct, set_one, targets_long}
 use Rattle.undo_definitions.specs.Wanted.{left_by_others}
 use Rattle.undo.specs.declared.fate.Fate.{Fate}
-use Rattle.undo.specs.declared.fate.Fate.TheVariants.{Shown}
 use Rattle.undo.specs.Fates.{fate_by, fate_of, fates_of, with_deletion}
-use Rattle.ew_model.proofs.ListPlaces.{some_is}
 
 -- THE DELETIONS AS PAIRS
--- one of these deletes the id
-abbrev pub is_target : List (Id × Id) → Id → Bool
-is_target ds x = list_any (λ (d : Id × Id). id_eq d.1 x) ds
-
--- one that isn't undone does
+-- one of these that isn't undone deletes the id
 abbrev pub is_target_of_others : List Id → List (Id × Id) → Id → Bool
 is_target_of_others undone ds x = list_any (λ (d : Id × Id). not (is_among undone d.0) && id_eq d.1 x) ds
 
 -- what they say of a character
 abbrev pub fate_among : List Id → List (Id × Id) → Id → Fate
 fate_among undone ds x = fate_by (is_target ds x) (is_target_of_others undone ds x)
-
-all_pairs : (notes : List (Noted Id)) (x : Id) → is_deleted (all_entries 0 notes) x ≡ is_target (deletions_in notes) x
-all_pairs [] x = refl
-all_pairs (n ∷ notes) x = at n.entry (all_pairs notes x)
-  where
-    at : (e : Entry) → is_deleted (all_entries 0 notes) x ≡ is_target (deletions_in notes) x → (deletes x e || is_deleted (all_entries 0 notes) x) ≡ is_target (cons_option (deletion_by n.name e) (deletions_in notes)) x
-    at (Insertion y) h = h
-    at (Deletion t) h = ap (λ b. id_eq t x || b) h
-    at Mark h = h
 
 others_pairs : (undone : List Id) (notes : List (Noted Id)) (x : Id) → is_deleted (left_by_others undone notes) x ≡ is_target_of_others undone (deletions_in notes) x
 others_pairs undone [] x = refl
@@ -68,17 +49,8 @@ others_pairs undone (n ∷ notes) x = at (not (is_among undone n.name)) n.entry 
 same_fate : (history : List Event) (undone : List Id) (x : Id) → fate_among undone (deletions_in (tree history)) x ≡ fate_of history undone x
 same_fate history undone x = λ i. fate_by (sym (all_pairs (tree history) x) i) (sym (others_pairs undone (tree history) x) i)
 
-map_agree : {X Y : Type 0} (f g : X → Y) (xs : List X) → ((x : X) → f x ≡ g x) → map f xs ≡ map g xs
-map_agree f g [] h = refl
-map_agree f g (x ∷ xs) h = λ i. h x i ∷ map_agree f g xs h i
-
 pub same_fates : (history : List Event) (undone : List Id) → map (fate_among undone (deletions_in (tree history))) (ids_of history) ≡ fates_of history undone
 same_fates history undone = map_agree (fate_among undone (deletions_in (tree history))) (fate_of history undone) (ids_of history) (same_fate history undone)
-
--- none yet
-pub no_fates : {X : Type 0} (undone : List Id) (f : X → Id) (xs : List X) → replicate (length xs) Shown ≡ map (fate_among undone []) (map f xs)
-no_fates undone f [] = refl
-no_fates undone f (x ∷ xs) = ap (λ (fs : List Fate). Shown ∷ fs) (no_fates undone f xs)
 
 -- ONE DELETION MORE
 hit : (u : Bool) (a b : Bool) → fate_by (a || (true || false)) (b || ((not u && true) || false)) ≡ with_deletion (fate_by a b) u
@@ -113,52 +85,7 @@ module _ (undone : List Id) (front : List (Id × Id)) (d : Id × Id) where
   pub other_target : (x : Id) → id_eq d.1 x ≡ false → fate_among undone (front ++ d ∷ []) x ≡ fate_among undone front x
   other_target x q = both x false q ∙ missed (is_among undone d.0) (is_target front x) (is_target_of_others undone front x)
 
--- A LIST OF EVENTS WITH OTHER VALUES FOR ONE
-abbrev AreDistinct : List Event → Type 0
-AreDistinct history = alike.AreDistinct (λ (e : Event). e.id) (λ (e : Event). e.parents) id_eq history
-
-module _ {Y : Type 0} (f g : Id → Y) (t : Id) (agree : (x : Id) → id_eq t x ≡ false → f x ≡ g x) where
-  others_agree : (history : List Event) → AllByRecursion (λ (e : Event). id_eq e.id t ≡ false) history → map f (ids_of history) ≡ map g (ids_of history)
-  others_agree [] h = refl
-  others_agree (e ∷ history) h = λ i. agree e.id (ids_alike.symm t e.id ∙ h.0) i ∷ others_agree history h.1 i
-
-  set_one : (history : List Event) (n : ℕ) → AreDistinct history → slice_get (ids_of history) n ≡ Some t → set (map f (ids_of history)) n (g t) ≡ map g (ids_of history)
-  set_one [] n h at = let no : ⊥ = cc in absurd no
-  set_one (e ∷ history) zero h at =
-      let one : e.id ≡ t = some_is e.id t at in
-      λ i. g (sym one i) ∷ others_agree history (subst (λ x. AllByRecursion (λ (k : Event). id_eq k.id x ≡ false) history) one h.0) i
-  set_one (e ∷ history) (suc n) h at =
-      let from = among_map (λ (k : Event). k.id) history t (got (ids_of history) n t at) in
-      let apart : id_eq t e.id ≡ false = ap (λ x. id_eq x e.id) from.2 ∙ all_at (λ (k : Event). id_eq k.id e.id ≡ false) history from.0 h.0 from.1 in
-      λ i. agree e.id apart i ∷ set_one history n h.1 at i
-
 -- THE TARGETS
--- a pair of positions is that of a deletion
-pub record IsPair (history : List Event) (pair : ℕ × ℕ) (d : Id × Id) : Type 0 where
-  pub deletion : slice_get (ids_of history) pair.0 ≡ Some d.0
-  pub target : slice_get (ids_of history) pair.1 ≡ Some d.1
-
-pair_at : (history : List Event) (pairs : List (ℕ × ℕ)) (ds : List (Id × Id)) (n : ℕ) (pair : ℕ × ℕ) → map (ids_at history) pairs ≡ map (λ (d : Id × Id). (Some d.0, Some d.1)) ds → slice_get pairs n ≡ Some pair
-    → (d : Id × Id) × (slice_get ds n ≡ Some d) × IsPair history pair d
-pair_at history [] ds n pair are at = let no : ⊥ = cc in absurd no
-pair_at history (p ∷ pairs) [] n pair are at = let no : ⊥ = cc in absurd no
-pair_at history (p ∷ pairs) (d ∷ ds) zero pair are at =
-    let one : p ≡ pair = some_is p pair at in
-    let first : ids_at history p ≡ (Some d.0, Some d.1) = cc in
-    let here : ids_at history pair ≡ (Some d.0, Some d.1) = ap (ids_at history) (sym one) ∙ first in
-    (d, refl, record { deletion = ap (λ (k : Option Id × Option Id). k.0) here; target = ap (λ (k : Option Id × Option Id). k.1) here })
-pair_at history (p ∷ pairs) (d ∷ ds) (suc n) pair are at =
-    let rest : map (ids_at history) pairs ≡ map (λ (c : Id × Id). (Some c.0, Some c.1)) ds = cc in
-    pair_at history pairs ds n pair rest at
-
-pub targets_long : (history : List Event) (pairs : List (ℕ × ℕ)) → AreTargets history pairs → length pairs ≡ length (deletions_in (tree history))
-targets_long history pairs are =
-    sym (length-map pairs (ids_at history)) ∙ ap (length {A = Option Id × Option Id}) are ∙ length-map (deletions_in (tree history)) (λ (d : Id × Id). (Some d.0, Some d.1))
-
-pub pair_there : (history : List Event) (pairs : List (ℕ × ℕ)) (n : ℕ) (pair : ℕ × ℕ) → AreTargets history pairs → slice_get pairs n ≡ Some pair
-    → (d : Id × Id) × (slice_get (deletions_in (tree history)) n ≡ Some d) × IsPair history pair d
-pair_there history pairs n pair are at = pair_at history pairs (deletions_in (tree history)) n pair are at
-
 -- the fates by the first deletions
 abbrev pub fates_by : List Event → List Id → ℕ → List Fate
 fates_by history undone n = map (fate_among undone (take n (deletions_in (tree history)))) (ids_of history)
@@ -174,10 +101,9 @@ pub fates_next : (history : List Event) (undone : List Id) (n : ℕ) (pair : ℕ
 fates_next history undone n pair d fate good at is old =
     let ds = deletions_in (tree history) in
     let front = take n ds in
-    let distinct : AreDistinct history = alike.laid_distinct (λ (e : Event). e.id) (λ (e : Event). e.parents) id_eq [] history (good_laid_out history good) in
     let new : with_deletion fate (is_among undone d.0) ≡ fate_among undone (front ++ d ∷ []) d.1 = ap (λ k. with_deletion k (is_among undone d.0)) old ∙ sym (its_target undone front d) in
     ap (set (fates_by history undone n) pair.1) new
-    ∙ set_one (fate_among undone front) (fate_among undone (front ++ d ∷ [])) d.1 (λ x q. sym (other_target undone front d x q)) history pair.1 distinct is.target
+    ∙ set_one (fate_among undone front) (fate_among undone (front ++ d ∷ [])) d.1 (λ x q. sym (other_target undone front d x q)) history pair.1 (good_distinct history good) is.target
     ∙ ap (λ (front : List (Id × Id)). map (fate_among undone front) (ids_of history)) (sym (take_next ds n d at))
 
 pub fates_long : (history : List Event) (undone : List Id) (n : ℕ) → length (fates_by history undone n) ≡ length history

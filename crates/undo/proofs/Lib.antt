@@ -1,5 +1,6 @@
 mod Along
 mod Deletions
-mod Letters
+pub mod Letters
 mod Missing
 mod Ranges
+mod Refusals

@@ -77,7 +77,7 @@ fn is_wanted(undone: &Undone, id: &Id, fate: Fate) -> bool
 }
 
 /// The character that the event at a position inserts.
-fn letter(graph: &Graph, position: u32, near: &mut Near) -> char
+pub fn letter(graph: &Graph, position: u32, near: &mut Near) -> char
     requires within { position < length graph.now }
     requires inserts { IsSome (letter_at graph.now position) }
     ensures { letter_at graph.now position ≡ Some result }

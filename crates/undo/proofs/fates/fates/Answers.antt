@@ -1,21 +1,22 @@
-use Rattle.std.proofs.Common.{◌≡◌, ℕ, ◌+◌, suc, ◌<◌, List, length, get_or, set, replicate, slice_get, Some, sym, ap, ◌∙◌, arith}
+use Rattle.std.proofs.Common.{◌≡◌, ℕ, ◌+◌, suc, ◌<◌, List, [], length, get_or, set, replicate, slice_get, Some, refl, sym, ap, ◌∙◌, arith}
 use Rattle.std.proofs.lemmas.Option.{slice_get-get_or, same_Some}
 use Rattle.ew_model.specs.declared.event.Event.{Event}
 use Rattle.ew_model.specs.declared.id.Id.{Id}
 use Rattle.ew_model.specs.Ids.{is_among}
 use Rattle.ew_model.proofs.AgentLaws.{within_ids}
+use Rattle.tree_places.proofs.Targets.{one_for_all, pair_there}
 use Rattle.undo.specs.declared.fate.Fate.{Fate}
 use Rattle.undo.specs.declared.fate.Fate.TheVariants.{Shown}
 use Rattle.undo.specs.Fates.{with_deletion}
 use Rattle.undo.specs.Undone.{undone_ids}
-use Rattle.undo.proofs.Deletions.{no_fates, pair_there, fates_by, fates_long, fate_there, fate_among, fates_next, fates_all}
+use Rattle.undo.proofs.Deletions.{fates_by, fates_long, fate_there, fate_among, fates_next, fates_all}
 use Rattle.undo.proofs.fates.fates.Goals as goal
 
 pub loop-pair-init : goal.loop-pair-init
 loop-pair-init c =
     c.in_ok-fates.ensures.items_if_clones_equal (λ y same. same)
     ∙ ap (λ n. replicate n Shown) c.count.ensures.count
-    ∙ no_fates (undone_ids c.args.undone.now) (λ (e : Event). e.id) c.args.graph.now
+    ∙ one_for_all (fate_among (undone_ids c.args.undone.now) []) Shown c.args.graph.now (λ x. refl)
 
 pub id_near-deletion-requires : goal.id_near-deletion-requires
 id_near-deletion-requires c =

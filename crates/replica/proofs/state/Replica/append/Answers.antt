@@ -1,9 +1,9 @@
 use Rattle.std.proofs.Common.{◌++◌, length, refl, sym, ap, subst, arith}
 use Rattle.ew_model.specs.Kept.{ReplicaState}
 use Rattle.ew_model.specs.Operations.{changed_by_all}
-use Rattle.event_runs.specs.RunOps.{ops_of}
 use Rattle.waiting_pool.specs.Waiting.{events_of}
 use Rattle.replica.specs.Appending.{CanAppend, chain_from}
+use Rattle.replica.specs.Later.{later_ops}
 use Rattle.replica.specs.Lengths.{lengths_through}
 use Rattle.replica.proofs.Appends.{appended}
 use Rattle.replica.proofs.Beginnings.{same_kept}
@@ -21,7 +21,7 @@ invariant_of-self c =
 pub invariant_of-self-2 : goal.invariant_of-self-2
 invariant_of-self-2 c =
     let inside = c.self.inside in
-    let made = chain_from c.args.first.now (ops_of c.args.rest) in
+    let made = chain_from c.args.first.now (later_ops c.args.rest) in
     let changes = c.args.changes.now in
     let told = c.in_ok-extend.ensures in
     let can : CanAppend inside.limits inside.graph (events_of inside.pool) made changes = subst (λ (s : ReplicaState). CanAppend s.limits s.held s.waiting made changes) (sym c.self.view_is) c.requires.can in
@@ -33,17 +33,17 @@ pub extend-requires-clause-room : goal.extend-requires-clause-room
 extend-requires-clause-room c =
     let held = ap (λ (s : ReplicaState). length s.held) c.self.view_is in
     let most = ap (λ (s : ReplicaState). s.limits.events) c.self.view_is in
-    let room = chain_room c.args.self.now.held c.args.first.now (ops_of c.args.rest) c.args.self.now.limits.events c.requires.can.kept.few in
+    let room = chain_room c.args.self.now.held c.args.first.now (later_ops c.args.rest) c.args.self.now.limits.events c.requires.can.kept.few in
     omega (arith, held, most, room, c.events-most.ensures.range.few_events)
 
 pub count-requires : goal.count-requires
 count-requires c =
     let most = ap (λ (s : ReplicaState). s.limits.events) c.self.view_is in
-    let room = chain_room c.args.self.now.held c.args.first.now (ops_of c.args.rest) c.args.self.now.limits.events c.requires.can.kept.few in
+    let room = chain_room c.args.self.now.held c.args.first.now (later_ops c.args.rest) c.args.self.now.limits.events c.requires.can.kept.few in
     omega (arith, most, room, c.events-most.ensures.range.few_events)
 
 pub overflow_add-result : goal.overflow_add-result
 overflow_add-result c =
     let most = ap (λ (s : ReplicaState). s.limits.events) c.self.view_is in
-    let room = chain_room c.args.self.now.held c.args.first.now (ops_of c.args.rest) c.args.self.now.limits.events c.requires.can.kept.few in
+    let room = chain_room c.args.self.now.held c.args.first.now (later_ops c.args.rest) c.args.self.now.limits.events c.requires.can.kept.few in
     omega (arith, most, room, c.events-most.ensures.range.few_events, c.count.ensures)

@@ -4,7 +4,7 @@ use Rattle.replica.specs.Appending.{chain_from}
 use Rattle.replica.proofs.Chains.{chain_put}
 use Rattle.replica.proofs.Fronts.{stays_cut}
 use Rattle.replica.proofs.RoundParts.{on_err}
-use Rattle.replica.proofs.admit.admit_chain.Goals as goal
+use Rattle.replica.proofs.admit.admit_run.Goals as goal
 
 pub returns-in_err-admit-clause-still_cut : goal.returns-in_err-admit-clause-still_cut
 returns-in_err-admit-clause-still_cut c =
