@@ -3,6 +3,7 @@ use Rattle.std.proofs.Common.{◌≡◌, ℕ, zero, suc, ◌<◌, List, [], ◌�
 use Rattle.std.specs.Option.{option_map_or}
 use Rattle.ew_model.specs.Kept.{ReplicaState}
 use Rattle.ew_model.specs.Limits.{LimitNumbers}
+use Rattle.carets.specs.declared.caret.Caret.TheVariants.{Root}
 use Rattle.peer_definitions.specs.Machine.{Packet, Peer, StepOutcome, peer_among, put_replica, with_peer}
 use Rattle.peer_definitions.specs.Machine.Refusal.{NoPeer}
 use Rattle.peer_definitions.specs.Machine.StepOutcome.{Refused}
@@ -11,7 +12,7 @@ use Rattle.generator.specs.Laws.{named_from, net_of}
 
 -- the peer of a number in a net
 abbrev pub named_peer : List ReplicaState → ℕ → Peer
-named_peer peers n = record { name = agent_of n; replica = peer_at peers n }
+named_peer peers n = record { name = agent_of n; replica = peer_at peers n; caret = Root }
 
 found_among : (peers : List ReplicaState) (n : ℕ) → length peers ≡ 3 → n < 3 → peer_among (named_from 0 peers) (agent_of n) ≡ Some (named_peer peers n)
 unfolding peer_at

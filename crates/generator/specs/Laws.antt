@@ -5,6 +5,7 @@ use Rattle.ew_model.specs.Edits.{Edit}
 use Rattle.ew_model.specs.Edits.Edit.{Insert, Delete, Mark}
 use Rattle.ew_model.specs.Kept.{ReplicaState}
 use Rattle.ew_model.specs.Limits.{AreLimits, LimitNumbers}
+use Rattle.carets.specs.declared.caret.Caret.TheVariants.{Root}
 use Rattle.peer_definitions.specs.declared.net_step.NetStep.{NetStep}
 use Rattle.peer_definitions.specs.declared.net_step.NetStep.TheVariants as step
 use Rattle.peer_definitions.specs.NetScripts.{IsSoundStep}
@@ -18,10 +19,10 @@ abbrev pub MadePeersAgree : Type 0
 MadePeersAgree = (limits : LimitNumbers) (seed count : ℕ) → count ≤ limits.events
     → (m : Making) × (made limits seed count ≡ Going m) × (printed m.peers ≡ history_lines (peer_at m.peers 0).held ++ codes "agree yes\n")
 
--- the peers under their names, from a number on
+-- the peers under their names, from a number on, with their carets at the root
 abbrev pub named_from : ℕ → List ReplicaState → List Peer
 named_from n [] = []
-named_from n (p ∷ peers) = record { name = agent_of n; replica = p } ∷ named_from (suc n) peers
+named_from n (p ∷ peers) = record { name = agent_of n; replica = p; caret = Root } ∷ named_from (suc n) peers
 
 -- a net of the peers p0, p1 and p2, in which these packets were made
 abbrev pub net_of : LimitNumbers → List ReplicaState → List Packet → Network

@@ -27,15 +27,21 @@ use Rattle.peer_definitions.specs.declared.frame.Frame.{Frame}
 use Rattle.peer_definitions.specs.declared.frame.Frame.TheVariants.{Have, Events, Done, Took, Clash, Bye}
 use Rattle.net_core.specs.Keeping.{IsHome, IsReplica}
 use Rattle.net_core.specs.Laws.{OnlyEditsAdd, is_edit_of, made_by, network_left}
-use Rattle.peer_definitions.specs.Machine.{Network, Packet, Peer, deliver_step, delivery_of, edit_outcome, net_step, peer_among, peer_of, peer_step, piece_of, print_before, put_replica, restart_outcome, with_packet, with_peer, with_replies}
+use Rattle.ew_model.specs.declared.id.Id.{Id}
+use Rattle.carets.specs.declared.caret.Caret.{Caret}
+use Rattle.carets.specs.declared.caret.Caret.TheVariants.{Root}
+use Rattle.carets.specs.Sides.{caret_in, text_chars}
+use Rattle.undo_definitions.specs.Undoing.{UndoRefusal, undo_refusal}
+use Rattle.undo_definitions.specs.Wanted.{ids_from}
+use Rattle.peer_definitions.specs.Machine.{Network, Packet, Peer, caret_outcome, deliver_step, delivery_of, edit_outcome, net_step, peer_among, peer_of, peer_step, piece_of, print_before, put_caret, put_replica, restart_outcome, undo_outcome, where_outcome, with_packet, with_peer, with_replies}
 use Rattle.peer_definitions.specs.Machine.Refusal.{NoPacket}
 use Rattle.peer_definitions.specs.Machine.StepOutcome.{Refused}
 use Rattle.net_core.proofs.Deliveries.{went}
-use Rattle.net_core.proofs.Editing.{edited_state, named_so, replica_of}
+use Rattle.net_core.proofs.Editing.{edited_state, named_so, replica_of, undone_state}
 use Rattle.net_core.proofs.Following.{peer_did}
 use Rattle.net_core.proofs.Lawful.{packet_left, peers_left}
 use Rattle.ew_model.proofs.OperationLaws.{got}
-use Rattle.net_core.proofs.Puts.{found_put, put_elsewhere, put_here, put_in}
+use Rattle.net_core.proofs.Puts.{changed_elsewhere, changed_here, changed_in, found_changed, found_put, put_elsewhere, put_here, put_in, with_caret}
 use Rattle.net_core.proofs.Reaching.{HasHomes, IsHomely, IsSent, homely, still_there}
 
 -- an event stands once in a good history
@@ -127,7 +133,7 @@ module _ (network new : Network) (s : NetStep) (p q : Peer) (h : IsHomely networ
   peer_adds : (name : List ℕ) (o : Option Peer) → network_left (peer_step network name o) ≡ Some new → AddsNone
   peer_adds name (Some x) left = let no : ⊥ = cc in absurd no
   peer_adds name None left =
-      let fresh : Peer = record { name = name; replica = record { limits = network.limits; held = []; waiting = [] } } in
+      let fresh : Peer = record { name = name; replica = record { limits = network.limits; held = []; waiting = [] }; caret = Root } in
       let is : record { limits = network.limits; peers = network.peers ++ fresh ∷ []; packets = network.packets } ≡ new = cc in
       still_same p (ap (λ (n : Network). peer_among n.peers p.name) (sym is) ∙ still_there network.peers fresh p.name p found) refl
 
@@ -140,6 +146,29 @@ module _ (network new : Network) (s : NetStep) (p q : Peer) (h : IsHomely networ
       let is : put_replica network x.name r ≡ new = cc in
       after_put x who r at (ap (λ (n : Network). n.peers) (sym is))
       (λ here same. inr (own (ap (λ n. name_eq n p.name) (sym (named_so network who x at)) ∙ names_equal.symm x.name p.name ∙ here)))
+
+  undo_adds : (who : List ℕ) (undone : List Id) (x : Peer) → (name_eq who p.name ≡ true → is_edit_of p.name s ≡ true) → peer_of network who ≡ Some x → (o : Option UndoRefusal)
+      → undo_refusal x.replica.limits x.replica.held undone ≡ o
+      → network_left (undo_outcome network x undone o) ≡ Some new → AddsNone
+  undo_adds who undone x own at (Some why) none left = let no : ⊥ = cc in absurd no
+  undo_adds who undone x own at None none left =
+      let r = undone_state network who x undone h at none in
+      let is : put_replica network x.name r ≡ new = cc in
+      after_put x who r at (ap (λ (n : Network). n.peers) (sym is))
+      (λ here same. inr (own (ap (λ n. name_eq n p.name) (sym (named_so network who x at)) ∙ names_equal.symm x.name p.name ∙ here)))
+
+  -- a caret is put in place
+  same_held : (name : List ℕ) (c : Caret) → (name_eq p.name name ≡ true) ⊎ (name_eq p.name name ≡ false) → (changed_in name (with_caret c) p).replica.held ≡ p.replica.held
+  same_held name c (inl here) = ap (λ (y : Peer). y.replica.held) (changed_here name (with_caret c) p here)
+  same_held name c (inr other) = ap (λ (y : Peer). y.replica.held) (changed_elsewhere name (with_caret c) p other)
+
+  caret_adds : (x : Peer) (at : ℕ) (o : Option Caret) → network_left (caret_outcome network x at o) ≡ Some new → AddsNone
+  caret_adds x at None left = let no : ⊥ = cc in absurd no
+  caret_adds x at (Some c) left =
+      let is : put_caret network x.name c ≡ new = cc in
+      still_same (changed_in x.name (with_caret c) p)
+      (ap (λ (n : Network). peer_among n.peers p.name) (sym is) ∙ found_changed x.name (with_caret c) (λ y. refl) p.name p network.peers found)
+      (same_held x.name c (cases_Bool (name_eq p.name x.name)))
 
   deliver_adds : (k : Packet) → Among k network.packets → network_left (deliver_step network k) ≡ Some new → AddsNone
   deliver_adds k m left =
@@ -191,6 +220,14 @@ module _ (network new : Network) (s : NetStep) (p q : Peer) (h : IsHomely networ
       let did = peer_did network who (λ x. edit_outcome network x (edits.Edit.Mark label)
       (edit_refusal x.replica.limits x.replica.held x.name (edits.Edit.Mark label))) new left in
       edit_adds who (edits.Edit.Mark label) did.0 (λ own. ap (is_edit_of p.name) is ∙ own) did.1 _ refl did.2
+  step_adds (step.Undo who whose first count) is left =
+      let undone = ids_from whose first count in
+      let did = peer_did network who (λ x. undo_outcome network x undone (undo_refusal x.replica.limits x.replica.held undone)) new left in
+      undo_adds who undone did.0 (λ own. ap (is_edit_of p.name) is ∙ own) did.1 _ refl did.2
+  step_adds (step.Caret who at) is left =
+      let did = peer_did network who (λ x. caret_outcome network x at (caret_in (text_chars x.replica.held) at)) new left in
+      caret_adds did.0 at _ did.2
+  step_adds (step.Where name) is left = same_net (peer_did network name (where_outcome network) new left).2
   step_adds (step.Push sender receiver) is left = sent_adds sender receiver (λ r. event_frames r.limits r.held) left
   step_adds (step.Send sender receiver skip count) is left = sent_adds sender receiver (λ r. event_frames r.limits (piece_of skip count r.held)) left
   step_adds (step.Ask sender receiver) is left = sent_adds sender receiver (λ r. question r ∷ []) left

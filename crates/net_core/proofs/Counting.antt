@@ -11,7 +11,12 @@ use Rattle.peer_definitions.specs.declared.net_step.NetStep.TheVariants as step
 use Rattle.peer_definitions.specs.Answering.{event_frames, question}
 use Rattle.peer_definitions.specs.declared.frame.Frame.{Frame}
 use Rattle.net_core.specs.Laws.{network_left}
-use Rattle.peer_definitions.specs.Machine.{Network, Packet, Peer, deliver_step, delivery_of, edit_outcome, net_step, peer_of, peer_step, piece_of, print_before, put_replica, restart_outcome, with_packet, with_peer, with_replies}
+use Rattle.ew_model.specs.declared.id.Id.{Id}
+use Rattle.carets.specs.declared.caret.Caret.{Caret}
+use Rattle.carets.specs.Sides.{caret_in, text_chars}
+use Rattle.undo_definitions.specs.Undoing.{UndoRefusal, undo_refusal}
+use Rattle.undo_definitions.specs.Wanted.{ids_from}
+use Rattle.peer_definitions.specs.Machine.{Network, Packet, Peer, caret_outcome, deliver_step, delivery_of, edit_outcome, net_step, peer_of, peer_step, piece_of, print_before, put_replica, restart_outcome, undo_outcome, where_outcome, with_packet, with_peer, with_replies}
 use Rattle.peer_definitions.specs.Machine.Refusal.{NoPacket}
 use Rattle.peer_definitions.specs.Machine.StepOutcome.{Refused}
 use Rattle.net_core.proofs.Following.{peer_did}
@@ -40,6 +45,14 @@ module _ (network new : Network) where
   edit_one : (e : Edit) (p : Peer) (o : Option EditRefusal) → network_left (edit_outcome network p e o) ≡ Some new → AddsOne
   edit_one e p (Some why) left = let no : ⊥ = cc in absurd no
   edit_one e p None left = same_many _ refl left
+
+  undo_one : (undone : List Id) (p : Peer) (o : Option UndoRefusal) → network_left (undo_outcome network p undone o) ≡ Some new → AddsOne
+  undo_one undone p (Some why) left = let no : ⊥ = cc in absurd no
+  undo_one undone p None left = same_many _ refl left
+
+  caret_one : (p : Peer) (at : ℕ) (o : Option Caret) → network_left (caret_outcome network p at o) ≡ Some new → AddsOne
+  caret_one p at None left = let no : ⊥ = cc in absurd no
+  caret_one p at (Some c) left = same_many _ refl left
 
   sent_one : (sender receiver : List ℕ) (made : ReplicaState → List Frame)
       → network_left (with_peer network sender (λ p. with_peer network receiver (λ q. with_packet network sender receiver (made p.replica)))) ≡ Some new → AddsOne
@@ -78,6 +91,14 @@ adds_one network new (step.Mark who label) left =
     let did = peer_did network who (λ p. edit_outcome network p (edits.Edit.Mark label)
     (edit_refusal p.replica.limits p.replica.held p.name (edits.Edit.Mark label))) new left in
     edit_one network new (edits.Edit.Mark label) did.0 _ did.2
+adds_one network new (step.Undo who whose first count) left =
+    let undone = ids_from whose first count in
+    let did = peer_did network who (λ p. undo_outcome network p undone (undo_refusal p.replica.limits p.replica.held undone)) new left in
+    undo_one network new undone did.0 _ did.2
+adds_one network new (step.Caret who at) left =
+    let did = peer_did network who (λ p. caret_outcome network p at (caret_in (text_chars p.replica.held) at)) new left in
+    caret_one network new did.0 at _ did.2
+adds_one network new (step.Where name) left = same_many network new network refl (peer_did network name (where_outcome network) new left).2
 adds_one network new (step.Push sender receiver) left = sent_one network new sender receiver (λ r. event_frames r.limits r.held) left
 adds_one network new (step.Send sender receiver skip count) left = sent_one network new sender receiver (λ r. event_frames r.limits (piece_of skip count r.held)) left
 adds_one network new (step.Ask sender receiver) left = sent_one network new sender receiver (λ r. question r ∷ []) left

@@ -25,7 +25,8 @@ use Rattle.ew_model.proofs.OperationLaws.{got}
 use Rattle.net_core.proofs.Packets.{deliver_is, delivered_homely, frames_apart, frames_taken, left_all, left_homely, left_none, left_some, no_packet, replies_are, with_some}
 use Rattle.net_core.proofs.Reaching.{AreTaken, IsHomely, IsSent, both_packet, fit, homely}
 use Rattle.net_core.proofs.Steps.{no_peer}
-use Rattle.net_core.proofs.Writes.{here, refused_so, seen, there, with_written, written, written_reached}
+use Rattle.net_core.proofs.Puts.{with_replica}
+use Rattle.net_core.proofs.Writes.{here, put_is, refused_so, seen, there, with_written, written, written_reached}
 
 -- the place of what is found
 found_place : {X : Type 0} (test : X → Bool) (xs : List X) (x : X) → find test xs ≡ Some x → (i : ℕ) × (slice_get xs i ≡ Some x)
@@ -91,9 +92,9 @@ module _ (N S : Network) (view : N ≡ S) (h : IsReached N) (n : ℕ) (k : Packe
       subst (λ (x : Peer). AllByRecursion (IsTaken x.replica.limits) k.frames × NoneClashes x.replica k.frames) (sym old)
       (frames_taken S k p all sent is taken, frames_apart S k p all sent is)
 
-  module _ (x q : Peer) (old : q ≡ p) (named : x.name ≡ q.name) where
-    put_so : (r : ReplicaState) → x.replica ≡ r → x ≡ record { name = p.name; replica = r }
-    put_so r same = λ i. record { name = (named ∙ ap (λ (y : Peer). y.name) old) i; replica = same i }
+  module _ (x q : Peer) (old : q ≡ p) (named : x.name ≡ q.name) (caret : x.caret ≡ q.caret) where
+    put_so : (r : ReplicaState) → x.replica ≡ r → x ≡ with_replica r p
+    put_so r same = put_is N S view h k.receiver place found x q old named caret r same
 
     -- memory was wanting on the way
     left_here : IsLeftIn q.replica k.frames x.replica → IsLeftIn p.replica k.frames x.replica
@@ -109,14 +110,14 @@ module _ (N S : Network) (view : N ≡ S) (h : IsReached N) (n : ℕ) (k : Packe
 
     -- all was received
     module _ (done : x.replica ≡ (delivery_of q.name q.replica k.frames).replica) where
-      put_is : x ≡ record { name = p.name; replica = (delivery_of p.name p.replica k.frames).replica }
-      put_is = put_so _ (done ∙ ap (λ (y : Peer). (delivery_of y.name y.replica k.frames).replica) old)
+      received_is : x ≡ with_replica (delivery_of p.name p.replica k.frames).replica p
+      received_is = put_so _ (done ∙ ap (λ (y : Peer). (delivery_of y.name y.replica k.frames).replica) old)
 
       back : with_written N S view h k.receiver place found x ≡ put_replica S p.name (delivery_of p.name p.replica k.frames).replica
-      back = written N S view h k.receiver place found x _ put_is
+      back = written N S view h k.receiver place found x _ received_is
 
       pub whole_reached : IsReached (with_written N S view h k.receiver place found x)
-      whole_reached = written_reached N S view h k.receiver place found x _ put_is (delivered_homely S k p all sent is)
+      whole_reached = written_reached N S view h k.receiver place found x _ received_is (delivered_homely S k p all sent is)
 
       pub whole_left : IsLeftAt S (Some k) (with_written N S view h k.receiver place found x)
       whole_left = subst (IsLeftAt S (Some k)) (sym back) (left_all S k p all sent is)

@@ -26,7 +26,7 @@ pieces_silent name cut n (suc k) events rest h = pieces_silent name cut n k (dro
 
 -- what is told of the frame, where the cut is that of the events held then
 pub told_lines : (p : Peer) (f : Frame) (cut : ℕ) → NoneClashes p.replica (f ∷ []) → cut ≡ latest_cut (answer_to p.replica f).state.held (length p.replica.held)
-    → reply_lines p.name cut (answer_to p.replica f).frames ≡ frame_line p f
+    → reply_lines p.name cut (answer_to p.replica f).frames ≡ frame_line p.name p.replica f
 told_lines p (Have counts) cut apart is =
     let lacking = missing p.replica.held counts in
     let room = frame_room p.replica.limits in
@@ -43,7 +43,7 @@ told_lines p Bye cut apart is = refl
 -- a frame was answered, and the cut is that of the events held then
 module _ (p : Peer) (new : ReplicaState) (f : Frame) (apart : NoneClashes p.replica (f ∷ [])) (name : List ℕ) (named : name ≡ p.name) (frames : List Frame) (cut : ℕ)
     (answered : frames ≡ (answer_to p.replica f).frames) (state : new ≡ (answer_to p.replica f).state) (cut_is : cut ≡ latest_cut new.held (length p.replica.held)) where
-  pub frame_printed : (old printed : List ℕ) → printed ≡ old ++ reply_lines name cut frames → printed ≡ old ++ frame_line p f
+  pub frame_printed : (old printed : List ℕ) → printed ≡ old ++ reply_lines name cut frames → printed ≡ old ++ frame_line p.name p.replica f
   frame_printed old printed told =
       told ∙ ap (λ line. old ++ line)
       ((λ i. reply_lines (named i) cut (answered i)) ∙ told_lines p f cut apart (cut_is ∙ ap (λ (r : ReplicaState). latest_cut r.held (length p.replica.held)) state))

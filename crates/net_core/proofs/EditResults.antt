@@ -20,7 +20,8 @@ use Rattle.peer_definitions.specs.Machine.StepOutcome.{Stepped}
 use Rattle.net_core.proofs.Editing.{edited_homely, edited_state, edited_step, named_so}
 use Rattle.net_core.proofs.Reaching.{homely}
 use Rattle.net_core.proofs.Steps.{at_peer, refused}
-use Rattle.net_core.proofs.Writes.{here, seen, there, with_written, written, written_back, written_reached}
+use Rattle.net_core.proofs.Puts.{with_replica}
+use Rattle.net_core.proofs.Writes.{here, put_is, seen, there, with_written, written, written_back, written_reached}
 
 -- what is left, whatever the fault
 left_same : (agent : List ℕ) (e : Edit) (old new : ReplicaState) (f : EditFault) → EditsBy agent e old new (Err f) → new ≡ old
@@ -49,20 +50,19 @@ told_refused network s who p e new f is none found edits = at f edits
 
 module _ (N S : Network) (view : N ≡ S) (h : IsReached N) (who : List ℕ) (place : ℕ)
     (found : (place < length S.peers) × (peer_of S who ≡ slice_get S.peers place)) (e : Edit) (x q : Peer)
-    (old : q ≡ here N S view h who place found) (named : x.name ≡ q.name) where
+    (old : q ≡ here N S view h who place found) (named : x.name ≡ q.name) (caret : x.caret ≡ q.caret) where
   abbrev p : Peer
   p = here N S view h who place found
 
   edits_here : (r : Result ℕ EditFault) → EditsBy q.name e q.replica x.replica r → EditsBy p.name e p.replica x.replica r
   edits_here r edits = subst (λ (y : Peer). EditsBy y.name e y.replica x.replica r) old edits
 
-  name_is : x.name ≡ p.name
-  name_is = named ∙ ap (λ (y : Peer). y.name) old
+  put_so : (r : ReplicaState) → x.replica ≡ r → x ≡ with_replica r p
+  put_so r same = put_is N S view h who place found x q old named caret r same
 
   -- it was refused
   pub failed_back : (f : EditFault) → EditsBy q.name e q.replica x.replica (Err f) → with_written N S view h who place found x ≡ S
-  failed_back f edits = let same = left_same p.name e p.replica x.replica f (edits_here (Err f) edits) in written_back N S view h who place found x
-      (λ i. record { name = name_is i; replica = same i })
+  failed_back f edits = let same = left_same p.name e p.replica x.replica f (edits_here (Err f) edits) in written_back N S view h who place found x (put_so p.replica same)
 
   pub failed_reached : (f : EditFault) → EditsBy q.name e q.replica x.replica (Err f) → IsReached (with_written N S view h who place found x)
   failed_reached f edits = subst IsReached (sym (failed_back f edits)) (seen N S view h who place found)
@@ -77,12 +77,8 @@ module _ (N S : Network) (view : N ≡ S) (h : IsReached N) (who : List ℕ) (pl
 
   -- it was made
   made_is : (n : ℕ) (edits : EditsBy q.name e q.replica x.replica (Ok n))
-      → x ≡ record {
-        name = p.name;
-        replica = edited_state S who p e (homely S (seen N S view h who place found))
-            (there N S view h who place found) (edits_here (Ok n) edits).0;
-      }
-  made_is n edits = let all = edits_here (Ok n) edits in λ i. record { name = name_is i; replica = all.1 i }
+      → x ≡ with_replica (edited_state S who p e (homely S (seen N S view h who place found)) (there N S view h who place found) (edits_here (Ok n) edits).0) p
+  made_is n edits = let all = edits_here (Ok n) edits in put_so _ all.1
 
   pub made_reached : (n : ℕ) → EditsBy q.name e q.replica x.replica (Ok n) → IsReached (with_written N S view h who place found x)
   made_reached n edits =

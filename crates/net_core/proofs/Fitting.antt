@@ -37,7 +37,12 @@ use Rattle.peer_definitions.specs.declared.frame.Frame.{Frame}
 use Rattle.peer_definitions.specs.declared.frame.Frame.TheVariants.{Have, Events, Done, Took, Clash, Bye}
 use Rattle.net_core.specs.Keeping.{IsHome, IsReached, IsReplica}
 use Rattle.net_core.specs.Laws.{NetsAreReached, after_steps, network_left}
-use Rattle.peer_definitions.specs.Machine.{Network, Packet, Peer, deliver_step, delivery_of, edit_outcome, empty_network, net_step, peer_of, peer_step, piece_of, print_before, put_replica, restart_outcome, with_packet, with_peer, with_replies}
+use Rattle.ew_model.specs.declared.id.Id.{Id}
+use Rattle.carets.specs.declared.caret.Caret.{Caret}
+use Rattle.carets.specs.Sides.{caret_in, text_chars}
+use Rattle.undo_definitions.specs.Undoing.{UndoRefusal, events_of_undo, undo_refusal}
+use Rattle.undo_definitions.specs.Wanted.{ids_from}
+use Rattle.peer_definitions.specs.Machine.{Network, Packet, Peer, caret_outcome, deliver_step, delivery_of, edit_outcome, empty_network, net_step, peer_of, peer_step, piece_of, print_before, put_replica, restart_outcome, undo_outcome, where_outcome, with_packet, with_peer, with_replies}
 use Rattle.peer_definitions.specs.Machine.Refusal.{NoPacket}
 use Rattle.peer_definitions.specs.Machine.StepOutcome.{Refused}
 use Rattle.net_core.proofs.Counting.{adds_one}
@@ -45,8 +50,9 @@ use Rattle.net_core.proofs.Deliveries.{all_before, few_parents, no_clashes, room
 use Rattle.net_core.proofs.Editing.{named_so, replica_of}
 use Rattle.net_core.proofs.Following.{peer_did, step_follows}
 use Rattle.ew_model.proofs.OperationLaws.{got}
-use Rattle.net_core.proofs.Puts.{peer_there, put_elsewhere, put_here, put_in}
+use Rattle.net_core.proofs.Puts.{changed_elsewhere, changed_here, changed_in, peer_there, put_elsewhere, put_here, put_in, with_caret}
 use Rattle.net_core.proofs.Reaching.{AreTaken, HasHomes, IsHomely, IsSent, all_on, reached}
+use Rattle.net_core.proofs.Restoring.{restoring_sound}
 use Rattle.net_core.proofs.Sounding.{CanWrite, made_sound}
 use Rattle.net_core.proofs.Told.{few_told, no_first_clash}
 
@@ -76,6 +82,14 @@ put_sound name r (p ∷ peers) held waiting h = (at (cases_Bool (name_eq p.name 
     at : (name_eq p.name name ≡ true) ⊎ (name_eq p.name name ≡ false) → IsSoundPeer (put_in name r p)
     at (inl here) = subst IsSoundPeer (sym (put_here name r p here)) (record { name = h.0.name; held = held; waiting = waiting })
     at (inr other) = subst IsSoundPeer (sym (put_elsewhere name r p other)) h.0
+
+caret_sound : (name : List ℕ) (c : Caret) (peers : List Peer) → AllByRecursion IsSoundPeer peers → AllByRecursion IsSoundPeer (map (changed_in name (with_caret c)) peers)
+caret_sound name c [] h = tt
+caret_sound name c (p ∷ peers) h = (at (cases_Bool (name_eq p.name name)), caret_sound name c peers h.1)
+  where
+    at : (name_eq p.name name ≡ true) ⊎ (name_eq p.name name ≡ false) → IsSoundPeer (changed_in name (with_caret c) p)
+    at (inl here) = subst IsSoundPeer (sym (changed_here name (with_caret c) p here)) (record { name = h.0.name; held = h.0.held; waiting = h.0.waiting })
+    at (inr other) = subst IsSoundPeer (sym (changed_elsewhere name (with_caret c) p other)) h.0
 
 -- how many events a frame may have
 events_in_body : (limits : LimitNumbers) (events : List Event) → IsTaken limits (Events events) → length events ≤ limits.body
@@ -152,6 +166,20 @@ module _ (network new : Network) (are : AreLimits network.limits) (h : IsHomely 
       let made = made_sound p.replica.limits p.replica.held p.replica.waiting p.name (subst AreLimits (sym own.same) are) own.kept peer.held peer.name e can is in
       went_sound _ (put_net p _ (all_joined IsSound p.replica.held (events_of_edit p.replica.held p.name e) peer.held made) peer.waiting) left
 
+  undo_sound : (who : List ℕ) (undone : List Id) (p : Peer) → peer_of network who ≡ Some p → (o : Option UndoRefusal)
+      → undo_refusal p.replica.limits p.replica.held undone ≡ o
+      → network_left (undo_outcome network p undone o) ≡ Some new → IsSoundNet new
+  undo_sound who undone p found (Some why) is left = let no : ⊥ = cc in absurd no
+  undo_sound who undone p found None is left =
+      let own = replica_of network who p h found in
+      let peer = all_at IsSoundPeer network.peers p sound.peers (peer_there network.peers who p found) in
+      let made = restoring_sound p.replica.limits p.replica.held p.replica.waiting p.name (subst AreLimits (sym own.same) are) own.kept peer.held peer.name undone is in
+      went_sound _ (put_net p _ (all_joined IsSound p.replica.held (events_of_undo p.replica.held p.name undone) peer.held made) peer.waiting) left
+
+  caret_net : (p : Peer) (at : ℕ) (o : Option Caret) → network_left (caret_outcome network p at o) ≡ Some new → IsSoundNet new
+  caret_net p at None left = let no : ⊥ = cc in absurd no
+  caret_net p at (Some c) left = went_sound _ (record { peers = caret_sound p.name c network.peers sound.peers; packets = sound.packets }) left
+
   sent_sound : (other : Network) → IsSoundNet other → (k : Packet) → AreTaken other.limits k → IsSoundNet
       (record { limits = other.limits; peers = other.peers; packets = other.packets ++ k ∷ [] })
   sent_sound other s k taken = record { peers = s.peers; packets = all_joined (AreTaken other.limits) other.packets (k ∷ []) s.packets (taken, tt) }
@@ -215,6 +243,14 @@ module _ (network new : Network) (are : AreLimits network.limits) (h : IsHomely 
       let did = peer_did network who (λ p. edit_outcome network p (edits.Edit.Mark label)
       (edit_refusal p.replica.limits p.replica.held p.name (edits.Edit.Mark label))) new left in
       edit_sound who (edits.Edit.Mark label) did.0 can.1 did.1 _ refl did.2
+  step_sound (step.Undo who whose first count) can left =
+      let undone = ids_from whose first count in
+      let did = peer_did network who (λ p. undo_outcome network p undone (undo_refusal p.replica.limits p.replica.held undone)) new left in
+      undo_sound who undone did.0 did.1 _ refl did.2
+  step_sound (step.Caret who at) can left =
+      let did = peer_did network who (λ p. caret_outcome network p at (caret_in (text_chars p.replica.held) at)) new left in
+      caret_net did.0 at _ did.2
+  step_sound (step.Where name) can left = went_sound network sound (peer_did network name (where_outcome network) new left).2
   step_sound (step.Push sender receiver) can left =
       packet_sound sender receiver (λ r. event_frames r.limits r.held)
       (λ p own held limits. sent p.replica.limits p.replica.held limits held (few_parents p.replica.held own.kept.orderly.good)) left

@@ -1,5 +1,5 @@
 -- Networks follow one another: histories grow, packets stay, and events keep their homes.
-use Rattle.std.proofs.Common.{◌≡◌, ℕ, ◌⊎◌, inl, inr, true, false, List, [], ◌∷◌, ◌++◌, Option, Some, None, refl, sym, ap, ◌∙◌, subst, append-nil, append_assoc}
+use Rattle.std.proofs.Common.{◌≡◌, ℕ, ◌⊎◌, inl, inr, true, false, List, [], ◌∷◌, ◌++◌, map, Option, Some, None, refl, sym, ap, ◌∙◌, subst, append-nil, append_assoc}
 use Rattle.std.specs.List.{AllByRecursion, slice_get}
 use Rattle.std.specs.Option.{option_and_then, option_map_or}
 use Rattle.std.proofs.lemmas.Bool.{cases_Bool}
@@ -20,15 +20,20 @@ use Rattle.peer_definitions.specs.Answering.{event_frames, question}
 use Rattle.peer_definitions.specs.declared.frame.Frame.{Frame}
 use Rattle.net_core.specs.Keeping.{IsHome, IsReplica}
 use Rattle.net_core.specs.Laws.{after_steps, network_left}
-use Rattle.peer_definitions.specs.Machine.{Network, Packet, Peer, StepOutcome, deliver_step, delivery_of, edit_outcome, net_step, peer_of, peer_step, piece_of, print_before, put_replica, restart_outcome, with_packet, with_peer, with_replies}
+use Rattle.ew_model.specs.declared.id.Id.{Id}
+use Rattle.carets.specs.declared.caret.Caret.{Caret}
+use Rattle.carets.specs.Sides.{caret_in, text_chars}
+use Rattle.undo_definitions.specs.Undoing.{UndoRefusal, undo_refusal}
+use Rattle.undo_definitions.specs.Wanted.{ids_from}
+use Rattle.peer_definitions.specs.Machine.{Network, Packet, Peer, StepOutcome, caret_outcome, deliver_step, delivery_of, edit_outcome, net_step, peer_of, peer_step, piece_of, print_before, put_caret, put_replica, restart_outcome, undo_outcome, where_outcome, with_packet, with_peer, with_replies}
 use Rattle.peer_definitions.specs.Machine.Refusal.{NoPeer, NoPacket}
 use Rattle.peer_definitions.specs.Machine.StepOutcome.{Refused}
 use Rattle.net_core.proofs.Deliveries.{Went, homes_in_frames, went_all}
-use Rattle.net_core.proofs.Editing.{edited_homely, edited_state, named_so, replica_of, restarted, restarted_homely, went_homely}
+use Rattle.net_core.proofs.Editing.{edited_homely, edited_state, named_so, replica_of, restarted, restarted_homely, undone_homely, undone_state, went_homely}
 use Rattle.ew_model.proofs.OperationLaws.{got}
 use Rattle.net_core.proofs.Packets.{replies_are, sent_between}
-use Rattle.net_core.proofs.Puts.{found_put, put_elsewhere, put_here, put_in}
-use Rattle.net_core.proofs.Reaching.{HasHomes, IsHomely, IsSent, one_more_peer, one_more_sent, still_there}
+use Rattle.net_core.proofs.Puts.{changed_elsewhere, changed_here, changed_in, found_changed, with_caret, with_replica}
+use Rattle.net_core.proofs.Reaching.{HasHomes, IsHomely, IsSent, caret_homely, one_more_peer, one_more_sent, still_there}
 
 -- the peer is still there, and holds all that it held
 pub record IsGrown (new : Network) (name : List ℕ) (p : Peer) : Type 0 where
@@ -68,27 +73,39 @@ sent_follows network k h sent = record {
   packets = (k ∷ [], refl);
 }
 
--- a replica that holds more
-pub put_follows : (network : Network) (who : List ℕ) (p : Peer) (r : ReplicaState) → peer_of network who ≡ Some p
-    → ((e : Event) → Among e p.replica.held → Among e r.held)
-    → IsHomely (put_replica network p.name r) → Follows network (put_replica network p.name r)
-put_follows network who p r found more h = record { limits = refl; homely = h; grown = still; packets = ([], sym (append-nil network.packets)) }
+-- a peer that holds all that it held
+pub change_follows : (network : Network) (who : List ℕ) (p : Peer) (f : Peer → Peer) → ((q : Peer) → (f q).name ≡ q.name) → peer_of network who ≡ Some p
+    → ((e : Event) → Among e p.replica.held → Among e (f p).replica.held)
+    → IsHomely (record { limits = network.limits; peers = map (changed_in p.name f) network.peers; packets = network.packets })
+    → Follows network (record { limits = network.limits; peers = map (changed_in p.name f) network.peers; packets = network.packets })
+change_follows network who p f keeps found more h = record { limits = refl; homely = h; grown = still; packets = ([], sym (append-nil network.packets)) }
   where
-    still : (name : List ℕ) (q : Peer) → peer_of network name ≡ Some q → IsGrown (put_replica network p.name r) name q
+    still : (name : List ℕ) (q : Peer) → peer_of network name ≡ Some q
+        → IsGrown (record { limits = network.limits; peers = map (changed_in p.name f) network.peers; packets = network.packets }) name q
     still name q there = record {
-      now = put_in p.name r q;
-      there = found_put p.name r name q network.peers there;
+      now = changed_in p.name f q;
+      there = found_changed p.name f keeps name q network.peers there;
       held = λ e m. at
           (cases_Bool (name_eq q.name p.name)) e m;
     }
       where
-        at : (name_eq q.name p.name ≡ true) ⊎ (name_eq q.name p.name ≡ false) → (e : Event) → Among e q.replica.held → Among e (put_in p.name r q).replica.held
+        at : (name_eq q.name p.name ≡ true) ⊎ (name_eq q.name p.name ≡ false) → (e : Event) → Among e q.replica.held → Among e (changed_in p.name f q).replica.held
         at (inl here) e m =
             let name_is : who ≡ name = sym (named_so network who p found) ∙ sym (name_exact q.name p.name here) ∙ named_so network name q there in
             let both : Some p ≡ Some q = sym found ∙ ap (peer_of network) name_is ∙ there in
             let same : q ≡ p = cc in
-            subst (λ (x : Peer). Among e x.replica.held) (sym (put_here p.name r q here)) (more e (subst (λ (x : Peer). Among e x.replica.held) same m))
-        at (inr other) e m = subst (λ (x : Peer). Among e x.replica.held) (sym (put_elsewhere p.name r q other)) m
+            subst (λ (x : Peer). Among e x.replica.held) (sym (changed_here p.name f q here ∙ ap f same)) (more e (subst (λ (x : Peer). Among e x.replica.held) same m))
+        at (inr other) e m = subst (λ (x : Peer). Among e x.replica.held) (sym (changed_elsewhere p.name f q other)) m
+
+-- a replica that holds more
+pub put_follows : (network : Network) (who : List ℕ) (p : Peer) (r : ReplicaState) → peer_of network who ≡ Some p
+    → ((e : Event) → Among e p.replica.held → Among e r.held)
+    → IsHomely (put_replica network p.name r) → Follows network (put_replica network p.name r)
+put_follows network who p r found more h = change_follows network who p (with_replica r) (λ q. refl) found more h
+
+-- another caret
+pub caret_follows : (network : Network) (who : List ℕ) (p : Peer) (c : Caret) → IsHomely network → peer_of network who ≡ Some p → Follows network (put_caret network p.name c)
+caret_follows network who p c h found = change_follows network who p (with_caret c) (λ q. refl) found (λ e m. m) (caret_homely network p.name c h)
 
 -- what a step did that wasn't refused
 pub peer_did : (network : Network) (name : List ℕ) (act : Peer → StepOutcome) (new : Network) → network_left (with_peer network name act) ≡ Some new
@@ -120,6 +137,18 @@ module _ (network new : Network) (h : IsHomely network) where
   edit_follows who e p found None is left =
       went_same network _ new (put_follows network who p (edited_state network who p e h found is) found (λ x m. joined_left p.replica.held _ x m)
       (edited_homely network who p e h found is)) left
+
+  undo_follows : (who : List ℕ) (undone : List Id) (p : Peer) → peer_of network who ≡ Some p → (o : Option UndoRefusal)
+      → undo_refusal p.replica.limits p.replica.held undone ≡ o
+      → network_left (undo_outcome network p undone o) ≡ Some new → Follows network new
+  undo_follows who undone p found (Some why) is left = let no : ⊥ = cc in absurd no
+  undo_follows who undone p found None is left =
+      went_same network _ new (put_follows network who p (undone_state network who p undone h found is) found (λ x m. joined_left p.replica.held _ x m)
+      (undone_homely network who p undone h found is)) left
+
+  set_follows : (who : List ℕ) (p : Peer) (at : ℕ) → peer_of network who ≡ Some p → (o : Option Caret) → network_left (caret_outcome network p at o) ≡ Some new → Follows network new
+  set_follows who p at found None left = let no : ⊥ = cc in absurd no
+  set_follows who p at found (Some c) left = went_same network _ new (caret_follows network who p c h found) left
 
   packet_follows : (sender receiver : List ℕ) (made : ReplicaState → List Frame)
       → ((p : Peer) → IsReplica network.limits network.peers p.replica → AllByRecursion (HasHomes network.peers) (made p.replica))
@@ -180,6 +209,14 @@ step_follows network new (step.Mark who label) h left =
     let did = peer_did network who (λ p. edit_outcome network p (edits.Edit.Mark label)
     (edit_refusal p.replica.limits p.replica.held p.name (edits.Edit.Mark label))) new left in
     edit_follows network new h who (edits.Edit.Mark label) did.0 did.1 _ refl did.2
+step_follows network new (step.Undo who whose first count) h left =
+    let undone = ids_from whose first count in
+    let did = peer_did network who (λ p. undo_outcome network p undone (undo_refusal p.replica.limits p.replica.held undone)) new left in
+    undo_follows network new h who undone did.0 did.1 _ refl did.2
+step_follows network new (step.Caret who at) h left =
+    let did = peer_did network who (λ p. caret_outcome network p at (caret_in (text_chars p.replica.held) at)) new left in
+    set_follows network new h who did.0 at did.1 _ did.2
+step_follows network new (step.Where name) h left = went_same network network new (follows_itself network h) (peer_did network name (where_outcome network) new left).2
 step_follows network new (step.Push sender receiver) h left =
     packet_follows network new h sender receiver (λ r. event_frames r.limits r.held) (λ p r. homes_in_frames network.peers p.replica.limits p.replica.held r.held) left
 step_follows network new (step.Send sender receiver skip count) h left =

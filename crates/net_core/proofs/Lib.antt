@@ -4,6 +4,7 @@ pub mod Answering
 pub mod Arrivals
 pub mod Arriving
 pub mod Awaiting
+pub mod CaretResults
 pub mod CatchingUp
 pub mod Counting
 pub mod DeliverResults
@@ -28,8 +29,10 @@ pub mod Receiving
 pub mod ReplyLines
 pub mod RunResults
 pub mod Running
+pub mod Restoring
 pub mod Sending
 pub mod Sounding
 pub mod Steps
 pub mod Told
+pub mod UndoResults
 pub mod Writes

@@ -15,7 +15,7 @@ use Rattle.peer_definitions.specs.Machine.Refusal.{NoPacket}
 use Rattle.peer_definitions.specs.Machine.StepOutcome.{Refused}
 use Rattle.net_core.proofs.Deliveries.{Went, homes_in_replies, left_in_went, none_clashes, went_all}
 use Rattle.net_core.proofs.Editing.{grows, named_so, replica_of, went_homely}
-use Rattle.net_core.proofs.Puts.{found_named, found_put, put_in, set_is_put}
+use Rattle.net_core.proofs.Puts.{found_named, found_put, put_in, set_is_changed, with_replica}
 use Rattle.net_core.proofs.Reaching.{AreTaken, HasHomes, IsHomely, IsSent, all_on, home_after}
 use Rattle.net_core.proofs.Receiving.{left_before}
 use Rattle.net_core.proofs.Steps.{at_peer}
@@ -36,7 +36,7 @@ pub put_same : (network : Network) (name : List ℕ) (p : Peer) (i : ℕ) → Is
     → put_replica network name p.replica ≡ network
 put_same network name p i h at found =
     ap (λ (peers : List Peer). record { limits = network.limits; peers = peers; packets = network.packets })
-    (sym (set_is_put network.peers i p name p.replica h.apart at (found_named name p network.peers found)) ∙ set_same network.peers i p at)
+    (sym (set_is_changed network.peers i p name (with_replica p.replica) h.apart at (found_named name p network.peers found)) ∙ set_same network.peers i p at)
 
 -- all of the frames are received
 all_left : (name : List ℕ) (r : ReplicaState) (frames : List Frame) → IsLeftIn r frames (delivery_of name r frames).replica

@@ -15,8 +15,10 @@ use Rattle.ew_model.proofs.IdLaws.{names_equal}
 use Rattle.peer_definitions.specs.declared.frame.Frame.{Frame}
 use Rattle.peer_frames.specs.Laws.{IsTaken}
 use Rattle.net_core.specs.Keeping.{AreNamedApart, IsFrame, IsHome, IsPacket, IsReached, IsReplica, events_in}
-use Rattle.peer_definitions.specs.Machine.{Network, Packet, Peer, peer_among}
-use Rattle.net_core.proofs.Puts.{found_put, put_apart, put_elsewhere, put_here, put_in, still_home}
+use Rattle.carets.specs.declared.caret.Caret.{Caret}
+use Rattle.carets.specs.declared.caret.Caret.TheVariants.{Root}
+use Rattle.peer_definitions.specs.Machine.{Network, Packet, Peer, peer_among, put_caret, put_replica}
+use Rattle.net_core.proofs.Puts.{changed_apart, changed_elsewhere, changed_here, changed_in, found_changed, put_in, still_home, with_caret, with_replica}
 
 -- what each element passes on
 pub all_on : {X : Type 0} {P Q : X → Type 0} → ((x : X) → P x → Q x) → (xs : List X) → AllByRecursion P xs → AllByRecursion Q xs
@@ -137,40 +139,58 @@ packet_there limits peers q k h = record {
   frames = all_on (still_frame limits peers (peers ++ q ∷ []) (home_there peers q)) k.frames h.frames;
 }
 
--- a replica is put in place of another that held no more
-module _ (network : Network) (name : List ℕ) (r : ReplicaState) (h : IsHomely network)
-    (grows : (p : Peer) (e : Event) → peer_among network.peers name ≡ Some p → Among e p.replica.held → Among e r.held) where
-  abbrev after : List Peer
-  after = map (put_in name r) network.peers
+-- a peer is changed, and holds all that it held
+module _ (network : Network) (name : List ℕ) (f : Peer → Peer) (keeps : (p : Peer) → (f p).name ≡ p.name) (h : IsHomely network)
+    (grows : (p : Peer) (e : Event) → peer_among network.peers name ≡ Some p → Among e p.replica.held → Among e (f p).replica.held) where
+  abbrev changed : List Peer
+  changed = map (changed_in name f) network.peers
 
-  pub home_after : (e : Event) → IsHome network.peers e → IsHome after e
-  home_after = still_home network.peers name r grows
+  pub home_changed : (e : Event) → IsHome network.peers e → IsHome changed e
+  home_changed = still_home network.peers name f keeps grows
 
-  packet_after : (k : Packet) → IsSent network.peers k → IsSent after k
+  packet_after : (k : Packet) → IsSent network.peers k → IsSent changed k
   packet_after k p = record {
-    sender = put_in name r p.sender;
-    sender_is = found_put name r k.sender p.sender network.peers p.sender_is;
-    receiver = put_in name r p.receiver;
-    receiver_is = found_put name r k.receiver p.receiver network.peers p.receiver_is;
-    frames = all_on (still_frame network.limits network.peers after home_after) k.frames p.frames;
+    sender = changed_in name f p.sender;
+    sender_is = found_changed name f keeps k.sender p.sender network.peers p.sender_is;
+    receiver = changed_in name f p.receiver;
+    receiver_is = found_changed name f keeps k.receiver p.receiver network.peers p.receiver_is;
+    frames = all_on (still_frame network.limits network.peers changed home_changed) k.frames p.frames;
   }
 
-  replicas_after : IsReplica network.limits after r → (peers : List Peer) → AllByRecursion (λ (p : Peer). IsReplica network.limits network.peers p.replica) peers
-      → AllByRecursion (λ (p : Peer). IsReplica network.limits after p.replica) (map (put_in name r) peers)
+  replicas_after : ((p : Peer) → IsReplica network.limits network.peers p.replica → IsReplica network.limits changed (f p).replica) → (peers : List Peer)
+      → AllByRecursion (λ (p : Peer). IsReplica network.limits network.peers p.replica) peers
+      → AllByRecursion (λ (p : Peer). IsReplica network.limits changed p.replica) (map (changed_in name f) peers)
   replicas_after own [] all = tt
   replicas_after own (p ∷ peers) all = (by (cases_Bool (name_eq p.name name)), replicas_after own peers all.1)
     where
-      by : (name_eq p.name name ≡ true) ⊎ (name_eq p.name name ≡ false) → IsReplica network.limits after (put_in name r p).replica
-      by (inl here) = subst (λ (x : Peer). IsReplica network.limits after x.replica) (sym (put_here name r p here)) own
-      by (inr other) = subst (λ (x : Peer). IsReplica network.limits after x.replica) (sym (put_elsewhere name r p other))
-          (still_replica network.limits network.peers after home_after p.replica all.0)
+      by : (name_eq p.name name ≡ true) ⊎ (name_eq p.name name ≡ false) → IsReplica network.limits changed (changed_in name f p).replica
+      by (inl here) = subst (λ (x : Peer). IsReplica network.limits changed x.replica) (sym (changed_here name f p here)) (own p all.0)
+      by (inr other) = subst (λ (x : Peer). IsReplica network.limits changed x.replica) (sym (changed_elsewhere name f p other))
+          (still_replica network.limits network.peers changed home_changed p.replica all.0)
 
-  pub put_homely : IsReplica network.limits after r → IsHomely (record { limits = network.limits; peers = after; packets = network.packets })
-  put_homely own = record {
-    apart = put_apart name r network.peers h.apart;
+  pub changed_homely : ((p : Peer) → IsReplica network.limits network.peers p.replica → IsReplica network.limits changed (f p).replica)
+      → IsHomely (record { limits = network.limits; peers = changed; packets = network.packets })
+  changed_homely own = record {
+    apart = changed_apart name f keeps network.peers h.apart;
     peers = replicas_after own network.peers h.peers;
     packets = all_on packet_after network.packets h.packets;
   }
+
+-- a replica is put in place of another that held no more
+module _ (network : Network) (name : List ℕ) (r : ReplicaState) (h : IsHomely network)
+    (grows : (p : Peer) (e : Event) → peer_among network.peers name ≡ Some p → Among e p.replica.held → Among e r.held) where
+  pub home_after : (e : Event) → IsHome network.peers e → IsHome (map (put_in name r) network.peers) e
+  home_after = home_changed network name (with_replica r) (λ p. refl) h grows
+
+  pub put_homely : IsReplica network.limits (map (put_in name r) network.peers) r → IsHomely (put_replica network name r)
+  put_homely own = changed_homely network name (with_replica r) (λ p. refl) h grows (λ p k. own)
+
+-- a caret is put in place of another
+pub caret_homely : (network : Network) (name : List ℕ) (c : Caret) → IsHomely network → IsHomely (put_caret network name c)
+caret_homely network name c h =
+    changed_homely network name (with_caret c) (λ p. refl) h (λ p e found m. m)
+    (λ p k. still_replica network.limits network.peers (map (changed_in name (with_caret c)) network.peers)
+    (home_changed network name (with_caret c) (λ q. refl) h (λ q e found m. m)) p.replica k)
 
 -- no peer has the name of the new one
 none_there : (name : List ℕ) (q : Peer) (peers : List Peer) → name_eq q.name name ≡ false → list_any (λ (x : Peer). name_eq x.name name) peers ≡ false
@@ -196,7 +216,7 @@ unfolding IsGood
 empty_good = tt
 
 abbrev pub new_peer : LimitNumbers → List ℕ → Peer
-new_peer limits name = record { name = name; replica = record { limits = limits; held = []; waiting = [] } }
+new_peer limits name = record { name = name; replica = record { limits = limits; held = []; waiting = [] }; caret = Root }
 
 new_replica : (limits : LimitNumbers) (name : List ℕ) (peers : List Peer) → IsReplica limits peers (new_peer limits name).replica
 new_replica limits name peers = record {

@@ -65,14 +65,14 @@ left_before r (f ∷ frames) = inl (left_by f r)
 module _ (name : List ℕ) (start : ReplicaState) (frames : List Frame) (r : ReplicaState) (replies : List Frame) (printed : List ℕ) where
   -- one frame more
   pub received_more : (f : Frame) (more : List Frame) (new : ReplicaState) → IsReceiving name start frames r (f ∷ more) replies printed → new ≡ (answer_to r f).state
-      → IsReceiving name start frames new more (replies ++ (answer_to r f).frames) (printed ++ frame_line (record { name = name; replica = r }) f)
+      → IsReceiving name start frames new more (replies ++ (answer_to r f).frames) (printed ++ frame_line name r f)
   received_more f more new h is =
       let s = (answer_to r f).state in
       subst (λ x. IsReceiving name start frames x more (replies ++ (answer_to r f).frames)
-      (printed ++ frame_line (record { name = name; replica = r }) f)) (sym is) (record {
+      (printed ++ frame_line name r f)) (sym is) (record {
         limits = same_limits r f ∙ h.limits;
         replies_are = append_assoc replies (answer_to r f).frames (delivery_of name s more).replies ∙ h.replies_are;
-        printed_is = append_assoc printed (frame_line (record { name = name; replica = r }) f) (delivery_of name s more).printed ∙ h.printed_is;
+        printed_is = append_assoc printed (frame_line name r f) (delivery_of name s more).printed ∙ h.printed_is;
         replica_is = h.replica_is;
         left = λ x k. h.left x (inr k);
         apart = all_behind (λ (a : Answer). is_clash a.ruling ≡ false) (answers_to r f) (answers_in s more) h.apart;
@@ -93,11 +93,10 @@ module _ (name : List ℕ) (start : ReplicaState) (frames : List Frame) (r : Rep
 pub next_received : (start peer new : Peer) (frames rest more : List Frame) (f : Frame) (replies answers : List Frame) (printed told : List ℕ)
     → IsReceiving start.name start.replica frames peer.replica rest replies printed → peer.name ≡ start.name → rest ≡ f ∷ more
     → answers ≡ replies ++ (answer_to peer.replica f).frames
-    → told ≡ printed ++ frame_line peer f → new.replica ≡ (answer_to peer.replica f).state → IsReceiving start.name start.replica frames new.replica more answers told
+    → told ≡ printed ++ frame_line peer.name peer.replica f → new.replica ≡ (answer_to peer.replica f).state → IsReceiving start.name start.replica frames new.replica more answers told
 next_received start peer new frames rest more f replies answers printed told h named is answered line state =
     let at = subst (λ fs. IsReceiving start.name start.replica frames peer.replica fs replies printed) is h in
-    let same : told ≡ printed ++ frame_line (record { name = start.name; replica = peer.replica }) f = line ∙ ap
-    (λ name. printed ++ frame_line (record { name = name; replica = peer.replica }) f) named in
+    let same : told ≡ printed ++ frame_line start.name peer.replica f = line ∙ ap (λ name. printed ++ frame_line name peer.replica f) named in
     subst (λ fs. IsReceiving start.name start.replica frames new.replica more fs told) (sym answered)
     (subst (λ out. IsReceiving start.name start.replica frames new.replica more (replies ++ (answer_to peer.replica f).frames) out) (sym same)
     (received_more start.name start.replica frames peer.replica replies printed f more new.replica at state))

@@ -53,6 +53,7 @@ module _ (limits : LimitNumbers) (script : List (ℕ × NetStep)) (i : ℕ) (x :
   told_run (fault.NoPeer name) new h = broke (fault.NoPeer name) h.0
   told_run (fault.PeerTwice name) new h = broke (fault.PeerTwice name) h.0
   told_run (fault.NoPacket n) new h = broke (fault.NoPacket n) h.0
+  told_run (fault.NoEvent id) new h = broke (fault.NoEvent id) h.0
   told_run (fault.OutOfRange len) new h = broke (fault.OutOfRange len) h.0
   told_run (fault.TooManyHeads heads) new h = broke (fault.TooManyHeads heads) h.0
   told_run (fault.Full count) new h = broke (fault.Full count) h.0

@@ -90,7 +90,7 @@ module _ (limits : LimitNumbers) (held waiting : List Event) (agent : List ℕ) 
   own_few = count_by-le-length (λ (e : Event). name_eq e.id.agent agent) held
 
   -- the events of operations
-  ops_made : (ops : List Op) → length held + length ops ≤ 16777216 → AllByRecursion IsSoundOp ops → AreSound (events_of_ops held agent ops)
+  pub ops_made : (ops : List Op) → length held + length ops ≤ 16777216 → AllByRecursion IsSoundOp ops → AreSound (events_of_ops held agent ops)
   unfolding events_of_ops
   ops_made ops few can = let count = own_few in chain_sound agent (count_of held agent) (sort_by id_cmp (heads held)) ops name (omega (arith, few, count)) (heads_sound held sound) can
 

@@ -15,7 +15,8 @@ use Rattle.peer_definitions.specs.declared.frame.Frame.{Frame}
 use Rattle.net_core.specs.declared.fault.NetFault.{NetFault}
 use Rattle.net_core.specs.declared.fault.NetFault.TheVariants as fault
 use Rattle.net_core.specs.Answers.{StepsTo, refusal_told}
-use Rattle.peer_definitions.specs.Machine.{Network, Peer, Refusal, StepOutcome, agree_line, edit_step, net_step, packet_step, peer_of, peer_step, piece_of, printed_line, restart_outcome, with_packet, with_peer}
+use Rattle.peer_definitions.specs.Machine.{Network, Peer, Refusal, StepOutcome, agree_line, caret_step, edit_step, net_step, packet_step, peer_of, peer_step, piece_of, printed_line, restart_outcome, undo_step, where_outcome, with_packet, with_peer}
+use Rattle.undo_definitions.specs.Wanted.{ids_from}
 use Rattle.peer_definitions.specs.Machine.Refusal.{NoPeer, PeerTwice}
 use Rattle.peer_definitions.specs.Machine.StepOutcome.{Stepped, Refused}
 
@@ -36,6 +37,7 @@ pub refused : (old new : Network) (s : NetStep) (f : NetFault) (why : Refusal) �
 refused old new s (fault.NoPeer name) why told is same = ((why, told, is), same)
 refused old new s (fault.PeerTwice name) why told is same = ((why, told, is), same)
 refused old new s (fault.NoPacket n) why told is same = ((why, told, is), same)
+refused old new s (fault.NoEvent id) why told is same = ((why, told, is), same)
 refused old new s (fault.OutOfRange len) why told is same = ((why, told, is), same)
 refused old new s (fault.TooManyHeads heads) why told is same = ((why, told, is), same)
 refused old new s (fault.Full count) why told is same = ((why, told, is), same)
@@ -73,6 +75,18 @@ del_is network who at n = refl
 pub mark_is : (network : Network) (who label : List ℕ) → net_step network (step.Mark who label) ≡ edit_step network who (edits.Edit.Mark label)
 unfolding net_step
 mark_is network who label = refl
+
+pub undo_is : (network : Network) (who whose : List ℕ) (first count : ℕ) → net_step network (step.Undo who whose first count) ≡ undo_step network who (ids_from whose first count)
+unfolding net_step
+undo_is network who whose first count = refl
+
+pub caret_is : (network : Network) (who : List ℕ) (at : ℕ) → net_step network (step.Caret who at) ≡ caret_step network who at
+unfolding net_step
+caret_is network who at = refl
+
+pub where_is : (network : Network) (name : List ℕ) → net_step network (step.Where name) ≡ with_peer network name (where_outcome network)
+unfolding net_step
+where_is network name = refl
 
 -- a name that is there, and one that isn't
 pub twice : (network : Network) (name : List ℕ) (p : Peer) → peer_of network name ≡ Some p → net_step network (step.Peer name) ≡ Refused (PeerTwice name)

@@ -1,20 +1,22 @@
 -- A peer of a network is read at its place, and written there.
-use Rattle.std.proofs.Common.{◌≡◌, ℕ, zero, suc, ◌<◌, List, [], ◌∷◌, get_or, length, set, Some, refl, sym, ap, ◌∙◌, subst}
+use Rattle.std.proofs.Common.{◌≡◌, ℕ, zero, suc, ◌<◌, List, [], ◌∷◌, get_or, length, map, set, Some, refl, sym, ap, ◌∙◌, subst}
 use Rattle.std.specs.Global.{Vec}
 use Rattle.std.specs.List.{slice_get}
 use Rattle.std.specs.Prelude.{Err, Result}
 use Rattle.ew_model.specs.Kept.{ReplicaState}
+use Rattle.carets.specs.declared.caret.Caret.{Caret}
 use Rattle.peer_definitions.specs.declared.net_step.NetStep.{NetStep}
 use Rattle.net_core.specs.declared.fault.NetFault.{NetFault}
 use Rattle.net_core.specs.declared.fault.NetFault.TheVariants as fault
 use Rattle.net_core.specs.Answers.{StepsTo, refusal_told, told_bytes}
 use Rattle.net_core.specs.Keeping.{IsReached}
-use Rattle.peer_definitions.specs.Machine.{Network, Peer, Refusal, net_step, peer_of, put_replica}
+use Rattle.peer_definitions.specs.Machine.{Network, Peer, Refusal, net_step, peer_of, put_caret, put_replica}
 use Rattle.peer_definitions.specs.Machine.Refusal.{NoPeer}
 use Rattle.peer_definitions.specs.Machine.StepOutcome.{Refused}
-use Rattle.net_core.proofs.Editing.{named_so, placed}
+use Rattle.net_core.proofs.Editing.{named_so, placed, with_peers}
 use Rattle.net_core.proofs.Packets.{put_same}
-use Rattle.net_core.proofs.Reaching.{IsHomely, fit, homely, reached}
+use Rattle.net_core.proofs.Puts.{changed_in, with_caret, with_replica}
+use Rattle.net_core.proofs.Reaching.{IsHomely, caret_homely, fit, homely, reached}
 use Rattle.net_core.proofs.Steps.{peer_at, refused}
 
 got_or : {X : Type 0} (xs : List X) (i : ℕ) (x d : X) → slice_get xs i ≡ Some x → get_or xs i d ≡ x
@@ -58,13 +60,32 @@ module _ (N S : Network) (view : N ≡ S) (h : IsReached N) (name : List ℕ) (p
   abbrev pub with_written : Peer → Network
   with_written x = record { limits = N.limits; peers = set N.peers place x; packets = N.packets }
 
-  pub written : (x : Peer) (r : ReplicaState) → x ≡ record { name = here.name; replica = r } → with_written x ≡ put_replica S here.name r
-  written x r is =
+  written_so : (x : Peer) (f : Peer → Peer) → x ≡ f here
+      → with_written x ≡ with_peers S (map (changed_in here.name f) S.peers)
+  written_so x f is =
       (λ i. record { limits = (view i).limits; peers = set (view i).peers place (is i); packets = (view i).packets })
-      ∙ placed S name here place r (homely S seen) there at
+      ∙ placed S name here place f (homely S seen) there at
 
-  pub written_reached : (x : Peer) (r : ReplicaState) → x ≡ record { name = here.name; replica = r } → IsHomely (put_replica S here.name r) → IsReached (with_written x)
+  pub written : (x : Peer) (r : ReplicaState) → x ≡ with_replica r here → with_written x ≡ put_replica S here.name r
+  written x r is = written_so x (with_replica r) is
+
+  pub written_reached : (x : Peer) (r : ReplicaState) → x ≡ with_replica r here → IsHomely (put_replica S here.name r) → IsReached (with_written x)
   written_reached x r is all = subst IsReached (sym (written x r is)) (reached (put_replica S here.name r) all (fit S seen))
+
+  -- a call that leaves the name and the caret
+  module _ (x q : Peer) (old : q ≡ here) (named : x.name ≡ q.name) (caret : x.caret ≡ q.caret) where
+    pub put_is : (r : ReplicaState) → x.replica ≡ r → x ≡ with_replica r here
+    put_is r same =
+        let name_is = named ∙ ap (λ (y : Peer). y.name) old in
+        let caret_is = caret ∙ ap (λ (y : Peer). y.caret) old in
+        λ i. record { name = name_is i; replica = same i; caret = caret_is i }
+
+  -- a write of a caret
+  pub caret_written : (x : Peer) (c : Caret) → x ≡ with_caret c here → with_written x ≡ put_caret S here.name c
+  caret_written x c is = written_so x (with_caret c) is
+
+  pub caret_reached : (x : Peer) (c : Caret) → x ≡ with_caret c here → IsReached (with_written x)
+  caret_reached x c is = subst IsReached (sym (caret_written x c is)) (reached (put_caret S here.name c) (caret_homely S here.name c (homely S seen)) (fit S seen))
 
   -- a write of what was there
   pub written_back : (x : Peer) → x ≡ here → with_written x ≡ S

@@ -1,9 +1,14 @@
 -- What the calls of a net answer: the steps of the machine, its refusals, and what want of memory may leave.
-use Rattle.std.specs.Prelude.{◌≡◌, ◌⊎◌, ℕ, List, [], ◌∷◌, ◌++◌, slice_get, Result, Ok, Err, Option, Some, None}
+use Rattle.std.specs.Prelude.{◌≡◌, ◌⊎◌, ℕ, List, [], ◌∷◌, ◌++◌, length, slice_get, Result, Ok, Err, Option, Some, None}
 use Rattle.std.specs.Global.{Vec}
 use Rattle.ew_model.specs.Edits.EditRefusal.{OutOfRange, TooManyHeads, Full}
 use Rattle.ew_model.specs.Kept.{ReplicaState}
 use Rattle.ew_model.specs.Limits.{LimitNumbers}
+use Rattle.ew_model.specs.Texts.{text_of}
+use Rattle.carets.specs.declared.caret.Caret.{Caret}
+use Rattle.carets.specs.Sides.{caret_in, text_chars}
+use Rattle.undo.specs.declared.fault.UndoFault.{UndoFault}
+use Rattle.undo.specs.declared.fault.UndoFault.TheVariants as undo
 use Rattle.peer_definitions.specs.declared.net_step.NetStep.{NetStep}
 use Rattle.peer_definitions.specs.declared.net_step.NetStep.TheVariants as step
 use Rattle.peer_definitions.specs.Answering.{answer_to}
@@ -14,7 +19,7 @@ use Rattle.replica.specs.declared.fault.EditFault.TheVariants as edit
 use Rattle.net_core.specs.declared.fault.NetFault.{NetFault}
 use Rattle.net_core.specs.declared.fault.NetFault.TheVariants as fault
 use Rattle.peer_definitions.specs.Machine.{Network, Packet, Peer, Refusal, empty_network, net_step, peer_of, put_replica}
-use Rattle.peer_definitions.specs.Machine.Refusal.{NoPeer, PeerTwice, NoPacket, NoEdit}
+use Rattle.peer_definitions.specs.Machine.Refusal.{NoPeer, PeerTwice, NoPacket, NoEvent, NoEdit}
 use Rattle.peer_definitions.specs.Runs.{net_run}
 use Rattle.peer_definitions.specs.Runs.RunOutcome.{Ran, Broke}
 use Rattle.peer_definitions.specs.Machine.StepOutcome.{Stepped, Refused}
@@ -24,6 +29,7 @@ abbrev pub refusal_told : NetFault → Option Refusal
 refusal_told (fault.NoPeer name) = Some (NoPeer name)
 refusal_told (fault.PeerTwice name) = Some (PeerTwice name)
 refusal_told (fault.NoPacket n) = Some (NoPacket n)
+refusal_told (fault.NoEvent id) = Some (NoEvent id)
 refusal_told (fault.OutOfRange len) = Some (NoEdit (OutOfRange len))
 refusal_told (fault.TooManyHeads heads) = Some (NoEdit (TooManyHeads heads))
 refusal_told (fault.Full count) = Some (NoEdit (Full count))
@@ -35,6 +41,20 @@ fault_of (edit.OutOfRange len) = fault.OutOfRange len
 fault_of (edit.TooManyHeads heads) = fault.TooManyHeads heads
 fault_of (edit.Full count) = fault.Full count
 fault_of edit.OutOfMemory = fault.OutOfMemory
+
+-- the fault of a step whose undo has this one
+abbrev pub fault_of_undo : UndoFault → NetFault
+fault_of_undo (undo.NoEvent id) = fault.NoEvent id
+fault_of_undo (undo.TooManyHeads heads) = fault.TooManyHeads heads
+fault_of_undo (undo.Full count) = fault.Full count
+fault_of_undo undo.OutOfMemory = fault.OutOfMemory
+
+-- The caret of a peer is set at an index of its text; else nothing is changed, and the text's length is told, but for want of
+-- memory.
+abbrev pub SetsCaret : {A : Type 0} → ℕ → Peer → Peer → Result A NetFault → Type 0
+SetsCaret at old new (Ok done) = (c : Caret) × (caret_in (text_chars old.replica.held) at ≡ Some c) × (new ≡ record { name = old.name; replica = old.replica; caret = c })
+SetsCaret at old new (Err fault.OutOfMemory) = new ≡ old
+SetsCaret at old new (Err f) = ((caret_in (text_chars old.replica.held) at ≡ None) × (f ≡ fault.OutOfRange (length (text_of old.replica.held)))) × (new ≡ old)
 
 -- the bytes in the place of the vector
 abbrev pub told_bytes : {F : Type 0} → Result (Vec ℕ) F → Result (List ℕ) F

@@ -37,6 +37,7 @@ abbrev pub is_edit_of : List ℕ → NetStep → Bool
 is_edit_of name (step.Ins who at text) = name_eq who name
 is_edit_of name (step.Del who at n) = name_eq who name
 is_edit_of name (step.Mark who label) = name_eq who name
+is_edit_of name (step.Undo who whose first count) = name_eq who name
 is_edit_of name s = false
 
 -- Only a peer's local edits add events of its agent.

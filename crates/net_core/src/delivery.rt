@@ -41,6 +41,7 @@ pub fn deliver<L: Ledger>(
     ensures replica { OnOk result (peer.new.replica ≡ (delivery_of peer.old.name peer.old.replica frames.items).replica) }
     ensures left { OnErr result (IsLeftIn peer.old.replica frames.items peer.new.replica) }
     ensures name { peer.new.name ≡ peer.old.name }
+    ensures caret { peer.new.caret ≡ peer.old.caret }
 {
     let mut delivery = Delivery {
         replies: Vec::new(alloc),
@@ -63,11 +64,12 @@ fn deliver_frame<L: Ledger>(
     requires taken { IsTaken peer.old.replica.limits frame }
     requires apart { NoneClashes peer.old.replica (frame ∷ []) }
     ensures replies { OnOk result (delivery.new.replies.items ≡ delivery.old.replies.items ++ (answer_to peer.old.replica frame).frames) }
-    ensures printed { OnOk result (delivery.new.printed.items ≡ delivery.old.printed.items ++ frame_line peer.old frame) }
+    ensures printed { OnOk result (delivery.new.printed.items ≡ delivery.old.printed.items ++ frame_line peer.old.name peer.old.replica frame) }
     ensures replica { OnOk result (peer.new.replica ≡ (answer_to peer.old.replica frame).state) }
     ensures left { OnErr result (IsLeftIn peer.old.replica (frame ∷ []) peer.new.replica) }
     ensures taken { OnOk result (AllByRecursion (IsTaken peer.old.replica.limits) (answer_to peer.old.replica frame).frames) }
     ensures name { peer.new.name ≡ peer.old.name }
+    ensures caret { peer.new.caret ≡ peer.old.caret }
 {
     let before = peer.replica().count();
     let reply = peer.answer(alloc, frame, steps)?;

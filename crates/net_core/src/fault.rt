@@ -1,14 +1,16 @@
 //! Why a step is refused.
 
 ghost use Rattle.std.specs.Prelude.{◌≡◌};
-ghost use Rattle.net_core.specs.Answers.{fault_of};
+ghost use Rattle.net_core.specs.Answers.{fault_of, fault_of_undo};
 ghost use Rattle.net_core.specs.declared.fault.NetFault.TheVariants as fault;
 
 use ew_model::NoMem;
+use ew_model::id::Id;
 use ew_model::name::Name;
 use replica::EditFault;
 use std::alloc::AllocFailed;
 use thiserror::Error;
+use undo::UndoFault;
 
 /// Why a step is refused. The first reason in this order is told.
 #[derive(Clone, Copy, Debug, PartialEq, Eq, Error)]
@@ -20,6 +22,9 @@ pub enum NetFault {
     PeerTwice(Name),
     #[error("no packet {0}")]
     NoPacket(u32),
+    /// The first of the events to undo that the peer doesn't hold.
+    #[error("unknown {0}")]
+    NoEvent(Id),
     /// The index, or the end of what is to be deleted, is behind the end of the text, which has this length.
     #[error("out of range, length {len}")]
     OutOfRange { len: u32 },
@@ -58,6 +63,19 @@ impl From<EditFault> for NetFault {
             EditFault::TooManyHeads { heads } => NetFault::TooManyHeads { heads },
             EditFault::Full { count } => NetFault::Full { count },
             EditFault::OutOfMemory => NetFault::OutOfMemory,
+        }
+    }
+}
+
+impl From<UndoFault> for NetFault {
+    ghost from_gives = { λ f e. e ≡ fault_of_undo f };
+
+    fn from(fault: UndoFault) -> NetFault {
+        match fault {
+            UndoFault::NoEvent(id) => NetFault::NoEvent(id),
+            UndoFault::TooManyHeads { heads } => NetFault::TooManyHeads { heads },
+            UndoFault::Full { count } => NetFault::Full { count },
+            UndoFault::OutOfMemory => NetFault::OutOfMemory,
         }
     }
 }

@@ -3,7 +3,7 @@
 ghost use Rattle.std.specs.Prelude.{◌≡◌, [], ◌++◌, ◌∷◌, if◌then◌else◌, codes, decimal, encode_utf8_all, vec_capacity, IsOk, List, ℕ, IfOk, OnOk};
 ghost use Rattle.ew_model.specs.Scripts.{escaped_text};
 ghost use Rattle.net_core.specs.Bytes.{escaped_byte};
-ghost use Rattle.peer_definitions.specs.Machine.{printed_line};
+ghost use Rattle.peer_definitions.specs.Machine.{caret_line, printed_line};
 
 use ew_model::NoMem;
 use ew_model::name::Name;
@@ -75,6 +75,17 @@ pub fn restarted_line(alloc: Global, name: &Name) -> Result<Vec<u8>, NoMem>
 {
     let mut out = Vec::from_slice(alloc, name.as_slice())?;
     push_word(&mut out, b"restarted")?;
+    out.push(b'\n')?;
+    Ok(out)
+}
+
+/// The line that tells an index of a peer's caret.
+pub fn caret_line(alloc: Global, name: &Name, at: u32) -> Result<Vec<u8>, NoMem>
+    ensures { IfOk result (λ out. out.items ≡ caret_line name.now at) }
+{
+    let mut out = Vec::from_slice(alloc, name.as_slice())?;
+    push_word(&mut out, b"caret")?;
+    push_number(&mut out, at)?;
     out.push(b'\n')?;
     Ok(out)
 }

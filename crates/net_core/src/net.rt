@@ -12,7 +12,9 @@ ghost use Rattle.net_core.specs.declared.fault.NetFault.TheVariants as fault;
 use crate::comparing::all_agree;
 use crate::delivery::deliver;
 use crate::fault::NetFault;
-use crate::lines::{MadeLine, agree_line, peer_line, push_packet_line, restarted_line, shown_line};
+use crate::lines::{
+    MadeLine, agree_line, caret_line, peer_line, push_packet_line, restarted_line, shown_line,
+};
 use crate::packet::{Packet, packet_at};
 use crate::peer::Peer;
 use crate::places::place_of;
@@ -26,6 +28,7 @@ use script_reader::text::Text;
 use std::alloc::Global;
 use std::marker::Model;
 use std::sync::ledger::Ledger;
+use undo::Undone;
 
 /// Peers, and all packets that were made. Contracts see the limits of the peers, the peers and the packets.
 #[derive(Drop)]
@@ -90,6 +93,22 @@ impl Net {
             NetStep::Ins { who, at, text } => self.insert(who, *at, text, steps),
             NetStep::Del { who, at, n } => self.delete(who, *at, *n, steps),
             NetStep::Mark { who, label } => self.mark(who, label, steps),
+            NetStep::Undo {
+                who,
+                whose,
+                first,
+                count,
+            } => self.undo(
+                who,
+                &Undone {
+                    agent: *whose,
+                    first: *first,
+                    count: *count,
+                },
+                steps,
+            ),
+            NetStep::Caret { who, at } => self.set_caret(who, *at, steps),
+            NetStep::Where(name) => self.locate(name, steps),
             NetStep::Push { from, to } => self.push(from, to),
             NetStep::Send {
                 from,
@@ -179,6 +198,45 @@ impl Net {
         let line = MadeLine::new(self.alloc)?;
         let made = self.peers[place].mark(*label, steps)?;
         Ok(line.of(who, made))
+    }
+
+    /// A peer undoes events.
+    fn undo<L: Ledger>(
+        &mut self,
+        who: &Name,
+        undone: &Undone,
+        steps: &mut Steps<L>,
+    ) -> Result<Vec<u8>, NetFault>
+        ensures { StepsTo self.old (net_step.Undo who.now undone.now.agent undone.now.first undone.now.count) self.new (told_bytes result) }
+    {
+        let place = self.find(who)?;
+        let line = MadeLine::new(self.alloc)?;
+        let made = self.peers[place].undo(self.alloc, undone, steps)?;
+        Ok(line.of(who, made))
+    }
+
+    /// Sets a peer's caret.
+    fn set_caret<L: Ledger>(
+        &mut self,
+        who: &Name,
+        at: u32,
+        steps: &mut Steps<L>,
+    ) -> Result<Vec<u8>, NetFault>
+        ensures { StepsTo self.old (net_step.Caret who.now at) self.new (told_bytes result) }
+    {
+        let place = self.find(who)?;
+        let out = caret_line(self.alloc, who, at)?;
+        self.peers[place].set_caret(self.alloc, at, steps)?;
+        Ok(out)
+    }
+
+    /// Prints where a peer's caret stands.
+    fn locate<L: Ledger>(&self, name: &Name, steps: &mut Steps<L>) -> Result<Vec<u8>, NetFault>
+        ensures { StepsTo self.now (net_step.Where name.now) self.now (told_bytes result) }
+    {
+        let place = self.find(name)?;
+        let index = self.peers[place].caret_index(self.alloc, steps)?;
+        Ok(caret_line(self.alloc, name, index)?)
     }
 
     /// A packet with all events of a peer.

@@ -10,9 +10,16 @@ ghost use Rattle.peer_definitions.specs.Answering.{answer_to, event_frames, ques
 ghost use Rattle.peer_frames.specs.Laws.{IsTaken};
 ghost use Rattle.peer_definitions.specs.Spelling.{HasSpelling};
 ghost use Rattle.replica.specs.Answers.{EditsBy};
+ghost use Rattle.undo.specs.Answers.{Undoes};
+ghost use Rattle.undo.specs.Undone.{undone_ids};
+ghost use Rattle.carets.specs.Sides.{side};
+ghost use Rattle.net_core.specs.Answers.{SetsCaret};
 ghost use Rattle.peer_definitions.specs.Machine.{built_again, piece_of};
 
+use crate::fault::NetFault;
 use crate::frames::{in_frames, piece};
+use caret_places::{caret_in_text, index_in_text};
+use carets::Caret;
 use ew_model::NoMem;
 use ew_model::limits::Limits;
 use ew_model::name::Name;
@@ -24,12 +31,14 @@ use script_reader::text::Text;
 use std::alloc::Global;
 use std::marker::Model;
 use std::sync::ledger::Ledger;
+use undo::{UndoFault, Undone, undo};
 
-/// A peer. Its name is its agent. Contracts see the name, and what the replica stands for.
+/// A peer. Its name is its agent. Contracts see the name, what the replica stands for, and the caret.
 #[derive(Drop)]
 pub struct Peer {
     name: Name,
     replica: Replica,
+    caret: Caret,
 }
 
 impl Model for Peer {
@@ -37,16 +46,20 @@ impl Model for Peer {
 
     ghost Value = { Peer };
 
-    ghost view = { λ p. record { name = p.name; replica = p.replica } };
+    ghost view = { λ p. record { name = p.name; replica = p.replica; caret = p.caret } };
 }
 
 impl Peer {
-    /// A peer that holds nothing.
+    /// A peer that holds nothing, with its caret at the root.
     pub fn new(alloc: Global, limits: Limits, name: Name) -> Result<Peer, NoMem>
-        ensures { IfOk result (λ p. p ≡ record { name = name; replica = record { limits = limits; held = []; waiting = [] } }) }
+        ensures { IfOk result (λ p. p ≡ record { name = name; replica = record { limits = limits; held = []; waiting = [] }; caret = Caret.Root }) }
     {
         let replica = Replica::new(alloc, limits)?;
-        Ok(Peer { name, replica })
+        Ok(Peer {
+            name,
+            replica,
+            caret: Caret::Root,
+        })
     }
 
     pub fn name(&self) -> Name
@@ -79,6 +92,7 @@ impl Peer {
         requires { is_awaited self.old.replica.held self.old.replica.waiting self.old.name ≡ false }
         ensures edits { EditsBy self.old.name (model.Edit.Insert at text.now) self.old.replica self.new.replica result }
         ensures name { self.new.name ≡ self.old.name }
+        ensures caret { self.new.caret ≡ self.old.caret }
     {
         self.replica.insert(self.name, at, text.as_str(), steps)
     }
@@ -93,6 +107,7 @@ impl Peer {
         requires { is_awaited self.old.replica.held self.old.replica.waiting self.old.name ≡ false }
         ensures edits { EditsBy self.old.name (model.Edit.Delete at n) self.old.replica self.new.replica result }
         ensures name { self.new.name ≡ self.old.name }
+        ensures caret { self.new.caret ≡ self.old.caret }
     {
         self.replica.delete(self.name, at, n, steps)
     }
@@ -102,13 +117,58 @@ impl Peer {
         requires { is_awaited self.old.replica.held self.old.replica.waiting self.old.name ≡ false }
         ensures edits { EditsBy self.old.name (model.Edit.Mark label) self.old.replica self.new.replica result }
         ensures name { self.new.name ≡ self.old.name }
+        ensures caret { self.new.caret ≡ self.old.caret }
     {
         self.replica.mark(self.name, label, steps)
     }
 
+    /// Undoes events by new ones. Answers how many were made.
+    pub fn undo<L: Ledger>(
+        &mut self,
+        alloc: Global,
+        undone: &Undone,
+        steps: &mut Steps<L>,
+    ) -> Result<u32, UndoFault>
+        requires { is_awaited self.old.replica.held self.old.replica.waiting self.old.name ≡ false }
+        ensures undoes { Undoes self.old.name (undone_ids undone.now) self.old.replica self.new.replica result }
+        ensures name { self.new.name ≡ self.old.name }
+        ensures caret { self.new.caret ≡ self.old.caret }
+    {
+        undo(alloc, &mut self.replica, self.name, undone, steps)
+    }
+
+    /// Sets the caret at an index of its text.
+    pub fn set_caret<L: Ledger>(
+        &mut self,
+        alloc: Global,
+        at: u32,
+        steps: &mut Steps<L>,
+    ) -> Result<(), NetFault>
+        ensures { SetsCaret at self.old self.new result }
+    {
+        let _good = self.replica.limits();
+        match caret_in_text(alloc, self.replica.graph(), at, steps)? {
+            Some(caret) => {
+                self.caret = caret;
+                Ok(())
+            }
+            None => {
+                let len = self.replica.len();
+                Err(NetFault::OutOfRange { len })
+            }
+        }
+    }
+
+    /// Where the caret stands in its text.
+    pub fn caret_index<L: Ledger>(&self, alloc: Global, steps: &mut Steps<L>) -> Result<u32, NoMem>
+        ensures { IfOk result (λ i. i ≡ side self.now.replica.held self.now.caret) }
+    {
+        index_in_text(alloc, self.replica.graph(), &self.caret, steps)
+    }
+
     /// Builds the replica again from the events that it holds. What waited is lost. For want of memory all is as before.
     pub fn restart<L: Ledger>(&mut self, alloc: Global, steps: &mut Steps<L>) -> Result<(), NoMem>
-        ensures ok { OnOk result (self.new ≡ record { name = self.old.name; replica = built_again self.old.replica }) }
+        ensures ok { OnOk result (self.new ≡ record { name = self.old.name; replica = built_again self.old.replica; caret = self.old.caret }) }
         ensures err { OnErr result (self.new ≡ self.old) }
     {
         let limits = self.replica.limits();
@@ -134,6 +194,7 @@ impl Peer {
         ensures taken { IfOk result (λ reply. All (IsTaken self.old.replica.limits) reply.frames.items) }
         ensures left { OnErr result (IsLeftBy frame self.old.replica self.new.replica) }
         ensures name { self.new.name ≡ self.old.name }
+        ensures caret { self.new.caret ≡ self.old.caret }
     {
         answer(alloc, &mut self.replica, frame, steps)
     }

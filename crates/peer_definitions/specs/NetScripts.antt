@@ -4,7 +4,7 @@ use Rattle.std.specs.Str.{all_scalars}
 use Rattle.ew_model.specs.Names.{is_name}
 use Rattle.ew_model.specs.Scripts.{escaped_text, spaced, Numbered, LinesMean, IsFirstUnreadable, lines_of}
 use Rattle.peer_definitions.specs.declared.net_step.NetStep.{NetStep}
-use Rattle.peer_definitions.specs.declared.net_step.NetStep.TheVariants.{Peer, Ins, Del, Mark, Push, Send, Ask, Deliver, Restart, Show, Agree}
+use Rattle.peer_definitions.specs.declared.net_step.NetStep.TheVariants.{Peer, Ins, Del, Mark, Undo, Caret, Where, Push, Send, Ask, Deliver, Restart, Show, Agree}
 
 -- the line of a step
 abbrev pub net_line : NetStep → List ℕ
@@ -12,6 +12,9 @@ net_line (Peer name) = spaced (codes "peer" ∷ name ∷ [])
 net_line (Ins who at text) = spaced (codes "ins" ∷ who ∷ decimal at ∷ escaped_text text ∷ [])
 net_line (Del who at n) = spaced (codes "del" ∷ who ∷ decimal at ∷ decimal n ∷ [])
 net_line (Mark who label) = spaced (codes "mark" ∷ who ∷ label ∷ [])
+net_line (Undo who whose first count) = spaced (codes "undo" ∷ who ∷ whose ∷ decimal first ∷ decimal count ∷ [])
+net_line (Caret who at) = spaced (codes "caret" ∷ who ∷ decimal at ∷ [])
+net_line (Where name) = spaced (codes "where" ∷ name ∷ [])
 net_line (Push sender receiver) = spaced (codes "push" ∷ sender ∷ receiver ∷ [])
 net_line (Send sender receiver skip count) = spaced (codes "send" ∷ sender ∷ receiver ∷ decimal skip ∷ decimal count ∷ [])
 net_line (Ask sender receiver) = spaced (codes "ask" ∷ sender ∷ receiver ∷ [])
@@ -20,12 +23,15 @@ net_line (Restart name) = spaced (codes "restart" ∷ name ∷ [])
 net_line (Show name) = spaced (codes "show" ∷ name ∷ [])
 net_line Agree = codes "agree"
 
--- names of peers, numbers of 32 bits, characters that are Unicode scalar values, and labels that are names
+-- names of peers and agents, numbers of 32 bits, characters that are Unicode scalar values, and labels that are names
 abbrev pub IsSoundStep : NetStep → Type 0
 IsSoundStep (Peer name) = is_name name ≡ true
 IsSoundStep (Ins who at text) = (is_name who ≡ true) × (at < 2 ^ 32) × (all_scalars text ≡ true)
 IsSoundStep (Del who at n) = (is_name who ≡ true) × (at < 2 ^ 32) × (n < 2 ^ 32)
 IsSoundStep (Mark who label) = (is_name who ≡ true) × (is_name label ≡ true)
+IsSoundStep (Undo who whose first count) = (is_name who ≡ true) × (is_name whose ≡ true) × (first < 2 ^ 32) × (count < 2 ^ 32)
+IsSoundStep (Caret who at) = (is_name who ≡ true) × (at < 2 ^ 32)
+IsSoundStep (Where name) = is_name name ≡ true
 IsSoundStep (Push sender receiver) = (is_name sender ≡ true) × (is_name receiver ≡ true)
 IsSoundStep (Send sender receiver skip count) = (is_name sender ≡ true) × (is_name receiver ≡ true) × (skip < 2 ^ 32) × (count < 2 ^ 32)
 IsSoundStep (Ask sender receiver) = (is_name sender ≡ true) × (is_name receiver ≡ true)

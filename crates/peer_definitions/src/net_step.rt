@@ -26,6 +26,20 @@ pub enum NetStep {
         who: Name,
         label: Name,
     },
+    /// The peer undoes so many events of an agent, from a number on.
+    Undo {
+        who: Name,
+        whose: Name,
+        first: u32,
+        count: u32,
+    },
+    /// Sets the peer's caret at the index of its text.
+    Caret {
+        who: Name,
+        at: u32,
+    },
+    /// Prints where the peer's caret stands in its text.
+    Where(Name),
     /// Makes a packet of all events of a peer for another.
     Push {
         from: Name,

@@ -36,11 +36,11 @@ one_batch most a b left other ha hb e =
     (some_is a b (sym (body_back A a ha.body) ∙ body_back A b (subst (λ ys. IsEventsBody ys b) (sym same) hb.body)), after)
 
 -- a batch isn't where batches end
-no_end : (most place : ℕ) (b : List Event) (bytes rest : List ℕ) (bad : Option ℕ) → IsBatch most b → bytes ≡ batch_bytes b ++ rest → 1 ≤ length rest → EndsAt most place bytes bad → ⊥
+pub no_end : (most place : ℕ) (b : List Event) (bytes rest : List ℕ) (bad : Option ℕ) → IsBatch most b → bytes ≡ batch_bytes b ++ rest → 1 ≤ length rest → EndsAt most place bytes bad → ⊥
 no_end most place b bytes rest None h parts more (gate, left, is, not) = not (first_is gate 1 left _ (sym is ∙ parts))
 no_end most place b bytes rest (Some bad) h parts more (at, broken) = broken.none b rest (record { each = (h, tt); parts = parts ∙ sym (ap (λ (l : List ℕ). l ++ rest) (append-nil (batch_bytes b))); more = more })
 
-longer : (ys : List ℕ) (rest : List ℕ) → 1 ≤ length rest → 1 ≤ length (ys ++ rest)
+pub longer : (ys : List ℕ) (rest : List ℕ) → 1 ≤ length rest → 1 ≤ length (ys ++ rest)
 longer ys rest more = omega (arith, length-append ys rest, more)
 
 -- batches that end are all there are

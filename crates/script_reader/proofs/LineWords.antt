@@ -41,9 +41,25 @@ pub record NameFirst (words name behind : List ℕ) : Type 0 where
 pub name_first : (words word behind name : List ℕ) → AreCut words word behind → is_name name ≡ true → name ≡ word → NameFirst words word behind
 name_first words word behind name cut named is = record { named = ap is_name (sym is) ∙ named; whole = sym cut.whole }
 
--- words that don't begin with a name aren't two
-pub no_name_no_names : (words : List ℕ) → NoName words → NoNames words
-no_name_no_names words none a b p q e = none a b p e
+-- the words aren't a name and a number
+abbrev pub NoNameAndNumber : List ℕ → Type 0
+NoNameAndNumber words = (a : List ℕ) (n : ℕ) → is_name a ≡ true → n < 2 ^ 32 → a ++ 32 ∷ decimal n ≢ words
+
+-- the words aren't two names and two numbers
+abbrev pub NoNamesAndNumbers : List ℕ → Type 0
+NoNamesAndNumbers words = (a b : List ℕ) (m n : ℕ) → is_name a ≡ true → is_name b ≡ true → m < 2 ^ 32 → n < 2 ^ 32
+    → a ++ 32 ∷ (b ++ 32 ∷ (decimal m ++ 32 ∷ decimal n)) ≢ words
+
+-- words that don't begin with a name are none of these
+module _ (words : List ℕ) (none : NoName words) where
+  pub no_name_no_names : NoNames words
+  no_name_no_names a b p q e = none a b p e
+
+  pub no_name_no_two : NoNameAndNumber words
+  no_name_no_two a n p s e = none a (decimal n) p e
+
+  pub no_name_no_four : NoNamesAndNumbers words
+  no_name_no_four a b m n p q s t e = none a (b ++ 32 ∷ (decimal m ++ 32 ∷ decimal n)) p e
 
 module _ (words : List ℕ) (uncut : All (λ x. x ≢ 32) words) where
   pub uncut_no_numbers : NoNumbers words
@@ -99,20 +115,16 @@ module _ (words name behind : List ℕ) (first : NameFirst words name behind) wh
       none w.contents.1 w.contents.2 w.sound.1 w.sound.2
       (same_behind w.contents.0 (decimal w.contents.1 ++ 32 ∷ decimal w.contents.2) w.sound.0 w.spelled)
 
-  send_behind : (w : Says verb.Send words) → w.contents.1 ++ 32 ∷ (decimal w.contents.2 ++ 32 ∷ decimal w.contents.3) ≡ behind
-  send_behind w =
-      same_behind w.contents.0 (w.contents.1 ++ 32 ∷ (decimal w.contents.2 ++ 32 ∷ decimal w.contents.3)) w.sound.0 w.spelled
+  pub no_other_no_four : NoName behind → NoNamesAndNumbers words
+  no_other_no_four none a b m n p q s t e = none b (decimal m ++ 32 ∷ decimal n) q (same_behind a (b ++ 32 ∷ (decimal m ++ 32 ∷ decimal n)) p e)
 
-  pub no_receiver_no_sending : NoName behind → (s : NetStep) → ¬ MeansStep (codes "send " ++ words) s
-  no_receiver_no_sending none s m =
-      let w = said verb.Send words s m in none w.contents.1 (decimal w.contents.2 ++ 32 ∷ decimal w.contents.3) w.sound.1 (send_behind w)
+  pub no_number_no_two : SpellsNone behind → NoNameAndNumber words
+  no_number_no_two none a n p s e = none n s (same_behind a (decimal n) p e)
 
-pub no_numbers_no_sending : (words name behind receiver numbers : List ℕ) → NameFirst words name behind → NameFirst behind receiver numbers → NoNumbers numbers
-    → (s : NetStep) → ¬ MeansStep (codes "send " ++ words) s
-no_numbers_no_sending words name behind receiver numbers first second none s m =
-    let w = said verb.Send words s m in
-    none w.contents.2 w.contents.3 w.sound.2 w.sound.3
-    (same_behind behind receiver numbers second w.contents.1 (decimal w.contents.2 ++ 32 ∷ decimal w.contents.3) w.sound.1 (send_behind words name behind first w))
+pub no_numbers_no_four : (words name behind other numbers : List ℕ) → NameFirst words name behind → NameFirst behind other numbers → NoNumbers numbers
+    → NoNamesAndNumbers words
+no_numbers_no_four words name behind other numbers first second none a b m n p q s t e =
+    none m n s t (same_behind behind other numbers second b (decimal m ++ 32 ∷ decimal n) q (same_behind words name behind first a (b ++ 32 ∷ (decimal m ++ 32 ∷ decimal n)) p e))
 
 module _ (words : List ℕ) (none : NoName words) where
   pub nameless_no_insertion : (s : NetStep) → ¬ MeansStep (codes "ins " ++ words) s
@@ -123,10 +135,9 @@ module _ (words : List ℕ) (none : NoName words) where
   nameless_no_deletion s m =
       let w = said verb.Del words s m in none w.contents.0 (decimal w.contents.1 ++ 32 ∷ decimal w.contents.2) w.sound.0 w.spelled
 
-  pub nameless_no_sending : (s : NetStep) → ¬ MeansStep (codes "send " ++ words) s
-  nameless_no_sending s m =
-      let w = said verb.Send words s m in
-      none w.contents.0 (w.contents.1 ++ 32 ∷ (decimal w.contents.2 ++ 32 ∷ decimal w.contents.3)) w.sound.0 w.spelled
+-- words that aren't a name
+pub unnamed : (words : List ℕ) → is_name words ≡ false → (name : List ℕ) → is_name name ≡ true → name ≢ words
+unnamed words none name named e = false≢true (sym none ∙ ap is_name (sym e) ∙ named)
 
 -- nothing is read of a line that means nothing
 pub reads_none : (line : List ℕ) (found : Option NetStep) → found ≡ None → ((s : NetStep) → ¬ MeansStep line s) → IsStepReading line found

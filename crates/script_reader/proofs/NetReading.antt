@@ -24,6 +24,17 @@ two_names = pairs IsNamed as_it_is IsNamed as_it_is named_lacks_space names name
 two_numbers : IsSpelling (Both IsSmall IsSmall) (spaced_pair decimal decimal)
 two_numbers = pairs IsSmall decimal IsSmall decimal decimal_lacks_space numbers numbers
 
+-- what the four words of an undo and of a packet with some of the events say
+abbrev AreSoundFour : List ℕ × List ℕ × ℕ × ℕ → Type 0
+AreSoundFour c = IsNamed c.0 × IsNamed c.1 × IsSmall c.2 × IsSmall c.3
+
+two_names_and_numbers : IsSpelling AreSoundFour (λ c. c.0 ++ 32 ∷ (c.1 ++ 32 ∷ (decimal c.2 ++ 32 ∷ decimal c.3)))
+two_names_and_numbers =
+    regrouped _ _ _ _ (λ c. (c.0, (c.1, (c.2, c.3)))) (λ c. (c.0, c.1.0, c.1.1.0, c.1.1.1)) (λ c s. (s.0, (s.1, (s.2, s.3)))) (λ c s. (s.0, s.1.0, s.1.1.0, s.1.1.1))
+    (λ c. refl) (λ c. refl) (λ c. refl)
+    (pairs IsNamed as_it_is (Both IsNamed (Both IsSmall IsSmall)) (spaced_pair as_it_is (spaced_pair decimal decimal)) named_lacks_space names
+    (pairs IsNamed as_it_is (Both IsSmall IsSmall) (spaced_pair decimal decimal) named_lacks_space names two_numbers))
+
 -- what the words behind the first say
 words_are_spelled : (v : Verb) → IsSpelling (λ (c : Contents v). IsSoundStep (step_of v c)) (words_of v)
 words_are_spelled verb.Peer = names
@@ -35,12 +46,11 @@ words_are_spelled verb.Del =
     regrouped _ _ _ _ (λ c. (c.0, (c.1, c.2))) (λ c. (c.0, c.1.0, c.1.1)) (λ c s. (s.0, (s.1, s.2))) (λ c s. (s.0, s.1.0, s.1.1)) (λ c. refl) (λ c. refl) (λ c. refl)
     (pairs IsNamed as_it_is (Both IsSmall IsSmall) (spaced_pair decimal decimal) named_lacks_space names two_numbers)
 words_are_spelled verb.Mark = two_names
+words_are_spelled verb.Undo = two_names_and_numbers
+words_are_spelled verb.Caret = pairs IsNamed as_it_is IsSmall decimal named_lacks_space names numbers
+words_are_spelled verb.Where = names
 words_are_spelled verb.Push = two_names
-words_are_spelled verb.Send =
-    regrouped _ _ _ _ (λ c. (c.0, (c.1, (c.2, c.3)))) (λ c. (c.0, c.1.0, c.1.1.0, c.1.1.1)) (λ c s. (s.0, (s.1, (s.2, s.3)))) (λ c s. (s.0, s.1.0, s.1.1.0, s.1.1.1))
-    (λ c. refl) (λ c. refl) (λ c. refl)
-    (pairs IsNamed as_it_is (Both IsNamed (Both IsSmall IsSmall)) (spaced_pair as_it_is (spaced_pair decimal decimal)) named_lacks_space names
-    (pairs IsNamed as_it_is (Both IsSmall IsSmall) (spaced_pair decimal decimal) named_lacks_space names two_numbers))
+words_are_spelled verb.Send = two_names_and_numbers
 words_are_spelled verb.Ask = two_names
 words_are_spelled verb.Deliver = numbers
 words_are_spelled verb.Restart = names

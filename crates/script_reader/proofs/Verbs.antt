@@ -20,6 +20,9 @@ Contents verb.Peer = List ℕ
 Contents verb.Ins = List ℕ × ℕ × List ℕ
 Contents verb.Del = List ℕ × ℕ × ℕ
 Contents verb.Mark = List ℕ × List ℕ
+Contents verb.Undo = List ℕ × List ℕ × ℕ × ℕ
+Contents verb.Caret = List ℕ × ℕ
+Contents verb.Where = List ℕ
 Contents verb.Push = List ℕ × List ℕ
 Contents verb.Send = List ℕ × List ℕ × ℕ × ℕ
 Contents verb.Ask = List ℕ × List ℕ
@@ -33,6 +36,9 @@ step_of verb.Peer name = step.Peer name
 step_of verb.Ins c = step.Ins c.0 c.1 c.2
 step_of verb.Del c = step.Del c.0 c.1 c.2
 step_of verb.Mark c = step.Mark c.0 c.1
+step_of verb.Undo c = step.Undo c.0 c.1 c.2 c.3
+step_of verb.Caret c = step.Caret c.0 c.1
+step_of verb.Where name = step.Where name
 step_of verb.Push c = step.Push c.0 c.1
 step_of verb.Send c = step.Send c.0 c.1 c.2 c.3
 step_of verb.Ask c = step.Ask c.0 c.1
@@ -46,6 +52,9 @@ words_of verb.Peer name = name
 words_of verb.Ins c = c.0 ++ 32 ∷ (decimal c.1 ++ 32 ∷ escaped_text c.2)
 words_of verb.Del c = c.0 ++ 32 ∷ (decimal c.1 ++ 32 ∷ decimal c.2)
 words_of verb.Mark c = c.0 ++ 32 ∷ c.1
+words_of verb.Undo c = c.0 ++ 32 ∷ (c.1 ++ 32 ∷ (decimal c.2 ++ 32 ∷ decimal c.3))
+words_of verb.Caret c = c.0 ++ 32 ∷ decimal c.1
+words_of verb.Where name = name
 words_of verb.Push c = c.0 ++ 32 ∷ c.1
 words_of verb.Send c = c.0 ++ 32 ∷ (c.1 ++ 32 ∷ (decimal c.2 ++ 32 ∷ decimal c.3))
 words_of verb.Ask c = c.0 ++ 32 ∷ c.1
@@ -59,6 +68,9 @@ line_of verb.Peer name = ap (λ x. codes "peer " ++ x) (append-nil name)
 line_of verb.Ins c = ap (λ x. codes "ins " ++ (c.0 ++ 32 ∷ (decimal c.1 ++ 32 ∷ x))) (append-nil (escaped_text c.2))
 line_of verb.Del c = ap (λ x. codes "del " ++ (c.0 ++ 32 ∷ (decimal c.1 ++ 32 ∷ x))) (append-nil (decimal c.2))
 line_of verb.Mark c = ap (λ x. codes "mark " ++ (c.0 ++ 32 ∷ x)) (append-nil c.1)
+line_of verb.Undo c = ap (λ x. codes "undo " ++ (c.0 ++ 32 ∷ (c.1 ++ 32 ∷ (decimal c.2 ++ 32 ∷ x)))) (append-nil (decimal c.3))
+line_of verb.Caret c = ap (λ x. codes "caret " ++ (c.0 ++ 32 ∷ x)) (append-nil (decimal c.1))
+line_of verb.Where name = ap (λ x. codes "where " ++ x) (append-nil name)
 line_of verb.Push c = ap (λ x. codes "push " ++ (c.0 ++ 32 ∷ x)) (append-nil c.1)
 line_of verb.Send c = ap (λ x. codes "send " ++ (c.0 ++ 32 ∷ (c.1 ++ 32 ∷ (decimal c.2 ++ 32 ∷ x)))) (append-nil (decimal c.3))
 line_of verb.Ask c = ap (λ x. codes "ask " ++ (c.0 ++ 32 ∷ x)) (append-nil c.1)
@@ -71,6 +83,7 @@ verb_of : List ℕ → Verb
 verb_of word =
     if bytes_eq word (codes "peer") then verb.Peer else if bytes_eq word (codes "ins") then verb.Ins else if bytes_eq word (codes "del") then verb.Del
     else if bytes_eq word (codes "mark") then verb.Mark else if bytes_eq word (codes "push") then verb.Push else if bytes_eq word (codes "send") then verb.Send else if bytes_eq word (codes "ask") then verb.Ask
+    else if bytes_eq word (codes "undo") then verb.Undo else if bytes_eq word (codes "caret") then verb.Caret else if bytes_eq word (codes "where") then verb.Where
     else if bytes_eq word (codes "deliver") then verb.Deliver else if bytes_eq word (codes "restart") then verb.Restart else verb.Show
 
 verb_of-word : (v : Verb) → verb_of (verb_word v) ≡ v
@@ -79,6 +92,9 @@ verb_of-word verb.Peer = refl
 verb_of-word verb.Ins = refl
 verb_of-word verb.Del = refl
 verb_of-word verb.Mark = refl
+verb_of-word verb.Undo = refl
+verb_of-word verb.Caret = refl
+verb_of-word verb.Where = refl
 verb_of-word verb.Push = refl
 verb_of-word verb.Send = refl
 verb_of-word verb.Ask = refl
@@ -103,6 +119,9 @@ verb_lacks_space verb.Peer = name_lacks 32 (codes "peer") refl refl
 verb_lacks_space verb.Ins = name_lacks 32 (codes "ins") refl refl
 verb_lacks_space verb.Del = name_lacks 32 (codes "del") refl refl
 verb_lacks_space verb.Mark = name_lacks 32 (codes "mark") refl refl
+verb_lacks_space verb.Undo = name_lacks 32 (codes "undo") refl refl
+verb_lacks_space verb.Caret = name_lacks 32 (codes "caret") refl refl
+verb_lacks_space verb.Where = name_lacks 32 (codes "where") refl refl
 verb_lacks_space verb.Push = name_lacks 32 (codes "push") refl refl
 verb_lacks_space verb.Send = name_lacks 32 (codes "send") refl refl
 verb_lacks_space verb.Ask = name_lacks 32 (codes "ask") refl refl
@@ -122,6 +141,9 @@ worded (step.Peer name) = inr (record { first = verb.Peer; contents = name; is =
 worded (step.Ins who at text) = inr (record { first = verb.Ins; contents = (who, at, text); is = refl })
 worded (step.Del who at n) = inr (record { first = verb.Del; contents = (who, at, n); is = refl })
 worded (step.Mark who label) = inr (record { first = verb.Mark; contents = (who, label); is = refl })
+worded (step.Undo who whose first count) = inr (record { first = verb.Undo; contents = (who, whose, first, count); is = refl })
+worded (step.Caret who at) = inr (record { first = verb.Caret; contents = (who, at); is = refl })
+worded (step.Where name) = inr (record { first = verb.Where; contents = name; is = refl })
 worded (step.Push sender receiver) = inr (record { first = verb.Push; contents = (sender, receiver); is = refl })
 worded (step.Send sender receiver skip count) = inr (record { first = verb.Send; contents = (sender, receiver, skip, count); is = refl })
 worded (step.Ask sender receiver) = inr (record { first = verb.Ask; contents = (sender, receiver); is = refl })
@@ -158,3 +180,7 @@ wordless line other none s m = by (worded s)
     by : (s ≡ step.Agree) ⊎ Worded s → ⊥
     by (inl e) = other (sym m.spelled ∙ ap net_line e)
     by (inr w) = none w.first (words_of w.first w.contents) (sym m.spelled ∙ ap net_line (sym w.is) ∙ line_of w.first w.contents)
+
+-- words that say nothing with this first word make no line of a step
+pub said_none : (v : Verb) (words : List ℕ) → ((c : Contents v) → IsSoundStep (step_of v c) → words_of v c ≢ words) → (s : NetStep) → ¬ MeansStep (verb_word v ++ 32 ∷ words) s
+said_none v words none s m = let w = said v words s m in none w.contents w.sound w.spelled

@@ -11,6 +11,9 @@ pub(crate) enum Verb {
     Ins,
     Del,
     Mark,
+    Undo,
+    Caret,
+    Where,
     Push,
     Send,
     Ask,
@@ -32,6 +35,12 @@ pub(crate) fn strip_verb(line: &[u8]) -> Option<(Verb, &[u8])>
         Some((Verb::Del, words))
     } else if let Some(words) = line.strip_prefix(b"mark ") {
         Some((Verb::Mark, words))
+    } else if let Some(words) = line.strip_prefix(b"undo ") {
+        Some((Verb::Undo, words))
+    } else if let Some(words) = line.strip_prefix(b"caret ") {
+        Some((Verb::Caret, words))
+    } else if let Some(words) = line.strip_prefix(b"where ") {
+        Some((Verb::Where, words))
     } else if let Some(words) = line.strip_prefix(b"push ") {
         Some((Verb::Push, words))
     } else if let Some(words) = line.strip_prefix(b"send ") {

@@ -35,6 +35,7 @@ loop-frame-preserved g c =
     let all = IsTaken start.replica.limits in
     record {
       name = told.name ∙ invariant.name;
+      caret = told.caret ∙ invariant.caret;
       so_far = next_received start peer c.deliver_frame.new.peer c.args.frames.items rest more f delivery.replies.items _ delivery.printed.items _ invariant.so_far invariant.name steps.0 told.replies told.printed told.replica;
       taken = (subst (AllByRecursion all) steps.0 invariant.taken).1;
       made = subst (AllByRecursion all) (sym told.replies)

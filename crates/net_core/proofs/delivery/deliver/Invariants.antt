@@ -9,6 +9,7 @@ use Rattle.net_core.proofs.delivery.deliver.Given as goal
 abbrev pub invariant-loop-frame : goal.invariant-loop-frame
 invariant-loop-frame g l = record {
   name : l.peer.name ≡ l.initial.peer.name;
+  caret : l.peer.caret ≡ l.initial.peer.caret;
   so_far : IsReceiving l.initial.peer.name l.initial.peer.replica l.fn.frames.items l.peer.replica
       (into_iter_items l.frame-iterator) l.delivery.replies.items l.delivery.printed.items;
   taken : AllByRecursion (IsTaken l.initial.peer.replica.limits) (into_iter_items l.frame-iterator);

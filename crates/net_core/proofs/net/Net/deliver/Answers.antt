@@ -56,7 +56,7 @@ invariant_of-self g c =
     let found = c.in_ok-place.ensures.found in
     let i = c.in_ok-place.place in
     let old = read N S c.self.view_is c.self.invariant k.receiver i found c.index_mut.result.now c.index_mut.ensures.value in
-    part_reached N S c.self.view_is c.self.invariant c.args.number k at i found c.deliver.new.peer c.index_mut.result.now old c.deliver.ensures.name
+    part_reached N S c.self.view_is c.self.invariant c.args.number k at i found c.deliver.new.peer c.index_mut.result.now old c.deliver.ensures.name c.deliver.ensures.caret
     c.in_err-delivery.ensures.left
 
 pub returns-in_err-delivery : goal.returns-in_err-delivery
@@ -71,7 +71,7 @@ returns-in_err-delivery g c =
     let old = read N S c.self.view_is c.self.invariant k.receiver i found c.index_mut.result.now c.index_mut.ensures.value in
     let told = err_from_is_err_and c.from_residual-in_err-delivery.result c.from_residual-in_err-delivery.ensures.1 in
     told_left N S c.self.view_is c.self.invariant c.args.number k at i found _ told.0 c.from_residual-in_err-delivery.result told.1 told.2
-    (part_left N S c.self.view_is c.self.invariant c.args.number k at i found c.deliver.new.peer c.index_mut.result.now old c.deliver.ensures.name
+    (part_left N S c.self.view_is c.self.invariant c.args.number k at i found c.deliver.new.peer c.index_mut.result.now old c.deliver.ensures.name c.deliver.ensures.caret
     c.in_err-delivery.ensures.left)
 
 pub invariant_of-self-2 : goal.invariant_of-self-2
@@ -84,7 +84,7 @@ invariant_of-self-2 g c =
     let found = c.in_ok-place.ensures.found in
     let i = c.in_ok-place.place in
     let old = read N S c.self.view_is c.self.invariant k.receiver i found c.index_mut.result.now c.index_mut.ensures.value in
-    whole_reached N S c.self.view_is c.self.invariant c.args.number k at i found c.deliver.new.peer c.index_mut.result.now old c.deliver.ensures.name
+    whole_reached N S c.self.view_is c.self.invariant c.args.number k at i found c.deliver.new.peer c.index_mut.result.now old c.deliver.ensures.name c.deliver.ensures.caret
     c.in_ok-delivery.ensures.replica
 
 pub invariant_of-self-then-is_empty : goal.invariant_of-self-then-is_empty
@@ -97,7 +97,7 @@ invariant_of-self-then-is_empty g c =
     let found = c.in_ok-place.ensures.found in
     let i = c.in_ok-place.place in
     let old = read N S c.self.view_is c.self.invariant k.receiver i found c.index_mut.result.now c.index_mut.ensures.value in
-    whole_reached N S c.self.view_is c.self.invariant c.args.number k at i found c.deliver.new.peer c.index_mut.result.now old c.deliver.ensures.name
+    whole_reached N S c.self.view_is c.self.invariant c.args.number k at i found c.deliver.new.peer c.index_mut.result.now old c.deliver.ensures.name c.deliver.ensures.caret
     c.in_ok-delivery.ensures.replica
 
 pub returns-then-is_empty : goal.returns-then-is_empty
@@ -112,7 +112,7 @@ returns-then-is_empty g c =
     let old = read N S c.self.view_is c.self.invariant k.receiver i found c.index_mut.result.now c.index_mut.ensures.value in
     let replies = c.in_ok-delivery.delivery.replies in
     let same_long : length replies.items ≡ vec_len replies = omega (arith, replies.ok.0) in
-    none_told N S c.self.view_is c.self.invariant c.args.number k at i found c.deliver.new.peer c.index_mut.result.now old c.deliver.ensures.name
+    none_told N S c.self.view_is c.self.invariant c.args.number k at i found c.deliver.new.peer c.index_mut.result.now old c.deliver.ensures.name c.deliver.ensures.caret
     c.in_ok-delivery.ensures.replica c.in_ok-delivery.delivery.replies.items c.in_ok-delivery.delivery.printed.items c.in_ok-delivery.ensures.replies
     c.in_ok-delivery.ensures.printed (none_left replies.items (same_long ∙ eqb-true _ _ (sym c.if-is_empty.ensures)))
 
@@ -129,7 +129,7 @@ add_packet-requires-clause-sound g c =
     let new = with_written N S c.self.view_is c.self.invariant k.receiver i found c.deliver.new.peer in
     subst (λ (limits : LimitNumbers). IsPacket limits new.peers (record { sender = k.receiver; receiver = k.sender; frames = c.in_ok-delivery.delivery.replies.items }))
     (sym (ap (λ (n : Network). n.limits) c.self.view_is))
-    (replies_sound N S c.self.view_is c.self.invariant c.args.number k at i found c.deliver.new.peer c.index_mut.result.now old c.deliver.ensures.name
+    (replies_sound N S c.self.view_is c.self.invariant c.args.number k at i found c.deliver.new.peer c.index_mut.result.now old c.deliver.ensures.name c.deliver.ensures.caret
     c.in_ok-delivery.ensures.replica c.in_ok-delivery.delivery.replies.items c.in_ok-delivery.ensures.replies c.in_ok-delivery.ensures.taken)
 
 pub returns-in_err-add_packet : goal.returns-in_err-add_packet
@@ -145,7 +145,7 @@ returns-in_err-add_packet g c =
     let told = err_from_is_err_and c.from_residual-in_err-add_packet.result c.from_residual-in_err-add_packet.ensures.1 in
     told_left N S c.self.view_is c.self.invariant c.args.number k at i found _ told.0 c.from_residual-in_err-add_packet.result told.1 told.2
     (subst (IsLeftAt S (Some k)) (sym c.in_err-add_packet.ensures.err)
-    (whole_left N S c.self.view_is c.self.invariant c.args.number k at i found c.deliver.new.peer c.index_mut.result.now old c.deliver.ensures.name
+    (whole_left N S c.self.view_is c.self.invariant c.args.number k at i found c.deliver.new.peer c.index_mut.result.now old c.deliver.ensures.name c.deliver.ensures.caret
     c.in_ok-delivery.ensures.replica))
 
 pub returns : goal.returns
@@ -160,7 +160,7 @@ returns g c =
     let old = read N S c.self.view_is c.self.invariant k.receiver i found c.index_mut.result.now c.index_mut.ensures.value in
     let replies = c.in_ok-delivery.delivery.replies in
     let same_long : length replies.items ≡ vec_len replies = omega (arith, replies.ok.0) in
-    some_told N S c.self.view_is c.self.invariant c.args.number k at i found c.deliver.new.peer c.index_mut.result.now old c.deliver.ensures.name
+    some_told N S c.self.view_is c.self.invariant c.args.number k at i found c.deliver.new.peer c.index_mut.result.now old c.deliver.ensures.name c.deliver.ensures.caret
     c.in_ok-delivery.ensures.replica c.in_ok-delivery.delivery.replies.items c.in_ok-delivery.delivery.printed.items c.in_ok-delivery.ensures.replies
     c.in_ok-delivery.ensures.printed (λ e. false-eqb _ _ c.if-is_empty.ensures (sym same_long ∙ e))
     ∙ c.in_ok-add_packet.ensures.ok

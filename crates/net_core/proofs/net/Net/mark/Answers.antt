@@ -42,7 +42,7 @@ invariant_of-self g c =
     let found = c.in_ok-place.ensures.found in
     let old = read N c.args.self.now c.self.view_is c.self.invariant c.args.who.now c.in_ok-place.place found c.index_mut.result.now c.index_mut.ensures.value in
     failed_reached N c.args.self.now c.self.view_is c.self.invariant c.args.who.now c.in_ok-place.place found
-    (edits.Edit.Mark c.args.label.now) c.mark.new.self c.index_mut.result.now old c.mark.ensures.name
+    (edits.Edit.Mark c.args.label.now) c.mark.new.self c.index_mut.result.now old c.mark.ensures.name c.mark.ensures.caret
     c.in_err-made.field-0.0 c.in_err-made.ensures.edits
 
 pub returns-in_err-made : goal.returns-in_err-made
@@ -54,7 +54,7 @@ returns-in_err-made g c =
     let old = read N now c.self.view_is c.self.invariant who c.in_ok-place.place found c.index_mut.result.now c.index_mut.ensures.value in
     let told = err_from_is_err_and c.from_residual-in_err-made.result c.from_residual-in_err-made.ensures.1 in
     failed_told N now c.self.view_is c.self.invariant who c.in_ok-place.place found (edits.Edit.Mark c.args.label.now) c.mark.new.self
-    c.index_mut.result.now old c.mark.ensures.name
+    c.index_mut.result.now old c.mark.ensures.name c.mark.ensures.caret
     (step.Mark c.args.who.now c.args.label.now) c.in_err-made.field-0.0 told.0 c.from_residual-in_err-made.result
     (mark_is c.args.self.now c.args.who.now c.args.label.now) refl c.in_err-made.ensures.edits told.2 told.1
 
@@ -64,7 +64,7 @@ invariant_of-self-2 g c =
     let found = c.in_ok-place.ensures.found in
     let old = read N c.args.self.now c.self.view_is c.self.invariant c.args.who.now c.in_ok-place.place found c.index_mut.result.now c.index_mut.ensures.value in
     made_reached N c.args.self.now c.self.view_is c.self.invariant c.args.who.now c.in_ok-place.place found
-    (edits.Edit.Mark c.args.label.now) c.mark.new.self c.index_mut.result.now old c.mark.ensures.name
+    (edits.Edit.Mark c.args.label.now) c.mark.new.self c.index_mut.result.now old c.mark.ensures.name c.mark.ensures.caret
     c.in_ok-made.made c.in_ok-made.ensures.edits
 
 pub returns : goal.returns
@@ -76,5 +76,5 @@ returns g c =
     let old = read N now c.self.view_is c.self.invariant who c.in_ok-place.place found c.index_mut.result.now c.index_mut.ensures.value in
     mark_is c.args.self.now c.args.who.now c.args.label.now
     ∙ made_told N now c.self.view_is c.self.invariant who c.in_ok-place.place found
-    (edits.Edit.Mark c.args.label.now) c.mark.new.self c.index_mut.result.now old c.mark.ensures.name c.in_ok-made.made c.in_ok-made.ensures.edits
+    (edits.Edit.Mark c.args.label.now) c.mark.new.self c.index_mut.result.now old c.mark.ensures.name c.mark.ensures.caret c.in_ok-made.made c.in_ok-made.ensures.edits
     ∙ ap (Stepped (with_written N now c.self.view_is c.self.invariant who c.in_ok-place.place found c.mark.new.self)) (sym c.of.ensures)

@@ -27,7 +27,7 @@ invariant_of-self-2 g c =
     let h = homely S (seen N S c.self.view_is c.self.invariant name c.in_ok-place.place found) in
     let is = there N S c.self.view_is c.self.invariant name c.in_ok-place.place found in
     let old = read N S c.self.view_is c.self.invariant name c.in_ok-place.place found c.index_mut.result.now c.index_mut.ensures.value in
-    let new = c.in_ok-restart.ensures.ok ∙ ap (λ (q : Peer). record { name = q.name; replica = record { limits = q.replica.limits; held = q.replica.held; waiting = [] } }) old in
+    let new = c.in_ok-restart.ensures.ok ∙ ap (λ (q : Peer). record { name = q.name; replica = record { limits = q.replica.limits; held = q.replica.held; waiting = [] }; caret = q.caret }) old in
     written_reached N S c.self.view_is c.self.invariant name c.in_ok-place.place found c.restart.new.self (restarted S name p h is) new (restarted_homely S name p h is)
 
 pub returns : goal.returns
@@ -40,7 +40,7 @@ returns g c =
     let h = homely S (seen N S c.self.view_is c.self.invariant name c.in_ok-place.place found) in
     let is = there N S c.self.view_is c.self.invariant name c.in_ok-place.place found in
     let old = read N S c.self.view_is c.self.invariant name c.in_ok-place.place found c.index_mut.result.now c.index_mut.ensures.value in
-    let new = c.in_ok-restart.ensures.ok ∙ ap (λ (q : Peer). record { name = q.name; replica = record { limits = q.replica.limits; held = q.replica.held; waiting = [] } }) old in
+    let new = c.in_ok-restart.ensures.ok ∙ ap (λ (q : Peer). record { name = q.name; replica = record { limits = q.replica.limits; held = q.replica.held; waiting = [] }; caret = q.caret }) old in
     let back = written N S c.self.view_is c.self.invariant name c.in_ok-place.place found c.restart.new.self (restarted S name p h is) new in
     let line = ap (λ n. printed_line (n ∷ codes "restarted" ∷ [])) (named_so S name p is) ∙ sym c.in_ok-out.ensures in
     restart_is S name ∙ restarted_step S name p h is ∙ (λ i. Stepped (sym back i) (line i))
