@@ -40,6 +40,14 @@ at_rule = record (new_rule (codes "at")) { long = Some (codes "at") }
 unfoldable pub cat_app : App
 cat_app = with_rule (with_rule (new_app (codes "cat")) file_rule) at_rule
 
+-- the version, which has to be given
+abbrev pub needed_at_rule : Rule
+needed_at_rule = record at_rule { required = true }
+
+-- an id, which has to be given
+abbrev pub of_rule : Rule
+of_rule = record (new_rule (codes "of")) { long = Some (codes "of"); required = true }
+
 -- the greatest seed
 abbrev pub most_seed : ℕ
 most_seed = 18446744073709551615
@@ -52,13 +60,37 @@ most_made = 1000000
 abbrev pub seed_rule : Rule
 seed_rule = record (new_rule (codes "seed")) { long = Some (codes "seed"); parser = Some (Unsigned 0 most_seed); required = true }
 
--- a number from 0 to another, which has to be given; it is read with a sign, so that `-0` is 0
-abbrev pub number_rule : List ℕ → ℕ → Rule
-number_rule name most = record (new_rule name) { long = Some name; parser = Some (Signed (pos 0) (pos most)); required = true }
+-- a number between two others, which has to be given; it is read with a sign, so that `-0` is 0
+abbrev pub number_rule : List ℕ → ℕ → ℕ → Rule
+number_rule name least most = record (new_rule name) { long = Some name; parser = Some (Signed (pos least) (pos most)); required = true }
 
 -- the command that makes a history
 unfoldable pub make_app : App
-make_app = with_rule (with_rule (new_app (codes "make")) seed_rule) (number_rule (codes "count") most_made)
+make_app = with_rule (with_rule (new_app (codes "make")) seed_rule) (number_rule (codes "count") 0 most_made)
+
+-- the most events that are undone at once
+abbrev pub most_undone : ℕ
+most_undone = 1000000
+
+-- the greatest index
+abbrev pub most_index : ℕ
+most_index = 4294967295
+
+-- the most columns
+abbrev pub most_columns : ℕ
+most_columns = 1000
+
+-- the command that undoes so many events, from an id on, as an agent
+unfoldable pub undo_app : App
+undo_app = with_rule (with_rule (with_rule (with_rule (new_app (codes "undo")) file_rule) agent_rule) of_rule) (number_rule (codes "count") 1 most_undone)
+
+-- the command of a file, a version of it and an index of that version's text
+unfoldable pub caret_app : App
+caret_app = with_rule (with_rule (with_rule (new_app (codes "caret")) file_rule) needed_at_rule) (number_rule (codes "index") 0 most_index)
+
+-- the command of a file, a number of columns and perhaps a version
+unfoldable pub blame_app : App
+blame_app = with_rule (with_rule (with_rule (new_app (codes "blame")) file_rule) (number_rule (codes "columns") 1 most_columns)) at_rule
 
 -- the command of a net, which has no arguments
 abbrev pub net_app : App
@@ -83,8 +115,11 @@ with_file_apps app (name ∷ names) = with_file_apps (then_app app (file_app nam
 
 -- the program, with all of its commands
 unfoldable pub egw_app : App
-egw_app = then_app (then_app (then_app (then_app (then_app (then_app (with_file_apps bare_app file_commands) edit_app) cat_app) merge_app) net_app) make_app) watch_app
+egw_app =
+    then_app
+    (then_app (then_app (then_app (then_app (then_app (then_app (then_app (then_app (with_file_apps bare_app file_commands) edit_app) cat_app) merge_app) net_app) make_app) watch_app) undo_app) caret_app)
+    blame_app
 
 -- the usage: a line for each command
 abbrev pub usage : List ℕ
-usage = codes "usage: egw new FILE\n       egw edit FILE --agent NAME\n       egw cat FILE [--at VERSION]\n       egw heads FILE\n       egw log FILE\n       egw replay FILE\n       egw check FILE\n       egw merge FILE OTHER\n       egw ask FILE\n       egw serve FILE\n       egw net\n       egw make --seed N --count N\n       egw marks FILE\n       egw upgrade FILE\n       egw watch --agent NAME\n       egw export FILE\n"
+usage = codes "usage: egw new FILE\n       egw edit FILE --agent NAME\n       egw cat FILE [--at VERSION]\n       egw heads FILE\n       egw log FILE\n       egw replay FILE\n       egw check FILE\n       egw merge FILE OTHER\n       egw ask FILE\n       egw serve FILE\n       egw net\n       egw make --seed N --count N\n       egw marks FILE\n       egw upgrade FILE\n       egw watch --agent NAME\n       egw export FILE\n       egw undo FILE --agent NAME --of ID --count N\n       egw caret FILE --at VERSION --index N\n       egw blame FILE --columns N [--at VERSION]\n"

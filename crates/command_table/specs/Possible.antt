@@ -10,7 +10,7 @@ use Rattle.command_table.specs.Scripts.{Reading, Means, NetReading, MeansNet}
 use Rattle.command_table.specs.Refusals.{not_taken, input_too_long, journal_too_many}
 use Rattle.command_table.specs.Framings.{Framing, IsFramingOf}
 use Rattle.command_table.specs.Sessions.{Session, closed_by, served_as}
-use Rattle.command_table.specs.Table.{Text, Line, does, serves, watches, exports, Command, create, edit, show, merge, upgrade, make, net, Reply, refuses, Opened, opened, refused, opened_as, create_reply, show_reply, merge_reply, upgrade_reply, make_reply, over_events, over_both, script_reply, net_script_reply}
+use Rattle.command_table.specs.Table.{Text, Line, does, serves, watches, exports, Command, create, edit, show, merge, upgrade, undo, make, net, Reply, refuses, Opened, opened, refused, opened_as, create_reply, show_reply, merge_reply, upgrade_reply, undo_reply, make_reply, over_events, over_both, script_reply, net_script_reply}
 
 -- a file that was loaded whole is of bytes, at most so many; one that is missing or too long is any
 abbrev pub KeepsTo : ℕ → File → Type 0
@@ -43,6 +43,8 @@ MayReplyTo (merge name other) limits reply =
     (file : File) × (second : File) × (reply ≡ over_both (merge_reply name limits) (opened_as name limits file) (opened_as other limits second))
     × KeepsTo (most_file_bytes limits.events) file × KeepsTo (most_file_bytes limits.events) second
 MayReplyTo (upgrade name) limits reply = (file : File) × (reply ≡ upgrade_reply name limits file) × KeepsTo (most_file_bytes limits.events) file
+MayReplyTo (undo name agent first count) limits reply =
+    (file : File) × (reply ≡ over_events (undo_reply name agent first count limits) (opened_as name limits file)) × KeepsTo (most_file_bytes limits.events) file
 MayReplyTo (make seed count) limits reply = reply ≡ make_reply limits (made limits seed count)
 MayReplyTo net limits reply = MayNet limits reply
 

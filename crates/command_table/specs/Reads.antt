@@ -5,7 +5,7 @@ use Rattle.ew_model.specs.Limits.{LimitNumbers, most_file_bytes}
 use Rattle.ew_outside.specs.Files.{Files}
 use Rattle.ew_outside.specs.Counts.{next}
 use Rattle.ew_outside.specs.Seen.{SourceSeen}
-use Rattle.command_table.specs.Table.{Text, Line, does, serves, watches, exports, create, edit, show, merge, upgrade, make, net, Opened, opened, refused, open_file}
+use Rattle.command_table.specs.Table.{Text, Line, does, serves, watches, exports, create, edit, show, merge, upgrade, undo, make, net, Opened, opened, refused, open_file}
 
 -- what a line reads, and whether it may store
 pub record Shape : Type 0 where
@@ -27,6 +27,7 @@ shape_of (Some (does (edit file agent))) = record { files = file ∷ []; needs =
 shape_of (Some (does (show listing file))) = record { files = file ∷ []; needs = true; input = false; stores = false; journal = false }
 shape_of (Some (does (merge file other))) = record { files = file ∷ other ∷ []; needs = true; input = false; stores = true; journal = false }
 shape_of (Some (does (upgrade file))) = record { files = file ∷ []; needs = true; input = false; stores = true; journal = false }
+shape_of (Some (does (undo file agent first count))) = record { files = file ∷ []; needs = true; input = false; stores = true; journal = false }
 shape_of (Some (does (make seed count))) = record { files = []; needs = false; input = false; stores = false; journal = false }
 shape_of (Some (does net)) = record { files = []; needs = false; input = true; stores = false; journal = false }
 shape_of (Some (serves file)) = record { files = file ∷ []; needs = true; input = true; stores = true; journal = false }

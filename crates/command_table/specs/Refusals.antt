@@ -32,11 +32,15 @@ pub data Refusal : Type 0 where
   -- an edit that reaches past the end of a text of this length, of a line or of none
   line_out_of_range : (line len : ℕ) → Refusal
   out_of_range : (len : ℕ) → Refusal
-  -- a line of a net script: a peer that isn't there or is there already, or a packet that was never made
+  -- an index above the length of a version's text
+  index_out_of_range : (index len : ℕ) → Refusal
+  -- a line of a net script: a peer that isn't there or is there already, a packet that was never made, or an event that the peer doesn't
+  -- hold
   no_peer : (line : ℕ) (name : List ℕ) → Refusal
   peer_there : (line : ℕ) (name : List ℕ) → Refusal
   no_packet : (line packet : ℕ) → Refusal
-  -- an id of a version that no event of the file has, and an id that two different events have
+  no_event : (line : ℕ) (id : Id) → Refusal
+  -- an id of a version, or of an event to undo, that no event of the file has, and an id that two different events have
   unknown : (id : Id) → Refusal
   clash : (id : Id) → Refusal
   -- a frame that is cut, or no frame
@@ -68,9 +72,11 @@ refusal_status (bad_journal_event position verdict) = 4
 refusal_status (unreadable line) = 5
 refusal_status (line_out_of_range line len) = 5
 refusal_status (out_of_range len) = 5
+refusal_status (index_out_of_range index len) = 5
 refusal_status (no_peer line name) = 5
 refusal_status (peer_there line name) = 5
 refusal_status (no_packet line packet) = 5
+refusal_status (no_event line id) = 5
 refusal_status (unknown id) = 5
 refusal_status (clash id) = 5
 refusal_status (frame_cut number) = 5
@@ -104,9 +110,11 @@ refusal_text (bad_journal_event position verdict) =
 refusal_text (unreadable line) = codes "egw: line " ++ (decimal line ++ codes ": unreadable\n")
 refusal_text (line_out_of_range line len) = codes "egw: line " ++ (decimal line ++ (codes ": out of range, length " ++ (decimal len ++ codes "\n")))
 refusal_text (out_of_range len) = codes "egw: out of range, length " ++ (decimal len ++ codes "\n")
+refusal_text (index_out_of_range index len) = codes "egw: index " ++ (decimal index ++ (codes ": out of range, length " ++ (decimal len ++ codes "\n")))
 refusal_text (no_peer line name) = codes "egw: line " ++ (decimal line ++ (codes ": no peer " ++ (name ++ codes "\n")))
 refusal_text (peer_there line name) = codes "egw: line " ++ (decimal line ++ (codes ": peer " ++ (name ++ codes " is there\n")))
 refusal_text (no_packet line packet) = codes "egw: line " ++ (decimal line ++ (codes ": no packet " ++ (decimal packet ++ codes "\n")))
+refusal_text (no_event line id) = codes "egw: line " ++ (decimal line ++ (codes ": unknown " ++ (id_text id ++ codes "\n")))
 refusal_text (unknown id) = codes "egw: unknown " ++ (id_text id ++ codes "\n")
 refusal_text (clash id) = codes "egw: clash " ++ (id_text id ++ codes "\n")
 refusal_text (frame_cut number) = codes "egw: frame " ++ (decimal number ++ codes ": cut\n")

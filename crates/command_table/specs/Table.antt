@@ -1,5 +1,5 @@
 -- The command table: what a command line answers over a map of files and an input.
-use Rattle.std.specs.Prelude.{ℕ, pos, ◌-◌, Bool, true, false, List, [], ◌∷◌, length, find, Option, None, Some, option_and_then, if◌then◌else◌, nat_lt, ◌==◌, slice_index, codes, encode_utf8_all}
+use Rattle.std.specs.Prelude.{ℕ, pos, ◌-◌, Bool, true, false, List, [], ◌∷◌, ◌++◌, length, find, Option, None, Some, option_and_then, if◌then◌else◌, nat_lt, ◌==◌, slice_index, codes, encode_utf8_all}
 use Rattle.std.specs.List.{list_any}
 use Rattle.std.specs.Option.{option_map}
 use Rattle.std.specs.Str.{bytes_eq}
@@ -31,19 +31,24 @@ use Rattle.peer_definitions.specs.Answering.{is_clash}
 use Rattle.history_definitions.specs.Listings.{check_text, heads_text, log_text, marks_text}
 use Rattle.history_definitions.specs.Replays.{replay_text}
 use Rattle.history_definitions.specs.Tallies.{accepted_in, repeats_in, refused_in}
+use Rattle.undo_definitions.specs.Wanted.{ids_from}
+use Rattle.undo_definitions.specs.Undoing.{UndoRefusal, events_of_undo, undo_refusal}
+use Rattle.blame_definitions.specs.Blame.{blame_text, unknown_in as unknown_to_blame}
+use Rattle.carets.specs.declared.caret.Caret.{Caret}
+use Rattle.carets.specs.Sides.{caret_at, side}
 use Rattle.peer_definitions.specs.Runs.{RunOutcome, net_run}
 use Rattle.peer_definitions.specs.Runs.RunOutcome.{Ran, Broke}
 use Rattle.peer_definitions.specs.Machine as machine
 use Rattle.peer_definitions.specs.Machine.{empty_network}
-use Rattle.peer_definitions.specs.Machine.Refusal.{NoPeer, PeerTwice, NoPacket, NoEdit}
+use Rattle.peer_definitions.specs.Machine.Refusal.{NoPeer, PeerTwice, NoPacket, NoEvent, NoEdit}
 use Rattle.peer_definitions.specs.Making.{Made, made, printed}
 use Rattle.peer_definitions.specs.Making.Made.{Going, Stopped}
-use Rattle.command_table.specs.Cli.{egw_app, most_made, most_seed}
+use Rattle.command_table.specs.Cli.{egw_app, most_columns, most_index, most_made, most_seed, most_undone}
 use Rattle.command_table.specs.Loads.{File, missing, too_long, whole, whole_of}
 use Rattle.command_table.specs.VersionWords.{version_in}
 use Rattle.command_table.specs.Scripts.{Reading, Means, script, bad_line, NetReading, MeansNet, net_script, bad_net_line, Edited, ran, stopped_at, edited_by}
-use Rattle.command_table.specs.Text.{made_text, received_text, upgraded_text}
-use Rattle.command_table.specs.Refusals.{Refusal, refusal_status, refusal_text, no_file, file_there, short_file, no_event_file, unknown_version, bad_digest, bad_field, bad_event, unreadable, line_out_of_range, out_of_range, no_peer, peer_there, no_packet, unknown, clash, file_too_long, file_too_many, input_too_long, too_many_events, too_many_heads}
+use Rattle.command_table.specs.Text.{index_text, made_text, received_text, upgraded_text}
+use Rattle.command_table.specs.Refusals.{Refusal, refusal_status, refusal_text, no_file, file_there, short_file, no_event_file, unknown_version, bad_digest, bad_field, bad_event, unreadable, line_out_of_range, out_of_range, index_out_of_range, no_peer, peer_there, no_packet, no_event, unknown, clash, file_too_long, file_too_many, input_too_long, too_many_events, too_many_heads}
 
 -- a word of a command line, in bytes
 abbrev pub Text : Type 0
@@ -59,6 +64,8 @@ pub data Listing : Type 0 where
   numbers : Listing
   question : Listing
   marks : Listing
+  caret : (version : List Id) (index : ℕ) → Listing
+  blame : (version : Option (List Id)) (columns : ℕ) → Listing
 
 -- a command line that is taken
 pub data Command : Type 0 where
@@ -67,6 +74,7 @@ pub data Command : Type 0 where
   show : (listing : Listing) (file : Text) → Command
   merge : (file other : Text) → Command
   upgrade : (file : Text) → Command
+  undo : (file agent : Text) (first : Id) (count : ℕ) → Command
   make : (seed count : ℕ) → Command
   net : Command
 
@@ -82,12 +90,13 @@ pub data Line : Type 0 where
 abbrev pub file_line : (Text → Command) → List Row → Option Command
 file_line command rows = option_map command (first_of (codes "file") rows)
 
--- the agent has to be a name
+-- the agent that is given, which has to be a name
+abbrev pub agent_in : List Row → Option Text
+agent_in rows = option_and_then (λ agent. if is_name agent then Some agent else None) (first_of (codes "agent") rows)
+
+-- the file and the agent
 abbrev pub edit_line : List Row → Option Command
-edit_line rows =
-    option_and_then
-    (λ file. option_and_then (λ agent. if is_name agent then Some (edit file agent) else None) (first_of (codes "agent") rows))
-    (first_of (codes "file") rows)
+edit_line rows = option_and_then (λ file. option_map (edit file) (agent_in rows)) (first_of (codes "file") rows)
 
 -- the whole text, or that of a version, whose word has to be in the grammar
 abbrev pub content_at : Option Text → Option Listing
@@ -108,16 +117,64 @@ merge_line rows =
 abbrev pub seed_in : Text → Option ℕ
 seed_in word = if is_unsigned_in 0 most_seed word then Some (digits_value 10 (without_leading_plus word)) else None
 
--- the number up to another that a word spells; a minus sign may stand before zeros
-abbrev pub number_up_to : ℕ → Text → Option ℕ
-number_up_to most word = if is_signed_in (pos 0) (pos most) word then Some (digits_value 10 (without_leading_sign word)) else None
+-- the number between two others that a word spells; a minus sign may stand before zeros
+abbrev pub number_between : ℕ → ℕ → Text → Option ℕ
+number_between least most word = if is_signed_in (pos least) (pos most) word then Some (digits_value 10 (without_leading_sign word)) else None
 
 -- the seed and the count, both numbers within their bounds
 abbrev pub make_line : List Row → Option Command
 make_line rows =
     option_and_then
-    (λ seed. option_map (make seed) (option_and_then (number_up_to most_made) (first_of (codes "count") rows)))
+    (λ seed. option_map (make seed) (option_and_then (number_between 0 most_made) (first_of (codes "count") rows)))
     (option_and_then seed_in (first_of (codes "seed") rows))
+
+-- the version that is given, and the index, both of which have to be there
+abbrev pub caret_listing : List Row → Option Listing
+caret_listing rows =
+    option_and_then
+    (λ version. option_map (caret version) (option_and_then (number_between 0 most_index) (first_of (codes "index") rows)))
+    (option_and_then version_in (first_of (codes "at") rows))
+
+-- the file, and where a caret of a version is in it
+abbrev pub caret_line : List Row → Option Command
+caret_line rows = option_and_then (λ file. option_map (λ listing. show listing file) (caret_listing rows)) (first_of (codes "file") rows)
+
+-- who wrote what, of the whole text or of a version, whose word has to be in the grammar
+abbrev pub blame_at : ℕ → Option Text → Option Listing
+blame_at columns None = Some (blame None columns)
+blame_at columns (Some word) = option_map (λ version. blame (Some version) columns) (version_in word)
+
+-- the number of columns, and perhaps a version
+abbrev pub blame_listing : List Row → Option Listing
+blame_listing rows =
+    option_and_then
+    (λ columns. blame_at columns (first_of (codes "at") rows))
+    (option_and_then (number_between 1 most_columns) (first_of (codes "columns") rows))
+
+-- the file, and who wrote what in it
+abbrev pub blame_line : List Row → Option Command
+blame_line rows = option_and_then (λ file. option_map (λ listing. show listing file) (blame_listing rows)) (first_of (codes "file") rows)
+
+-- the one id of a version of one id
+abbrev pub only_id : List Id → Option Id
+only_id [] = None
+only_id (x ∷ []) = Some x
+only_id (x ∷ y ∷ ids) = None
+
+-- the id that a word spells
+abbrev pub id_in : Text → Option Id
+id_in word = option_and_then only_id (version_in word)
+
+-- the file, the agent who undoes, the first event that is undone, and how many are
+abbrev pub undo_line : List Row → Option Command
+undo_line rows =
+    option_and_then
+    (λ file. option_and_then
+    (λ agent. option_and_then
+    (λ first. option_map (undo file agent first) (option_and_then (number_between 1 most_undone) (first_of (codes "count") rows)))
+    (option_and_then id_in (first_of (codes "of") rows)))
+    (agent_in rows))
+    (first_of (codes "file") rows)
 
 -- the command of a subcommand and its values
 abbrev pub command_in : Text → List Row → Option Command
@@ -134,11 +191,14 @@ command_in name rows =
     else (if bytes_eq name (codes "make") then make_line rows
     else (if bytes_eq name (codes "net") then Some net
     else (if bytes_eq name (codes "marks") then file_line (show marks) rows
-    else (if bytes_eq name (codes "upgrade") then file_line upgrade rows else None))))))))))))
+    else (if bytes_eq name (codes "upgrade") then file_line upgrade rows
+    else (if bytes_eq name (codes "undo") then undo_line rows
+    else (if bytes_eq name (codes "caret") then caret_line rows
+    else (if bytes_eq name (codes "blame") then blame_line rows else None)))))))))))))))
 
--- the agent, which has to be a name
+-- the agent
 abbrev pub watch_line : List Row → Option Line
-watch_line rows = option_and_then (λ agent. if is_name agent then Some (watches agent) else None) (first_of (codes "agent") rows)
+watch_line rows = option_map watches (agent_in rows)
 
 -- the line of what `clap` finds in the words
 abbrev pub line_in : Option (Text × List Row) → Option Line
@@ -154,7 +214,7 @@ abbrev pub where_none : Kinds → Option Line → Option Line
 where_none [] l = l
 where_none (k ∷ ks) l = None
 
--- the words are taken exactly where `clap` has no fault of them, the agent is a name and the version is in its grammar
+-- the words are taken exactly where `clap` has no fault of them, an agent is a name, and a version and an id are in their grammars
 unfoldable pub line_of : List Text → Option Line
 line_of words = where_none (fault_of egw_app words) (line_in (subcommand_of egw_app words))
 
@@ -199,20 +259,29 @@ abbrev pub over_events : (List Event → Reply) → Opened → Reply
 over_events reply (opened events) = reply events
 over_events reply (refused why) = refuses why
 
+-- the index at which a caret is, unless it was taken at an index above the length of a version's text
+abbrev pub caret_reply : (index len : ℕ) → List Event → Option Caret → Reply
+caret_reply index len events (Some c) = prints (index_text (side events c))
+caret_reply index len events None = refuses (index_out_of_range index len)
+
 -- what is shown of events
-abbrev pub listing_text : Listing → List Event → List ℕ
-listing_text content events = encode_utf8_all (text_of events)
-listing_text (past version) events = encode_utf8_all (text_at events version)
-listing_text head_ids events = heads_text events
-listing_text log events = log_text events
-listing_text replay events = replay_text events
-listing_text numbers events = check_text events
-listing_text question events = frame_bytes (Have (summary_of events))
-listing_text marks events = marks_text events
+abbrev pub shown_reply : Listing → List Event → Reply
+shown_reply content events = prints (encode_utf8_all (text_of events))
+shown_reply (past version) events = prints (encode_utf8_all (text_at events version))
+shown_reply head_ids events = prints (heads_text events)
+shown_reply log events = prints (log_text events)
+shown_reply replay events = prints (replay_text events)
+shown_reply numbers events = prints (check_text events)
+shown_reply question events = prints (frame_bytes (Have (summary_of events)))
+shown_reply marks events = prints (marks_text events)
+shown_reply (caret version index) events = caret_reply index (length (text_at events version)) events (caret_at events version index)
+shown_reply (blame version columns) events = prints (blame_text events version columns)
 
 -- the first id of a version, in the order written, that isn't held
 abbrev pub unknown_in : Listing → List Event → Option Id
 unknown_in (past version) events = first_unknown events version
+unknown_in (caret version index) events = first_unknown events version
+unknown_in (blame version columns) events = unknown_to_blame events version
 unknown_in listing events = None
 
 -- a reply, unless an id is unknown
@@ -220,9 +289,9 @@ abbrev pub unless_unknown : Option Id → Reply → Reply
 unless_unknown None reply = reply
 unless_unknown (Some id) reply = refuses (unknown id)
 
--- a listing is printed, unless it is of a version with an id that isn't held
+-- a listing is shown, unless it is of a version with an id that isn't held
 abbrev pub show_reply : Listing → List Event → Reply
-show_reply listing events = unless_unknown (unknown_in listing events) (prints (listing_text listing events))
+show_reply listing events = unless_unknown (unknown_in listing events) (shown_reply listing events)
 
 -- an empty history is stored, unless the file is there
 abbrev pub create_reply : Text → File → Reply
@@ -308,6 +377,18 @@ upgraded_reply name events version =
 abbrev pub upgrade_reply : Text → LimitNumbers → File → Reply
 upgrade_reply name limits file = over_events (λ events. upgraded_reply name events (named_version file)) (opened_as name limits file)
 
+-- what an undo made, or why it is refused
+abbrev pub undone_reply : Text → Text → LimitNumbers → List Event → List Id → Option UndoRefusal → Reply
+undone_reply name agent limits events undone None = made_reply name (length events) (events ++ events_of_undo events agent undone)
+undone_reply name agent limits events undone (Some (UndoRefusal.NoEvent id)) = refuses (unknown id)
+undone_reply name agent limits events undone (Some (UndoRefusal.TooManyHeads heads)) = refuses (too_many_heads heads)
+undone_reply name agent limits events undone (Some (UndoRefusal.Full count)) = refuses (too_many_events limits.events)
+
+-- so many events, from an id on, are undone by an agent
+abbrev pub undo_reply : Text → Text → Id → ℕ → LimitNumbers → List Event → Reply
+undo_reply name agent first count limits events =
+    let undone = ids_from first.agent first.seq count in undone_reply name agent limits events undone (undo_refusal limits events undone)
+
 -- why the making of a history stopped
 abbrev pub stop_reply : LimitNumbers → EditRefusal → Reply
 stop_reply limits (OutOfRange len) = refuses (out_of_range len)
@@ -324,6 +405,7 @@ abbrev pub net_refusal : LimitNumbers → ℕ → machine.Refusal → Reply
 net_refusal limits line (NoPeer name) = refuses (no_peer line name)
 net_refusal limits line (PeerTwice name) = refuses (peer_there line name)
 net_refusal limits line (NoPacket packet) = refuses (no_packet line packet)
+net_refusal limits line (NoEvent id) = refuses (no_event line id)
 net_refusal limits line (NoEdit why) = line_refusal limits line why
 
 -- what the steps of a net script came to: all that they print, or the first refusal and nothing else
@@ -353,6 +435,7 @@ MeansTo (edit name agent) input reading = Means input reading
 MeansTo (show listing name) input reading = Means input reading
 MeansTo (merge name other) input reading = Means input reading
 MeansTo (upgrade name) input reading = Means input reading
+MeansTo (undo name agent first count) input reading = Means input reading
 MeansTo (make seed count) input reading = Means input reading
 
 -- what a command does over files and an input, and what the input means
@@ -362,6 +445,7 @@ reply_to (edit name agent) limits files input reading = over_events (input_reply
 reply_to (show listing name) limits files input reading = over_events (show_reply listing) (open_file name limits files)
 reply_to (merge name other) limits files input reading = over_both (merge_reply name limits) (open_file name limits files) (open_file other limits files)
 reply_to (upgrade name) limits files input reading = upgrade_reply name limits (whole_of (most_file_bytes limits.events) (get files name))
+reply_to (undo name agent first count) limits files input reading = over_events (undo_reply name agent first count limits) (open_file name limits files)
 reply_to (make seed count) limits files input reading = make_reply limits (made limits seed count)
 reply_to net limits files input reading = net_reply limits input reading
 

@@ -1,4 +1,4 @@
--- Words in refusals, the four lines that tell of success, and what is told where an object failed or memory ran out.
+-- Words in refusals, the five lines that tell of success, and what is told where an object failed or memory ran out.
 use Rattle.std.specs.Prelude.{ℕ, List, ◌++◌, codes}
 use Rattle.std.specs.Fmt.{decimal}
 use Rattle.ew_model.specs.Scripts.{id_text}
@@ -53,6 +53,10 @@ received_text accepted waiting repeats refused cut =
 -- how many events of a line of a script stand in the journal
 abbrev pub kept_text : ℕ → List ℕ
 kept_text made = codes "kept " ++ (decimal made ++ codes "\n")
+
+-- at which index a caret is
+abbrev pub index_text : ℕ → List ℕ
+index_text index = decimal index ++ codes "\n"
 
 -- which version of the event file was read, and of how many events
 abbrev pub upgraded_text : ℕ → ℕ → List ℕ
