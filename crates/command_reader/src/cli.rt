@@ -2,7 +2,7 @@
 ghost use Rattle.std.specs.Prelude.{◌≡◌, false, IfOk};
 ghost use Rattle.clap.specs.Words.{app_of, rule_of};
 ghost use Rattle.clap.specs.declared.builder.command.Command.TheViews.{out-Command};
-ghost use Rattle.command_table.specs.Cli.{bare_app, cat_app, edit_app, egw_app, file_app, file_commands, make_app, merge_app, net_app, number_rule, seed_rule, then_app, watch_app, with_file_apps};
+ghost use Rattle.command_table.specs.Cli.{agent_rule, bare_app, blame_app, caret_app, cat_app, edit_app, egw_app, file_app, file_commands, file_rule, make_app, merge_app, net_app, number_rule, seed_rule, then_app, undo_app, watch_app, with_file_apps};
 
 use clap::builder::ValueParser;
 use clap::{Arg, Command};
@@ -70,14 +70,14 @@ fn seed_arg<'a>(alloc: Global) -> Arg<'a>
         .required(true)
 }
 
-/// A number up to another, which has to be given.
-fn number_arg<'a>(alloc: Global, name: &'static str, most: u32) -> Arg<'a>
-    ensures rule { rule_of result ≡ number_rule name.now most }
+/// A number between two others, which has to be given.
+fn number_arg<'a>(alloc: Global, name: &'static str, least: u32, most: u32) -> Arg<'a>
+    ensures rule { rule_of result ≡ number_rule name.now least most }
     ensures local { result.global ≡ false }
 {
     Arg::new(alloc, name)
         .long(name)
-        .value_parser(ValueParser::signed(0, i64::from(most)))
+        .value_parser(ValueParser::signed(i64::from(least), i64::from(most)))
         .required(true)
 }
 
@@ -87,8 +87,55 @@ fn make_command<'a>(alloc: Global) -> Result<Command<'a>, NoMem>
     ensures local { IfOk result (λ c. (out-Command c).has_globals ≡ false) }
 {
     let seed = seed_arg(alloc);
-    let count = number_arg(alloc, "count", MOST_MADE);
+    let count = number_arg(alloc, "count", 0, MOST_MADE);
     Command::new(alloc, "make").arg(seed)?.arg(count)
+}
+
+/// The greatest number of events that are undone at once.
+pub const MOST_UNDONE: u32 = 1_000_000;
+
+/// The command that undoes so many events, from an id on, as an agent.
+fn undo_command<'a>(alloc: Global) -> Result<Command<'a>, NoMem>
+    ensures app { IfOk result (λ c. app_of c ≡ undo_app) }
+    ensures local { IfOk result (λ c. (out-Command c).has_globals ≡ false) }
+{
+    let file = Arg::new(alloc, "file").required(true);
+    let agent = Arg::new(alloc, "agent").long("agent").required(true);
+    let of = Arg::new(alloc, "of").long("of").required(true);
+    let count = number_arg(alloc, "count", 1, MOST_UNDONE);
+    Command::new(alloc, "undo")
+        .arg(file)?
+        .arg(agent)?
+        .arg(of)?
+        .arg(count)
+}
+
+/// The command of a file, a version of it and an index of that version's text.
+fn caret_command<'a>(alloc: Global) -> Result<Command<'a>, NoMem>
+    ensures app { IfOk result (λ c. app_of c ≡ caret_app) }
+    ensures local { IfOk result (λ c. (out-Command c).has_globals ≡ false) }
+{
+    let file = Arg::new(alloc, "file").required(true);
+    let at = Arg::new(alloc, "at").long("at").required(true);
+    let index = number_arg(alloc, "index", 0, u32::MAX);
+    Command::new(alloc, "caret").arg(file)?.arg(at)?.arg(index)
+}
+
+/// The greatest number of columns.
+pub const MOST_COLUMNS: u32 = 1000;
+
+/// The command of a file, a number of columns and perhaps a version.
+fn blame_command<'a>(alloc: Global) -> Result<Command<'a>, NoMem>
+    ensures app { IfOk result (λ c. app_of c ≡ blame_app) }
+    ensures local { IfOk result (λ c. (out-Command c).has_globals ≡ false) }
+{
+    let file = Arg::new(alloc, "file").required(true);
+    let columns = number_arg(alloc, "columns", 1, MOST_COLUMNS);
+    let at = Arg::new(alloc, "at").long("at");
+    Command::new(alloc, "blame")
+        .arg(file)?
+        .arg(columns)?
+        .arg(at)
 }
 
 /// The command without its subcommands.
@@ -168,6 +215,30 @@ fn with_make<'a>(alloc: Global, command: Command<'a>) -> Result<Command<'a>, NoM
     command.subcommand(make)
 }
 
+/// Adds the command that undoes.
+fn with_undo<'a>(alloc: Global, command: Command<'a>) -> Result<Command<'a>, NoMem>
+    ensures { IfOk result (λ c. app_of c ≡ then_app (app_of command.entry) undo_app) }
+{
+    let undo = undo_command(alloc)?;
+    command.subcommand(undo)
+}
+
+/// Adds the command that tells where a caret is.
+fn with_caret<'a>(alloc: Global, command: Command<'a>) -> Result<Command<'a>, NoMem>
+    ensures { IfOk result (λ c. app_of c ≡ then_app (app_of command.entry) caret_app) }
+{
+    let caret = caret_command(alloc)?;
+    command.subcommand(caret)
+}
+
+/// Adds the command that tells who wrote what.
+fn with_blame<'a>(alloc: Global, command: Command<'a>) -> Result<Command<'a>, NoMem>
+    ensures { IfOk result (λ c. app_of c ≡ then_app (app_of command.entry) blame_app) }
+{
+    let blame = blame_command(alloc)?;
+    command.subcommand(blame)
+}
+
 /// Adds the command of a net.
 fn with_net<'a>(alloc: Global, command: Command<'a>) -> Result<Command<'a>, NoMem>
     ensures { IfOk result (λ c. app_of c ≡ then_app (app_of command.entry) net_app) }
@@ -185,5 +256,8 @@ pub fn egw_command<'a>(alloc: Global) -> Result<Command<'a>, NoMem>
     let command = with_merge(alloc, command)?;
     let command = with_net(alloc, command)?;
     let command = with_make(alloc, command)?;
-    with_watch(alloc, command)
+    let command = with_watch(alloc, command)?;
+    let command = with_undo(alloc, command)?;
+    let command = with_caret(alloc, command)?;
+    with_blame(alloc, command)
 }

@@ -1,12 +1,15 @@
 //! The words of a command line.
 ghost use Rattle.std.specs.Prelude.{◌≡◌, IfOk, Some, codes, map, string_bytes};
+ghost use Rattle.std.specs.Prelude.{option_and_then};
 ghost use Rattle.std.specs.Option.{option_map};
 ghost use Rattle.clap.specs.Words.{first_of, found_of, rows_of, subcommand_rows_of};
-ghost use Rattle.command_table.specs.Table.{cat_line, command_in, create, edit_line, file_line, line_in, line_of, make_line, merge_line, number_up_to, seed_in, show, upgrade, watch_line};
+ghost use Rattle.command_table.specs.Table.{agent_in, blame_at, blame_line, blame_listing, caret_line, caret_listing, cat_line, command_in, create, edit_line, file_line, id_in, line_in, line_of, make_line, merge_line, number_between, seed_in, show, undo_line, upgrade, watch_line};
 ghost use Rattle.command_table.specs.Table as table;
+ghost use Rattle.command_table.specs.VersionWords.{version_in};
+ghost use Rattle.command_table.specs.Cli.{most_columns, most_index, most_undone};
 ghost use Rattle.command_reader.specs.Words.{command_view, line_view, listing_view};
 
-use crate::cli::{MOST_MADE, egw_command};
+use crate::cli::{MOST_COLUMNS, MOST_MADE, MOST_UNDONE, egw_command};
 use clap::ArgMatches;
 use clap::error::ErrorKind;
 use ew_model::NoMem;
@@ -34,17 +37,46 @@ pub enum Listing {
     Question,
     /// The marks, with their labels.
     Marks,
+    /// The index at which a caret is that was taken at an index of a version's text.
+    Caret {
+        version: Vec<Id>,
+        index: u32,
+    },
+    /// Who wrote what, of the whole text or of a version, in so many columns.
+    Blame {
+        version: Option<Vec<Id>>,
+        columns: u32,
+    },
 }
 
 /// A command that is taken.
 #[derive(Debug, Drop)]
 pub enum Taken<'a> {
     New(&'a str),
-    Edit { file: &'a str, agent: Name },
-    Show { listing: Listing, file: &'a str },
-    Merge { file: &'a str, other: &'a str },
+    Edit {
+        file: &'a str,
+        agent: Name,
+    },
+    Show {
+        listing: Listing,
+        file: &'a str,
+    },
+    Merge {
+        file: &'a str,
+        other: &'a str,
+    },
     Upgrade(&'a str),
-    Make { seed: u64, count: u32 },
+    /// So many events, from one on, are undone by an agent.
+    Undo {
+        file: &'a str,
+        agent: Name,
+        first: Id,
+        count: u32,
+    },
+    Make {
+        seed: u64,
+        count: u32,
+    },
     Net,
 }
 
@@ -74,13 +106,31 @@ fn read_new<'a>(values: &ArgMatches<'a>) -> Option<Taken<'a>>
     Some(Taken::New(file))
 }
 
+/// The agent that is given, where it is a name.
+fn agent_in(values: &ArgMatches<'_>) -> Option<Name>
+    ensures { result ≡ agent_in (rows_of (found_of values.now)) }
+{
+    let agent = value(values, "agent")?;
+    Name::read(agent.as_bytes()).ok()
+}
+
 fn read_edit<'a>(values: &ArgMatches<'a>) -> Option<Taken<'a>>
     ensures { option_map command_view result ≡ edit_line (rows_of (found_of values.now)) }
 {
     let file = value(values, "file")?;
-    let agent = value(values, "agent")?;
-    let agent = Name::read(agent.as_bytes()).ok()?;
+    let agent = agent_in(values)?;
     Some(Taken::Edit { file, agent })
+}
+
+/// The version that a word spells, in ids.
+fn version_in(alloc: Global, word: &str) -> Result<Option<Vec<Id>>, NoMem>
+    ensures { IfOk result (λ version. option_map (λ ids. ids.items) version ≡ version_in word.now) }
+{
+    match read_version(alloc, word.as_bytes()) {
+        Ok(version) => Ok(Some(version)),
+        Err(VersionTextFault::Unreadable) => Ok(None),
+        Err(VersionTextFault::OutOfMemory) => Err(NoMem),
+    }
 }
 
 /// The text as a whole, or that of a version, where the word is one.
@@ -90,10 +140,9 @@ fn content_at(alloc: Global, word: Option<&str>) -> Result<Option<Listing>, NoMe
     let Some(word) = word else {
         return Ok(Some(Listing::Content));
     };
-    match read_version(alloc, word.as_bytes()) {
-        Ok(version) => Ok(Some(Listing::Past(version))),
-        Err(VersionTextFault::Unreadable) => Ok(None),
-        Err(VersionTextFault::OutOfMemory) => Err(NoMem),
+    match version_in(alloc, word)? {
+        Some(version) => Ok(Some(Listing::Past(version))),
+        None => Ok(None),
     }
 }
 
@@ -138,12 +187,12 @@ fn seed_in(word: &str) -> Option<u64>
     word.parse().ok()
 }
 
-/// The number that a word spells with its sign, if it is at least 0 and at most `most`.
-fn number_up_to(word: &str, most: u32) -> Option<u32>
-    ensures number { result ≡ number_up_to most word.now }
+/// The number that a word spells with its sign, if it is at least `least` and at most `most`.
+fn number_between(word: &str, least: u32, most: u32) -> Option<u32>
+    ensures number { result ≡ number_between least most word.now }
 {
     let number = word.parse::<i64>().ok()?;
-    if 0 <= number && number <= i64::from(most) {
+    if i64::from(least) <= number && number <= i64::from(most) {
         Some(number as u32)
     } else {
         None
@@ -154,8 +203,149 @@ fn read_make<'a>(values: &ArgMatches<'a>) -> Option<Taken<'a>>
     ensures { option_map command_view result ≡ make_line (rows_of (found_of values.now)) }
 {
     let seed = seed_in(value(values, "seed")?)?;
-    let count = number_up_to(value(values, "count")?, MOST_MADE)?;
+    let count = number_between(value(values, "count")?, 0, MOST_MADE)?;
     Some(Taken::Make { seed, count })
+}
+
+/// The index that is given.
+fn index_in(values: &ArgMatches<'_>) -> Option<u32>
+    ensures { result ≡ option_and_then (number_between 0 most_index) (first_of (codes "index") (rows_of (found_of values.now))) }
+{
+    number_between(value(values, "index")?, 0, u32::MAX)
+}
+
+/// The version that is given.
+fn given_version(alloc: Global, values: &ArgMatches<'_>) -> Result<Option<Vec<Id>>, NoMem>
+    ensures { IfOk result (λ version. option_map (λ ids. ids.items) version ≡ option_and_then version_in (first_of (codes "at") (rows_of (found_of values.now)))) }
+{
+    match value(values, "at") {
+        Some(word) => version_in(alloc, word),
+        None => Ok(None),
+    }
+}
+
+fn caret_listing(alloc: Global, values: &ArgMatches<'_>) -> Result<Option<Listing>, NoMem>
+    ensures { IfOk result (λ l. option_map listing_view l ≡ caret_listing (rows_of (found_of values.now))) }
+{
+    let Some(version) = given_version(alloc, values)? else {
+        return Ok(None);
+    };
+    match index_in(values) {
+        Some(index) => Ok(Some(Listing::Caret { version, index })),
+        None => Ok(None),
+    }
+}
+
+fn read_caret<'a>(alloc: Global, values: &ArgMatches<'a>) -> Result<Option<Taken<'a>>, NoMem>
+    ensures { IfOk result (λ l. option_map command_view l ≡ caret_line (rows_of (found_of values.now))) }
+{
+    let Some(file) = value(values, "file") else {
+        return Ok(None);
+    };
+    let Some(listing) = caret_listing(alloc, values)? else {
+        return Ok(None);
+    };
+    Ok(Some(Taken::Show { listing, file }))
+}
+
+/// Who wrote what, of the whole text or of a version, where the word is one.
+fn blame_at(alloc: Global, columns: u32, word: Option<&str>) -> Result<Option<Listing>, NoMem>
+    ensures { IfOk result (λ listing. option_map listing_view listing ≡ blame_at columns (option_map (λ w. w.now) word.entry)) }
+{
+    let Some(word) = word else {
+        return Ok(Some(Listing::Blame {
+            version: None,
+            columns,
+        }));
+    };
+    match version_in(alloc, word)? {
+        Some(version) => Ok(Some(Listing::Blame {
+            version: Some(version),
+            columns,
+        })),
+        None => Ok(None),
+    }
+}
+
+/// The number of columns that is given.
+fn columns_in(values: &ArgMatches<'_>) -> Option<u32>
+    ensures { result ≡ option_and_then (number_between 1 most_columns) (first_of (codes "columns") (rows_of (found_of values.now))) }
+{
+    number_between(value(values, "columns")?, 1, MOST_COLUMNS)
+}
+
+fn blame_listing(alloc: Global, values: &ArgMatches<'_>) -> Result<Option<Listing>, NoMem>
+    ensures { IfOk result (λ l. option_map listing_view l ≡ blame_listing (rows_of (found_of values.now))) }
+{
+    match columns_in(values) {
+        Some(columns) => blame_at(alloc, columns, value(values, "at")),
+        None => Ok(None),
+    }
+}
+
+fn read_blame<'a>(alloc: Global, values: &ArgMatches<'a>) -> Result<Option<Taken<'a>>, NoMem>
+    ensures { IfOk result (λ l. option_map command_view l ≡ blame_line (rows_of (found_of values.now))) }
+{
+    let Some(file) = value(values, "file") else {
+        return Ok(None);
+    };
+    let Some(listing) = blame_listing(alloc, values)? else {
+        return Ok(None);
+    };
+    Ok(Some(Taken::Show { listing, file }))
+}
+
+/// The id that a word spells.
+fn id_in(alloc: Global, word: &str) -> Result<Option<Id>, NoMem>
+    ensures { IfOk result (λ id. id ≡ id_in word.now) }
+{
+    let Some(ids) = version_in(alloc, word)? else {
+        return Ok(None);
+    };
+    match ids.as_slice() {
+        [id] => Ok(Some(*id)),
+        _ => Ok(None),
+    }
+}
+
+/// The first event that is undone.
+fn first_in(alloc: Global, values: &ArgMatches<'_>) -> Result<Option<Id>, NoMem>
+    ensures { IfOk result (λ id. id ≡ option_and_then id_in (first_of (codes "of") (rows_of (found_of values.now)))) }
+{
+    match value(values, "of") {
+        Some(word) => id_in(alloc, word),
+        None => Ok(None),
+    }
+}
+
+/// How many events are undone.
+fn undone_count(values: &ArgMatches<'_>) -> Option<u32>
+    ensures { result ≡ option_and_then (number_between 1 most_undone) (first_of (codes "count") (rows_of (found_of values.now))) }
+{
+    number_between(value(values, "count")?, 1, MOST_UNDONE)
+}
+
+fn read_undo<'a>(alloc: Global, values: &ArgMatches<'a>) -> Result<Option<Taken<'a>>, NoMem>
+    ensures { IfOk result (λ l. option_map command_view l ≡ undo_line (rows_of (found_of values.now))) }
+{
+    let Some(file) = value(values, "file") else {
+        return Ok(None);
+    };
+    let Some(agent) = agent_in(values) else {
+        return Ok(None);
+    };
+    let Some(first) = first_in(alloc, values)? else {
+        return Ok(None);
+    };
+    let Some(count) = undone_count(values) else {
+        return Ok(None);
+    };
+    Ok(Some(Taken::Undo {
+        file,
+        agent,
+        first,
+        count,
+    }))
 }
 
 fn read_command<'a>(
@@ -179,6 +369,9 @@ fn read_command<'a>(
         "net" => Ok(Some(Taken::Net)),
         "marks" => Ok(read_show(Listing::Marks, values)),
         "upgrade" => Ok(read_upgrade(values)),
+        "undo" => read_undo(alloc, values),
+        "caret" => read_caret(alloc, values),
+        "blame" => read_blame(alloc, values),
         _ => Ok(None),
     }
 }
@@ -193,8 +386,7 @@ fn read_serve<'a>(values: &ArgMatches<'a>) -> Option<Line<'a>>
 fn read_watch<'a>(values: &ArgMatches<'a>) -> Option<Line<'a>>
     ensures { option_map line_view result ≡ watch_line (rows_of (found_of values.now)) }
 {
-    let agent = value(values, "agent")?;
-    let agent = Name::read(agent.as_bytes()).ok()?;
+    let agent = agent_in(values)?;
     Some(Line::Watches(agent))
 }
 
@@ -244,7 +436,7 @@ fn read_matches<'a>(alloc: Global, matches: &ArgMatches<'a>) -> Result<Option<Li
     read_subcommand(alloc, name, values)
 }
 
-/// Takes the words, or `None` where `clap` doesn't, the agent is no name or the version isn't in its grammar.
+/// Takes the words, or `None` where `clap` doesn't, the agent is no name, or a version or an id isn't in its grammar.
 pub fn read_words<'a>(alloc: Global, words: &'a [String]) -> Result<Option<Line<'a>>, NoMem>
     ensures { IfOk result (λ l. option_map line_view l ≡ line_of (map string_bytes words.now)) }
 {

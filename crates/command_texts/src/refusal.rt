@@ -3,7 +3,7 @@ ghost use Rattle.std.specs.Prelude.{◌≡◌, IfOk, string_bytes};
 ghost use Rattle.ew_model.specs.Answers.{ruling_of};
 ghost use Rattle.ew_model.specs.Verdicts.Ruling.{Unknown};
 ghost use Rattle.event_file.specs.Faults.{kind_of};
-ghost use Rattle.command_table.specs.Refusals.{bad_digest, bad_event, bad_journal_event, clash, refusal_status, refusal_text, unknown};
+ghost use Rattle.command_table.specs.Refusals.{bad_digest, bad_event, bad_journal_event, clash, no_event, refusal_status, refusal_text, unknown};
 ghost use Rattle.command_table.specs.Text.{field_words, verdict_words};
 ghost use Rattle.command_texts.specs.Reasons.{refusal_view};
 
@@ -16,7 +16,7 @@ use std::alloc::Global;
 
 // A line for each command.
 const USAGE: &str =
-    "usage: egw new FILE\n       egw edit FILE --agent NAME\n       egw cat FILE [--at VERSION]\n       egw heads FILE\n       egw log FILE\n       egw replay FILE\n       egw check FILE\n       egw merge FILE OTHER\n       egw ask FILE\n       egw serve FILE\n       egw net\n       egw make --seed N --count N\n       egw marks FILE\n       egw upgrade FILE\n       egw watch --agent NAME\n       egw export FILE\n";
+    "usage: egw new FILE\n       egw edit FILE --agent NAME\n       egw cat FILE [--at VERSION]\n       egw heads FILE\n       egw log FILE\n       egw replay FILE\n       egw check FILE\n       egw merge FILE OTHER\n       egw ask FILE\n       egw serve FILE\n       egw net\n       egw make --seed N --count N\n       egw marks FILE\n       egw upgrade FILE\n       egw watch --agent NAME\n       egw export FILE\n       egw undo FILE --agent NAME --of ID --count N\n       egw caret FILE --at VERSION --index N\n       egw blame FILE --columns N [--at VERSION]\n";
 
 /// Why a line is refused. Lines and frames are counted from 1; a name is told as it was given.
 #[derive(Debug, Drop)]
@@ -77,6 +77,11 @@ pub enum Refusal {
     OutOfRange {
         len: u32,
     },
+    /// An index is above the length of a version's text.
+    IndexOutOfRange {
+        index: u32,
+        len: u32,
+    },
     /// The net of a script has no peer of the name that a line says.
     NoPeer {
         line: u32,
@@ -91,6 +96,11 @@ pub enum Refusal {
     NoPacket {
         line: u32,
         packet: u32,
+    },
+    /// A peer of the net of a script holds no event with this id, which a line undoes.
+    NoEvent {
+        line: u32,
+        id: Id,
     },
     /// No event of the file has this id of a version.
     Unknown(Id),
@@ -161,9 +171,11 @@ impl Refusal {
             Refusal::Unreadable { .. }
             | Refusal::LineOutOfRange { .. }
             | Refusal::OutOfRange { .. }
+            | Refusal::IndexOutOfRange { .. }
             | Refusal::NoPeer { .. }
             | Refusal::PeerThere { .. }
             | Refusal::NoPacket { .. }
+            | Refusal::NoEvent { .. }
             | Refusal::Unknown(_)
             | Refusal::Clash(_)
             | Refusal::FrameCut { .. }
@@ -226,6 +238,9 @@ impl Refusal {
                 format!(in alloc; "egw: line {line}: out of range, length {len}\n")
             }
             Refusal::OutOfRange { len } => format!(in alloc; "egw: out of range, length {len}\n"),
+            Refusal::IndexOutOfRange { index, len } => {
+                format!(in alloc; "egw: index {index}: out of range, length {len}\n")
+            }
             Refusal::NoPeer { line, name } => format!(in alloc;
                 "egw: line {line}: no peer {name}\n"
             ),
@@ -235,6 +250,7 @@ impl Refusal {
             Refusal::NoPacket { line, packet } => {
                 format!(in alloc; "egw: line {line}: no packet {packet}\n")
             }
+            Refusal::NoEvent { line, id } => no_event_line(alloc, *line, id),
             Refusal::Unknown(id) => unknown_line(alloc, id),
             Refusal::Clash(id) => clash_line(alloc, id),
             Refusal::FrameCut { number } => format!(in alloc; "egw: frame {number}: cut\n"),
@@ -292,6 +308,13 @@ fn unknown_line(alloc: Global, id: &Id) -> Result<String, NoMem>
 {
     let Id { agent, seq } = id;
     format!(in alloc; "egw: unknown {agent}:{seq}\n")
+}
+
+fn no_event_line(alloc: Global, line: u32, id: &Id) -> Result<String, NoMem>
+    ensures { IfOk result (λ t. string_bytes t ≡ refusal_text (no_event line id.now)) }
+{
+    let Id { agent, seq } = id;
+    format!(in alloc; "egw: line {line}: unknown {agent}:{seq}\n")
 }
 
 fn clash_line(alloc: Global, id: &Id) -> Result<String, NoMem>

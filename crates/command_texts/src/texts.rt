@@ -1,4 +1,4 @@
-//! The lines that the program prints of an edit, of a merge, of an upgrade and of what is kept. Each ends with a newline. The only error is that memory ran out.
+//! The lines that the program prints of an edit, of a merge, of an upgrade, of what is kept and of a caret. Each ends with a newline. The only error is that memory ran out.
 ghost use Rattle.std.specs.Prelude.{◌≡◌, IfOk};
 ghost use Rattle.command_table.specs.Text;
 ghost use Rattle.command_texts.specs.Told.{took_text};
@@ -20,6 +20,14 @@ pub fn kept_text(alloc: Global, made: u32) -> Result<Vec<u8>, NoMem>
     ensures { IfOk result (λ t. t.items ≡ Text.kept_text made) }
 {
     let text = format!(in alloc; "kept {made}\n")?;
+    Ok(text.into_bytes())
+}
+
+/// At which index a caret is.
+pub fn index_text(alloc: Global, index: u32) -> Result<Vec<u8>, NoMem>
+    ensures { IfOk result (λ t. t.items ≡ Text.index_text index) }
+{
+    let text = format!(in alloc; "{index}\n")?;
     Ok(text.into_bytes())
 }
 

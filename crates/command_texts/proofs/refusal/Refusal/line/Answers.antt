@@ -1,5 +1,8 @@
 use Rattle.command_texts.proofs.refusal.Refusal.line.Goals as goal
 
+pub returns-in-IndexOutOfRange : goal.returns-in-IndexOutOfRange
+returns-in-IndexOutOfRange c = rw c.in-IndexOutOfRange.is c.format-in-IndexOutOfRange.ensures.ok
+
 pub returns-in-LineOutOfRange : goal.returns-in-LineOutOfRange
 returns-in-LineOutOfRange c = rw c.in-LineOutOfRange.is c.format-in-LineOutOfRange.ensures.ok
 
