@@ -1,5 +1,5 @@
 -- Batches in front of a journal's bytes are among those that the journal has.
-use Rattle.std.proofs.Common.{◌≡◌, ℕ, ◌≤◌, ◌<◌, List, [], ◌∷◌, ◌++◌, length, Option, Some, None, refl, sym, ap, ◌∙◌, append_assoc, append-nil, arith}
+use Rattle.std.proofs.Common.{◌≡◌, ℕ, ◌≤◌, ◌<◌, List, [], ◌∷◌, ◌++◌, length, Option, refl, sym, ap, ◌∙◌, append_assoc, arith}
 use Rattle.std.specs.List.{AllByRecursion}
 use Rattle.std.proofs.lemmas.List.{length-append}
 use Rattle.std.proofs.lemmas.Grind.{flat_map-append}
@@ -8,19 +8,8 @@ use Rattle.ew_model.specs.Bytes.{four_bytes}
 use Rattle.ew_model.specs.Limits.{LimitNumbers}
 use Rattle.peer_definitions.specs.Spelling.{events_body}
 use Rattle.peer_definitions.specs.Batches.{IsBatch, batch_bytes, journal_bytes, journal_events, EndsAt, AreBatches}
-use Rattle.peer_frames.proofs.Journals.{one_batch}
+use Rattle.peer_frames.proofs.Journals.{longer, no_end, one_batch}
 use Rattle.event_journal.specs.Journal.{HoldsTooMany}
-
-first_is : (a b : ℕ) (xs ys : List ℕ) → a ∷ xs ≡ b ∷ ys → a ≡ b
-first_is a b xs ys e = cc
-
--- a batch isn't where batches end
-no_end : (most place : ℕ) (b : List Event) (bytes rest : List ℕ) (bad : Option ℕ) → IsBatch most b → bytes ≡ batch_bytes b ++ rest → 1 ≤ length rest → EndsAt most place bytes bad → ⊥
-no_end most place b bytes rest None h parts more (gate, left, is, not) = not (first_is gate 1 left _ (sym is ∙ parts))
-no_end most place b bytes rest (Some bad) h parts more (at, broken) = broken.none b rest (record { each = (h, tt); parts = parts ∙ sym (ap (λ (l : List ℕ). l ++ rest) (append-nil (batch_bytes b))); more = more })
-
-longer : (ys rest : List ℕ) → 1 ≤ length rest → 1 ≤ length (ys ++ rest)
-longer ys rest more = omega (arith, length-append ys rest, more)
 
 pub front_of : (most place : ℕ) (xs ys : List (List Event)) (left other : List ℕ) (bad : Option ℕ) → AllByRecursion (IsBatch most) xs → AllByRecursion (IsBatch most) ys → 1 ≤ length left
     → journal_bytes xs ++ left ≡ journal_bytes ys ++ other → EndsAt most place other bad → (more : List (List Event)) × (ys ≡ xs ++ more)

@@ -2,12 +2,13 @@
 use Rattle.std.proofs.Common.{◌≡◌, ◌≤◌, inl, inr, ℕ, min, List, [], ◌∷◌, ◌++◌, length, take, drop, Option, Result, Ok, Err, refl, sym, ap, subst, ◌∙◌, append_assoc, append-nil, arith}
 use Rattle.std.specs.Io.KnownBytes.{Appends}
 use Rattle.std.proofs.KnownBytes.{Appends-nil}
-use Rattle.std.proofs.lemmas.List.{drop_all, take_min}
+use Rattle.std.proofs.lemmas.List.{drop_all, take_min, take_all}
 use Rattle.ew_model.specs.declared.event.Event.{Event}
 use Rattle.ew_model.specs.Limits.{LimitNumbers}
 use Rattle.ew_outside.specs.Outputs.{GrowsByFront}
 use Rattle.ew_outside.specs.Seen.{SinkSeen}
 use Rattle.ew_outside.specs.declared.fault.Fault.TheVariants as fault_is
+use Rattle.ew_outside.proofs.Outputs.{front_of_all}
 use Rattle.event_journal.specs.Disk.{StaysWithin}
 use Rattle.event_journal.specs.Journal.{JournalSeen, Holds, IsKept}
 use Rattle.event_journal.proofs.Moments.{joined, wider}
@@ -118,26 +119,18 @@ stops_in_one limits events before told out out' why some taken flushed =
     let front = holds_in_one limits events before some.0 out out' some.2 taken in
     record { bytes = some.0; told_is = some.1; front = front; disk = λ is. (sends_none out out' taken flushed, front.few) }
 
-all_batches : {X : Type 0} (xs : List X) → take (length xs) xs ≡ xs
-all_batches [] = refl
-all_batches (x ∷ xs) = ap (λ ys. x ∷ ys) (all_batches xs)
-
 -- all of it stands
 holds_one : (limits : LimitNumbers) (events : List Event) (before : List (List Event)) (bytes : List ℕ) (out out' : SinkSeen)
     → Holds limits.body (before ++ pieces (frame_room limits) events) bytes → GrowsByFront out.taken out'.taken (kept_text (length events)) → HoldsLines limits (events ∷ []) before out out' bytes
 holds_one limits events before bytes out out' holds grows = record {
   count = length (batches_of limits (events ∷ []));
   few = omega arith;
-  holds = subst (λ (bs : List (List Event)). Holds limits.body (before ++ bs) bytes) (one_line limits events ∙ sym (all_batches (batches_of limits (events ∷ [])))) holds;
+  holds = subst (λ (bs : List (List Event)). Holds limits.body (before ++ bs) bytes) (one_line limits events ∙ sym (take_all (length (batches_of limits (events ∷ []))) (batches_of limits (events ∷ [])) (omega arith))) holds;
   whole_lines = 1;
   within = omega arith;
   stand = omega arith;
   printed = subst (GrowsByFront out.taken out'.taken) (one_text events) grows;
 }
-
--- all of it was taken
-grows_whole : (old new : Option (List ℕ)) (bytes : List ℕ) → Appends old new bytes → GrowsByFront old new bytes
-grows_whole old new bytes h = (length bytes, subst (Appends old new) (sym (all_batches bytes)) h)
 
 stops_at_one : (T : Type 0) (limits : LimitNumbers) (events : List Event) (journal : JournalSeen) (may : List ℕ → Type 0) (before : List (List Event)) (told : Option (List ℕ)) (out out' : SinkSeen) (disk disk' sink sink' : ℕ) (why : Stop)
     → journal.limits ≡ limits → StandsBy {T = T} journal told may before (pieces (frame_room limits) events) (Err why) → Prints {T = T} out out' (kept_text (length events)) (Err why)
@@ -162,7 +155,7 @@ leaves_one : {T : Type 0} (limits : LimitNumbers) (events : List Event) (journal
 leaves_one limits events journal may before told out out' disk disk' sink sink' (Ok x) same h p cause some c left =
     holds_one limits events before c out out'
     (subst (Holds limits.body (before ++ pieces (frame_room limits) events)) (sym (h.2.durable c left)) (kept_front limits journal h.0 may (before ++ pieces (frame_room limits) events) same h.2))
-    (grows_whole out.taken out'.taken (kept_text (length events)) p.0)
+    (front_of_all out.taken out'.taken (kept_text (length events)) p.0)
 leaves_one limits events journal may before told out out' disk disk' sink sink' (Err stop.Disk) same h p cause some c left = holds_in_one limits events before c out out' (some c left) p.0
 leaves_one limits events journal may before told out out' disk disk' sink sink' (Err (stop.Fault fault_is.OutOfMemory)) same h p cause some c left = holds_in_one limits events before c out out' (some c left) p.0
 leaves_one limits events journal may before told out out' disk disk' sink sink' (Err (stop.Fault fault_is.Sink)) same h p cause some c left =

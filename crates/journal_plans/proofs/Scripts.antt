@@ -16,16 +16,7 @@ use Rattle.journal_plans.specs.Keeping.{EndsAs, PrintsLines}
 use Rattle.journal_plans.specs.Watching.{FollowsWatch}
 use Rattle.journal_plans.specs.declared.stop.Stop.{Stop}
 use Rattle.journal_plans.proofs.Watching.{sends_nothing, sends_on}
-
-means_once : (input : List ℕ) (x y : Reading) → Means input x → Means input y → x ≡ y
-means_once input (script xs) (script ys) left right = ap script (scripts_are_unique input xs ys left right)
-means_once input (script xs) (bad_line k) left right = let no : ⊥ = scripts_have_no_bad_line input xs k left right in absurd no
-means_once input (bad_line j) (script ys) left right = let no : ⊥ = scripts_have_no_bad_line input ys j right left in absurd no
-means_once input (bad_line j) (bad_line k) left right = ap bad_line (first_bad_lines_are_unique input j k left right)
-
--- what holds of one reading of an input holds of each
-pub each_reading : (input : List ℕ) (found : Reading) (P : Reading → Type 0) → Means input found → P found → (reading : Reading) → Means input reading → P reading
-each_reading input found P left h reading right = subst P (means_once input found reading left right) h
+use Rattle.line_plans.proofs.Readings.{for_each}
 
 -- each input means something
 pub some_reading : (input : List ℕ) → (reading : Reading) × Means input reading
@@ -38,7 +29,7 @@ some_reading input = by (bytes_are_judged input)
 -- a line of the script isn't readable
 pub follows_bad : (agent : List ℕ) (limits : LimitNumbers) (held : List Event) (input : List ℕ) (line : ℕ) (out : SinkSeen) (p : code.Reply) → IsFirstBadLine input line → reply_view p ≡ refuses (unreadable line)
     → (reading : Reading) → Means input reading → FollowsWatch (watch_script agent limits held reading).session out out (Ok p)
-follows_bad agent limits held input line out p bad view = each_reading input (bad_line line) (λ reading. FollowsWatch (watch_script agent limits held reading).session out out (Ok p)) bad (view, sends_nothing out)
+follows_bad agent limits held input line out p bad view = for_each input (bad_line line) (λ reading. FollowsWatch (watch_script agent limits held reading).session out out (Ok p)) bad (view, sends_nothing out)
 
 -- the script's lines were kept, and one of them was refused
 pub follows_refused : (limits : LimitNumbers) (w : Watched) (out out' : SinkSeen) (p : code.Reply) (o : Option code.Reply) → o ≡ Some p → EndsAs limits w (Ok o) → PrintsLines w.kept out out' (Ok o)
@@ -59,7 +50,7 @@ module _ (agent : List ℕ) (limits : LimitNumbers) (held : List Event) (input :
   pub session_of_script : (out out' : SinkSeen) (result : Result code.Reply Stop) → FollowsWatch (kept_watch limits w).session out out' result
       → (reading : Reading) → Means input reading → FollowsWatch (watch_script agent limits held reading).session out out' result
   session_of_script out out' result h =
-      each_reading input (script items) (λ reading. FollowsWatch (watch_script agent limits held reading).session out out' result) is
+      for_each input (script items) (λ reading. FollowsWatch (watch_script agent limits held reading).session out out' result) is
       (subst (λ (x : Watched). FollowsWatch (kept_watch limits x).session out out' result) w_is h)
 
   pub some_of_script : (out out' : SinkSeen) (result : Result code.Reply Stop) → FollowsWatch (kept_watch limits w).session out out' result
@@ -67,4 +58,4 @@ module _ (agent : List ℕ) (limits : LimitNumbers) (held : List Event) (input :
   some_of_script out out' result h = (script items, is, subst (λ (x : Watched). FollowsWatch (kept_watch limits x).session out out' result) w_is h)
 
   pub kept_of_script : (P : List (List Event) → Type 0) → P w.kept → (reading : Reading) → Means input reading → P (watch_script agent limits held reading).kept
-  kept_of_script P h = each_reading input (script items) (λ reading. P (watch_script agent limits held reading).kept) is (subst (λ (x : Watched). P x.kept) w_is h)
+  kept_of_script P h = for_each input (script items) (λ reading. P (watch_script agent limits held reading).kept) is (subst (λ (x : Watched). P x.kept) w_is h)

@@ -8,3 +8,4 @@ pub mod Loads
 pub mod Merges
 pub mod Taken
 pub mod Upgrades
+mod Undos

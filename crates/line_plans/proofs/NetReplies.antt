@@ -30,6 +30,7 @@ module _ (limits : LimitNumbers) (script : List (ℕ × NetStep)) where
   stopped line (fault.NoPeer name) (Ok p) runs told = broke line (fault.NoPeer name) p runs told
   stopped line (fault.PeerTwice name) (Ok p) runs told = broke line (fault.PeerTwice name) p runs told
   stopped line (fault.NoPacket n) (Ok p) runs told = broke line (fault.NoPacket n) p runs told
+  stopped line (fault.NoEvent id) (Ok p) runs told = broke line (fault.NoEvent id) p runs told
   stopped line (fault.OutOfRange len) (Ok p) runs told = broke line (fault.OutOfRange len) p runs told
   stopped line (fault.TooManyHeads heads) (Ok p) runs told = broke line (fault.TooManyHeads heads) p runs told
   stopped line (fault.Full count) (Ok p) runs told = broke line (fault.Full count) p runs told

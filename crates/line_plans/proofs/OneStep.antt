@@ -12,7 +12,7 @@ use Rattle.ew_model.proofs.LineLaws.{Lacks}
 use Rattle.ew_model.proofs.ScriptReading.{decimal_lacks_space}
 use Rattle.history_definitions.proofs.IdTexts.{name_lacks}
 use Rattle.peer_definitions.specs.declared.net_step.NetStep.{NetStep}
-use Rattle.peer_definitions.specs.declared.net_step.NetStep.TheVariants.{Peer, Ins, Del, Mark, Push, Send, Ask, Deliver, Restart, Show, Agree}
+use Rattle.peer_definitions.specs.declared.net_step.NetStep.TheVariants.{Peer, Ins, Del, Mark, Undo, Caret, Where, Push, Send, Ask, Deliver, Restart, Show, Agree}
 use Rattle.peer_definitions.specs.NetScripts.{IsSoundStep, MeansStep, net_line}
 
 -- what stands before the first space, and what behind it
@@ -42,12 +42,16 @@ step_in line text =
     let next = get_or line 1 0 in
     let three = drop 4 line in
     let four = drop 5 line in
+    let five = drop 6 line in
     if letter == 112 then (if next == 101 then Peer four else Push (first four) (others four))
     else (if letter == 105 then Ins (first three) (number (first (others three))) text
     else (if letter == 100 then (if get_or line 3 0 == 32 then Del (first three) (number (first (others three))) (number (others (others three))) else Deliver (number (drop 8 line)))
     else (if letter == 115 then (if next == 101 then Send (first four) (first (others four)) (number (first (others (others four)))) (number (others (others (others four)))) else Show four)
     else (if letter == 97 then (if next == 115 then Ask (first three) (others three) else Agree)
-    else (if letter == 109 then Mark (first four) (others four) else Restart (drop 8 line))))))
+    else (if letter == 109 then Mark (first four) (others four)
+    else (if letter == 117 then Undo (first four) (first (others four)) (number (first (others (others four)))) (number (others (others (others four))))
+    else (if letter == 99 then Caret (first five) (number (others five))
+    else (if letter == 119 then Where five else Restart (drop 8 line)))))))))
 
 -- the text of a step, and how it stands in the step's line
 abbrev text_of : NetStep → List ℕ
@@ -89,6 +93,21 @@ step_again (Mark who label) h =
     let who_is = first_name who (label ++ []) h.0 in
     let label_is = second_name who (label ++ []) h.0 ∙ append-nil label in
     λ i. Mark (who_is i) (label_is i)
+step_again (Undo a b n count) h =
+    let numbers = decimal n ++ 32 ∷ (decimal count ++ []) in
+    let names = b ++ 32 ∷ numbers in
+    let a_is = first_name a names h.0 in
+    let behind = second_name a names h.0 in
+    let b_is = ap first behind ∙ first_name b numbers h.1 in
+    let last = ap others behind ∙ second_name b numbers h.1 in
+    let n_is = ap (λ x. number (first x)) last ∙ digits_first n (decimal count ++ []) h.2 in
+    let count_is = ap (λ x. number (others x)) last ∙ ap number (other_words (decimal n) (decimal count ++ []) (decimal_lacks_space n h.2) ∙ append-nil (decimal count)) ∙ digits_value_is count h.3 in
+    λ i. Undo (a_is i) (b_is i) (n_is i) (count_is i)
+step_again (Caret who at) h =
+    let who_is = first_name who (decimal at ++ []) h.0 in
+    let at_is = ap number (second_name who (decimal at ++ []) h.0 ∙ append-nil (decimal at)) ∙ digits_value_is at h.1 in
+    λ i. Caret (who_is i) (at_is i)
+step_again (Where name) h = ap Where (append-nil name)
 step_again (Push a b) h =
     let a_is = first_name a (b ++ []) h.0 in
     let b_is = second_name a (b ++ []) h.0 ∙ append-nil b in
@@ -119,6 +138,9 @@ escaped_again (Ins who at text) h =
     ap others (second_name who words h.0) ∙ other_words (decimal at) (escaped_text text ++ []) (decimal_lacks_space at h.1) ∙ append-nil (escaped_text text)
 escaped_again (Del who at n) h = refl
 escaped_again (Mark who label) h = refl
+escaped_again (Undo a b n count) h = refl
+escaped_again (Caret who at) h = refl
+escaped_again (Where name) h = refl
 escaped_again (Push a b) h = refl
 escaped_again (Send a b skip count) h = refl
 escaped_again (Ask a b) h = refl

@@ -16,14 +16,14 @@ use Rattle.opened_files.specs.Views.{reply_view}
 use Rattle.line_plans.specs.Edits.{EditsTo, PlansScript, PlansInput, edits_reply}
 use Rattle.line_plans.specs.Sources.{PlansBy}
 
-means_once : (input : List ℕ) (x y : Reading) → Means input x → Means input y → x ≡ y
+pub means_once : (input : List ℕ) (x y : Reading) → Means input x → Means input y → x ≡ y
 means_once input (script xs) (script ys) left right = ap script (scripts_are_unique input xs ys left right)
 means_once input (script xs) (bad_line k) left right = let no : ⊥ = scripts_have_no_bad_line input xs k left right in absurd no
 means_once input (bad_line j) (script ys) left right = let no : ⊥ = scripts_have_no_bad_line input ys j right left in absurd no
 means_once input (bad_line j) (bad_line k) left right = ap bad_line (first_bad_lines_are_unique input j k left right)
 
 -- what holds of one reading of an input holds of each
-for_each : (input : List ℕ) (found : Reading) (P : Reading → Type 0) → Means input found → P found → (reading : Reading) → Means input reading → P reading
+pub for_each : (input : List ℕ) (found : Reading) (P : Reading → Type 0) → Means input found → P found → (reading : Reading) → Means input reading → P reading
 for_each input found P left h reading right = subst P (means_once input found reading left right) h
 
 module _ (name agent input : List ℕ) (r new : ReplicaState) where

@@ -2,5 +2,6 @@
 pub mod Edits
 pub mod Inputs
 pub mod Sources
+pub mod Undos
 pub mod Nets
 pub mod Merging

@@ -88,7 +88,12 @@ fn do_edits<L: Ledger>(
 }
 
 /// What is to be stored and told, once all edits are done.
-fn made_plan(alloc: Global, name: &str, replica: &Replica, before: u32) -> Result<Reply, NoMem>
+pub(crate) fn made_plan(
+    alloc: Global,
+    name: &str,
+    replica: &Replica,
+    before: u32,
+) -> Result<Reply, NoMem>
     ensures told { IfOk result (λ p. reply_view p ≡ made_reply name.now before replica.now.held) }
     ensures plan { IfOk result IsTakenReply }
 {

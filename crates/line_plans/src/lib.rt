@@ -1,4 +1,4 @@
-//! From the commands `edit`, `merge`, `upgrade` and `net` to what is to be stored, printed or said. Files and the input are read; nothing is
+//! From the commands `edit`, `merge`, `upgrade`, `undo` and `net` to what is to be stored, printed or said. Files and the input are read; nothing is
 //! written yet.
 #![tactic(auto)]
 
@@ -7,4 +7,5 @@ pub mod input;
 pub mod merge;
 pub mod net;
 mod taking;
+pub mod undoing;
 pub mod upgrade;

@@ -37,6 +37,7 @@ fn refuse_step(limits: &Limits, line: u32, fault: NetFault) -> Result<Reply, NoM
         NetFault::NoPeer(name) => Ok(Reply::Refuses(Refusal::NoPeer { line, name })),
         NetFault::PeerTwice(name) => Ok(Reply::Refuses(Refusal::PeerThere { line, name })),
         NetFault::NoPacket(packet) => Ok(Reply::Refuses(Refusal::NoPacket { line, packet })),
+        NetFault::NoEvent(id) => Ok(Reply::Refuses(Refusal::NoEvent { line, id })),
         NetFault::OutOfRange { len } => { refuse_line(limits, line, EditFault::OutOfRange { len }) }
         NetFault::TooManyHeads { heads } => {
             refuse_line(limits, line, EditFault::TooManyHeads { heads })

@@ -9,9 +9,10 @@ use Rattle.command_texts.specs.declared.refusal.Refusal.TheVariants as why
 use Rattle.opened_files.specs.declared.reply.Reply.TheVariants as reply
 use Rattle.journal_plans.specs.Keeping.{KeepsLines, kept_edits}
 use Rattle.journal_plans.proofs.Keeping.{grows_none, keeps_at_err, keeps_at_ok, keeps_empty, keeps_none}
-use Rattle.journal_plans.proofs.Scripts.{each_reading, follows_bad, follows_done, follows_refused, kept_of_script, session_of_script, some_of_script, some_reading}
+use Rattle.journal_plans.proofs.Scripts.{follows_bad, follows_done, follows_refused, kept_of_script, session_of_script, some_of_script, some_reading}
 use Rattle.journal_plans.proofs.Watching.{sends_nothing}
 use Rattle.journal_plans.proofs.watch.keep_script.Goals as goal
+use Rattle.line_plans.proofs.Readings.{for_each}
 
 pub returns-in-Err-OutOfMemory-clause-some : goal.returns-in-Err-OutOfMemory-clause-some
 returns-in-Err-OutOfMemory-clause-some g c =
@@ -38,7 +39,7 @@ returns-in-Err-BadLine-clause-some g c =
 pub returns-in-Err-BadLine-clause-kept : goal.returns-in-Err-BadLine-clause-kept
 returns-in-Err-BadLine-clause-kept g c =
     let line = c.in-Err-BadLine.line in
-    each_reading c.args.script.now (bad_line line)
+    for_each c.args.script.now (bad_line line)
     (λ reading. KeepsLines {T = Reply} g.D.Disk.may_leave g.D.Disk.moment g.D.Disk.left_since c.args.limits.now (watch_script c.args.agent c.args.limits.now c.args.opened.now.replica.held reading).kept c.args.opened.now.journal c.args.opened.now.journal
     c.args.disk.now c.args.disk.now (g.D.Disk.seen c.args.disk.now).bytes (g.D.Disk.seen c.args.disk.now).bytes (g.K.Sink.seen c.args.out.now) (g.K.Sink.seen c.args.out.now) (Ok _))
     (c.in-Err-BadLine.ensures.bad_line line (λ i. Err (c.in-Err-BadLine.field-0-is i)))
