@@ -39,7 +39,8 @@ use Rattle.command_runs.proofs.Kept.{IsNotOfDisk, Traces, any_so, as_planned, ok
 use Rattle.command_runs.proofs.KeptLines.{export_silent, none_count}
 use Rattle.command_runs.proofs.Lines.{asks_most, closes_silent, file_refused, made_file, one_all, one_front, taken_line}
 use Rattle.command_runs.proofs.Replies.{printed}
-use Rattle.command_runs.proofs.Runs.{is_run, none_taken}
+use Rattle.command_runs.proofs.Runs.{is_run}
+use Rattle.journal_plans.proofs.Keeping.{same_taken}
 
 -- what the plan of an export ensures, but for what stands of the journal
 pub record Exports (file : Text) (limits : LimitNumbers) (old mid new : Seen) (planned : Result own.Reply Stop) : Type 0 where
@@ -212,7 +213,7 @@ out_none file limits (Ok p) f = sym (printed p) ∙ ap printed_by f.3 ∙ export
 out_none file limits (Err why) f = tt
 
 none_sent : (out out' : Option (List ℕ)) (planned : Result own.Reply Stop) → out' ≡ out → IfOk planned (λ p. Appends out out' [])
-none_sent out out' (Ok p) same = none_taken out out' same
+none_sent out out' (Ok p) same = same_taken out out' same
 none_sent out out' (Err why) same = tt
 
 module _ {D : Type 0} (may_leave : D → List ℕ → Type 0) (moment : D → ℕ) (left_since : D → ℕ → List ℕ → Type 0) (file : Text) (limits : LimitNumbers) (old mid new : Seen) (disk disk' : D)

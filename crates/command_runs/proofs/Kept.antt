@@ -16,7 +16,7 @@ use Rattle.command_table.specs.Seen.{Seen}
 use Rattle.command_table.specs.Sessions.{Session}
 use Rattle.command_runs.specs.declared.ending.Told.{Told}
 use Rattle.command_runs.specs.Endings.{EndOut, EndsKept, EndsReply, end_status, out_of}
-use Rattle.command_runs.proofs.Runs.{none_taken}
+use Rattle.journal_plans.proofs.Keeping.{same_taken}
 
 -- A reply, or the fault that stopped its making, of what was planned over the journal. A disk's failure is none of these faults: a run that it
 -- stopped is like one that a source stopped, but for the object that is named.
@@ -92,11 +92,11 @@ last_of (reply_is.Refuses why) (Err fault_is.OutOfMemory) old new flushed which 
 
 silent_end : (p : own.Reply) (ending : Result (Option Told) Fault) (old new : Option (List ℕ)) (flushed : Option ℕ) → out_of p ≡ [] → EndOut (Ok p) ending old new flushed → Appends old new []
 silent_end p (Ok None) old new flushed none end = subst (Appends old new) none end.0
-silent_end p (Ok (Some told)) old new flushed none end = none_taken old new end
-silent_end p (Err fault_is.Shelf) old new flushed none end = none_taken old new end
-silent_end p (Err fault_is.Source) old new flushed none end = none_taken old new end
+silent_end p (Ok (Some told)) old new flushed none end = same_taken old new end
+silent_end p (Err fault_is.Shelf) old new flushed none end = same_taken old new end
+silent_end p (Err fault_is.Source) old new flushed none end = same_taken old new end
 silent_end p (Err fault_is.Sink) old new flushed none end = front_none old new end.0 (subst (λ (xs : List ℕ). Appends old new (take end.0 xs)) none end.1)
-silent_end p (Err fault_is.OutOfMemory) old new flushed none end = none_taken old new end
+silent_end p (Err fault_is.OutOfMemory) old new flushed none end = same_taken old new end
 
 -- Of a plan over the journal that prints nothing at last: which plan a status and the counts are of, and what of the output is behind it.
 pub record Traces (planned : Result own.Reply Stop) (old mid new : Seen) (code : ℕ) : Type 0 where
@@ -120,12 +120,12 @@ traced (Err (stop.Fault fault)) old mid new code h silent source disk = record {
   source = source;
   disk = λ rose. absurd (let bad = disk rose in cc);
   last = inr (ap (λ o. o.taken) h.1);
-  grows = none_taken mid.out.taken new.out.taken (ap (λ o. o.taken) h.1);
+  grows = same_taken mid.out.taken new.out.taken (ap (λ o. o.taken) h.1);
 }
 traced (Err stop.Disk) old mid new code h silent source disk = record {
   reply = λ n6 n8. absurd (n6 h.2);
   source = source;
   disk = λ rose. (refl, h.1);
   last = inr (ap (λ o. o.taken) h.1);
-  grows = none_taken mid.out.taken new.out.taken (ap (λ o. o.taken) h.1);
+  grows = same_taken mid.out.taken new.out.taken (ap (λ o. o.taken) h.1);
 }

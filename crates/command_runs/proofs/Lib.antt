@@ -1,3 +1,4 @@
+pub mod Carets
 pub mod Faults
 pub mod Outputs
 pub mod Replies

@@ -15,7 +15,7 @@ use Rattle.command_table.specs.Reads.{reads_input, IfFileRefused, IfFirstRefused
 use Rattle.command_table.specs.Refusals.{no_file, input_too_long}
 use Rattle.command_table.specs.Scripts.{Reading, Means, MeansNet}
 use Rattle.command_table.specs.Sessions.{closed_by}
-use Rattle.command_table.specs.Table.{Text, Command, create, edit, show, merge, upgrade, make, net, Line, does, serves, Reply, refuses, ReadingOf, MeansTo, reply_to, create_reply, make_reply, merge_reply, show_reply, upgrade_reply, over_both, over_events, opened_as, open_file}
+use Rattle.command_table.specs.Table.{Text, Command, create, edit, show, merge, upgrade, undo, make, net, Line, does, serves, Reply, refuses, ReadingOf, MeansTo, reply_to, create_reply, make_reply, merge_reply, show_reply, undo_reply, upgrade_reply, over_both, over_events, opened_as, open_file}
 use Rattle.peer_definitions.specs.Making.{made}
 use Rattle.opened_files.specs.declared.reply.Reply as code
 use Rattle.opened_files.specs.declared.reply.Reply.TheVariants as reply_is
@@ -204,6 +204,8 @@ command_replies (edit name agent) limits files left result told alone m bytes re
 command_replies (show listing name) limits files left result told alone m bytes reading at input = by_alone (reply_to (show listing name) limits) files m bytes reading result at (alone refl)
 command_replies (merge name other) limits files left result told alone m bytes reading at input = by_alone (reply_to (merge name other) limits) files m bytes reading result at (alone refl)
 command_replies (upgrade name) limits files left result told alone m bytes reading at input = by_alone (reply_to (upgrade name) limits) files m bytes reading result at (alone refl)
+command_replies (undo name agent first count) limits files left result told alone m bytes reading at input =
+    by_alone (reply_to (undo name agent first count) limits) files m bytes reading result at (alone refl)
 command_replies (make seed count) limits files left result told alone m bytes reading at input = by_alone (reply_to (make seed count) limits) files m bytes reading result at (alone refl)
 command_replies net limits files left result told alone m bytes reading at input =
     by_input MeansNet (reply_to net limits) files left m bytes reading result at (input refl).0 (input refl).1 told
@@ -223,6 +225,7 @@ a_reply (edit name agent) limits = (refuses (no_file name), (missing, refl, tt))
 a_reply (show listing name) limits = (over_events (show_reply listing) (opened_as name limits missing), (missing, refl, tt))
 a_reply (merge name other) limits = (over_both (merge_reply name limits) (opened_as name limits missing) (opened_as other limits missing), (missing, missing, refl, tt, tt))
 a_reply (upgrade name) limits = (upgrade_reply name limits missing, (missing, refl, tt))
+a_reply (undo name agent first count) limits = (over_events (undo_reply name agent first count limits) (opened_as name limits missing), (missing, refl, tt))
 a_reply (make seed count) limits = (make_reply limits (made limits seed count), refl)
 a_reply net limits = (refuses (input_too_long limits.input), inl refl)
 

@@ -20,10 +20,7 @@ use Rattle.command_runs.specs.Endings.{out_of}
 use Rattle.command_runs.proofs.Faults.{quiet_not_rose}
 use Rattle.command_runs.proofs.Replies.{printed}
 use Rattle.command_runs.proofs.Courses.{BrokenOff, IsDoing, IsStoring, Course, Done, Refused, Stopped, Landed, Broken, Starved}
-
--- a longer text has the same front
-pub front_longer : (a b : Option (List ℕ)) (front more : List ℕ) → GrowsByFront a b front → GrowsByFront a b (front ++ more)
-front_longer a b front more g = front_grows a b front (front ++ more) g (record { rest = more; is = refl })
+use Rattle.journal_plans.proofs.Keeping.{grows_wider}
 
 -- what was sent by then is a front of what the session sends, or all of it
 pub sends_front : (s : Session) (planned : Result own.Reply Fault) (out out' : Option (List ℕ)) (flushed : Option ℕ) → FollowsSession s out out' flushed planned
@@ -111,8 +108,8 @@ module _ (l : Option Line) (s : Session) (planned : Result own.Reply Fault) (old
   failed_so : Course l planned old mid new code → code ≡ 6 → GrowsByFront old.out.taken new.out.taken (s.sent ++ printed_by s.closing)
   failed_so (Done p is h) six = absurd (omega (arith, h.zero, six))
   failed_so (Refused why is h) six = absurd (omega (arith, h.refusal, h.status_is, six))
-  failed_so (Stopped object x other named is h) six = front_longer old.out.taken new.out.taken s.sent (printed_by s.closing) (kept_front old.out.taken mid.out.taken new.out.taken s.sent front h.out)
-  failed_so (Landed p is h) six = front_longer old.out.taken new.out.taken s.sent (printed_by s.closing) (kept_front old.out.taken mid.out.taken new.out.taken s.sent front h.out)
+  failed_so (Stopped object x other named is h) six = grows_wider old.out.taken new.out.taken s.sent (printed_by s.closing) (kept_front old.out.taken mid.out.taken new.out.taken s.sent front h.out)
+  failed_so (Landed p is h) six = grows_wider old.out.taken new.out.taken s.sent (printed_by s.closing) (kept_front old.out.taken mid.out.taken new.out.taken s.sent front h.out)
   failed_so (Broken p is h) six = prints_front s p old mid new mid.out.flushed (by_plan p is) h.out
   failed_so (Starved h) six = absurd (omega (arith, h.eight, six))
 

@@ -11,7 +11,7 @@ use Rattle.command_table.specs.Seen.{Seen}
 use Rattle.command_table.specs.Table.{Line, does, serves, watches, exports}
 use Rattle.opened_files.specs.declared.reply.Reply as own
 use Rattle.command_runs.specs.Lines.{SendsNone}
-use Rattle.command_runs.proofs.Starved.{tells_itself}
+use Rattle.journal_plans.proofs.Batches.{tells_itself}
 
 -- what it sends, a session alone does
 pub alone_so : (l : Option Line) (out out' : SinkSeen) (planned : Result own.Reply Fault) → uses_journal l ≡ false → SendsNone l out out' planned → UnlessServes l (out'.taken ≡ out.taken)

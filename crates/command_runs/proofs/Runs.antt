@@ -36,9 +36,7 @@ use Rattle.command_runs.proofs.Courses.{Course, Done, Refused, Stopped, Landed, 
 use Rattle.command_runs.proofs.Outputting.{is_session, stores_none_so}
 use Rattle.command_runs.proofs.Stores.{reads_alone}
 use Rattle.command_runs.proofs.Tables.{is_served, stores_first}
-
-pub none_taken : (a b : Option (List ℕ)) → b ≡ a → Appends a b []
-none_taken a b same = subst (λ x. Appends a x []) (sym same) (Appends-nil a)
+use Rattle.journal_plans.proofs.Keeping.{same_taken}
 
 doing_status : (p : own.Reply) → IsDoing p → reply_status p ≡ 0
 doing_status (reply_is.Prints out) doing = refl
@@ -153,11 +151,11 @@ module _ (l : Option Line) (planned : Result own.Reply Fault) (old mid new : See
   -- what was taken at last
   last_taken : Course l planned old mid new code → (bytes : List ℕ) × Appends mid.out.taken new.out.taken bytes
   last_taken (Done p is h) = (out_of p, h.out)
-  last_taken (Refused why is h) = ([], none_taken mid.out.taken new.out.taken h.out)
-  last_taken (Stopped object x other named is h) = ([], none_taken mid.out.taken new.out.taken h.out)
-  last_taken (Landed p is h) = ([], none_taken mid.out.taken new.out.taken h.out)
+  last_taken (Refused why is h) = ([], same_taken mid.out.taken new.out.taken h.out)
+  last_taken (Stopped object x other named is h) = ([], same_taken mid.out.taken new.out.taken h.out)
+  last_taken (Landed p is h) = ([], same_taken mid.out.taken new.out.taken h.out)
   last_taken (Broken p is h) = (take h.out.0 (out_of p), h.out.1)
-  last_taken (Starved h) = ([], none_taken mid.out.taken new.out.taken h.out)
+  last_taken (Starved h) = ([], same_taken mid.out.taken new.out.taken h.out)
 
   -- where no line is taken, the usage is told, or memory ran out
   only_so : Course None planned old mid new code → IsReplyOf None planned → (code ≡ 2) ⊎ (code ≡ 8)

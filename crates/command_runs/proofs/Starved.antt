@@ -36,6 +36,7 @@ use Rattle.command_runs.specs.Lines.{Heard, IsReplyOf, MissesFor, PlansSome, Sen
 use Rattle.command_runs.proofs.Faults.{Calm}
 use Rattle.command_runs.proofs.Lines.{command_some, file_refused}
 use Rattle.command_runs.proofs.Runs.{is_run}
+use Rattle.journal_plans.proofs.Batches.{tells_itself}
 
 abbrev stopped : Result own.Reply Fault
 stopped = Err fault_is.OutOfMemory
@@ -93,10 +94,6 @@ no_items (x ∷ xs) h = absurd (omega (arith, h))
 
 no_more : (before more : List ℕ) → before ++ more ≡ before → more ≡ []
 no_more before more same = no_items more (omega (arith, ap length same, length-append before more))
-
-pub tells_itself : (told : Option (List ℕ)) → TellsAlike told told
-tells_itself None = refl
-tells_itself (Some bytes) = (bytes, refl)
 
 nothing_more : (told told' : Option (List ℕ)) (before more : List ℕ) → told' ≡ told → told ≡ Some before → told' ≡ Some (before ++ more) → more ≡ []
 nothing_more told told' before more same is now = no_more before more (sym (some_is before (before ++ more) (sym is ∙ sym same ∙ now)))

@@ -1,5 +1,5 @@
 -- Lines that only read come to sessions that store nothing.
-use Rattle.std.proofs.Common.{◌≡◌, inl, inr, ℕ, List, false, Option, None, Some, refl, sym, ◌∙◌, ap}
+use Rattle.std.proofs.Common.{◌≡◌, inl, inr, ℕ, List, length, false, Option, None, Some, refl, sym, ◌∙◌, ap}
 use Rattle.std.proofs.lemmas.Bool.{false≢true}
 use Rattle.ew_model.specs.declared.id.Id.{Id}
 use Rattle.ew_model.specs.Edits.{EditRefusal}
@@ -7,27 +7,46 @@ use Rattle.ew_model.specs.Edits.EditRefusal.{OutOfRange, TooManyHeads, Full}
 use Rattle.ew_model.specs.Limits.{LimitNumbers}
 use Rattle.peer_definitions.specs.Machine as machine
 use Rattle.peer_definitions.specs.Machine.{empty_network}
-use Rattle.peer_definitions.specs.Machine.Refusal.{NoPeer, PeerTwice, NoPacket, NoEdit}
+use Rattle.peer_definitions.specs.Machine.Refusal.{NoPeer, PeerTwice, NoPacket, NoEvent, NoEdit}
 use Rattle.peer_definitions.specs.Making.{Made, made}
 use Rattle.peer_definitions.specs.Making.Made.{Going, Stopped}
 use Rattle.peer_definitions.specs.Runs.{RunOutcome, net_run}
 use Rattle.peer_definitions.specs.Runs.RunOutcome.{Ran, Broke}
 use Rattle.ew_model.specs.declared.event.Event.{Event}
+use Rattle.ew_model.specs.Texts.{text_at}
+use Rattle.carets.specs.declared.caret.Caret.{Caret}
+use Rattle.carets.specs.Sides.{caret_at}
 use Rattle.command_table.specs.Journals.{watch_end, watch_script}
 use Rattle.command_table.specs.Outcomes.{stored_by}
 use Rattle.command_table.specs.Possible.{MayComeTo, MayNet, MayReplyTo, MayWatchOver}
 use Rattle.command_table.specs.Reads.{may_store}
 use Rattle.command_table.specs.Scripts.{NetReading, bad_net_line, net_script, Reading, bad_line, script, watched_by}
 use Rattle.command_table.specs.Sessions.{Session}
-use Rattle.command_table.specs.Table.{Text, Command, create, edit, show, merge, upgrade, make, net, Line, does, serves, watches, exports, Listing, Reply, prints, Opened, opened, refused, line_refusal, make_reply, net_refusal, net_run_reply, net_script_reply, opened_as, over_events, show_reply, unknown_in, unless_unknown, listing_text}
+use Rattle.command_table.specs.Table.{Text, Command, create, edit, show, merge, upgrade, undo, make, net, Line, does, serves, watches, exports, Listing, Reply, prints, Opened, opened, refused, line_refusal, make_reply, net_refusal, net_run_reply, net_script_reply, opened_as, over_events, show_reply, unknown_in, unless_unknown, content, past, head_ids, log, replay, numbers, question, marks, caret, blame, caret_reply, shown_reply}
 
 module _ (limits : LimitNumbers) (n : ℕ) where
-  unless_stores : (o : Option Id) (out : List ℕ) → stored_by (unless_unknown o (prints out)) n ≡ n
-  unless_stores None out = refl
-  unless_stores (Some id) out = refl
+  caret_stores : (index len : ℕ) (events : List Event) (c : Option Caret) → stored_by (caret_reply index len events c) n ≡ n
+  caret_stores index len events None = refl
+  caret_stores index len events (Some c) = refl
+
+  shown_stores : (listing : Listing) (events : List Event) → stored_by (shown_reply listing events) n ≡ n
+  shown_stores content events = refl
+  shown_stores (past version) events = refl
+  shown_stores head_ids events = refl
+  shown_stores log events = refl
+  shown_stores replay events = refl
+  shown_stores numbers events = refl
+  shown_stores question events = refl
+  shown_stores marks events = refl
+  shown_stores (caret version index) events = caret_stores index (length (text_at events version)) events (caret_at events version index)
+  shown_stores (blame version columns) events = refl
+
+  unless_stores : (o : Option Id) (reply : Reply) → stored_by reply n ≡ n → stored_by (unless_unknown o reply) n ≡ n
+  unless_stores None reply stores = stores
+  unless_stores (Some id) reply stores = refl
 
   show_stores : (listing : Listing) (o : Opened) → stored_by (over_events (show_reply listing) o) n ≡ n
-  show_stores listing (opened events) = unless_stores (unknown_in listing events) (listing_text listing events)
+  show_stores listing (opened events) = unless_stores (unknown_in listing events) (shown_reply listing events) (shown_stores listing events)
   show_stores listing (refused why) = refl
 
   make_stores : (m : Made) → stored_by (make_reply limits m) n ≡ n
@@ -45,6 +64,7 @@ module _ (limits : LimitNumbers) (n : ℕ) where
   step_stores line (NoPeer name) = refl
   step_stores line (PeerTwice name) = refl
   step_stores line (NoPacket packet) = refl
+  step_stores line (NoEvent id) = refl
   step_stores line (NoEdit why) = edit_stores line why
 
   steps_store : (o : RunOutcome) → stored_by (net_run_reply limits o) n ≡ n
@@ -65,6 +85,7 @@ module _ (limits : LimitNumbers) (n : ℕ) where
   command_stores (show listing name) reply only may = ap (λ r. stored_by r n) may.1 ∙ show_stores listing (opened_as name limits may.0)
   command_stores (merge name other) reply only may = absurd (false≢true (sym only))
   command_stores (upgrade name) reply only may = absurd (false≢true (sym only))
+  command_stores (undo name agent first count) reply only may = absurd (false≢true (sym only))
   command_stores (make seed count) reply only may = ap (λ r. stored_by r n) may ∙ make_stores (made limits seed count)
   command_stores net reply only may = net_stores reply may
 

@@ -2,7 +2,7 @@
 use Rattle.std.proofs.Common.{ℕ, List, arith, Option, None, Some}
 use Rattle.ew_model.specs.Limits.{LimitNumbers}
 use Rattle.ew_outside.specs.Files.{Files}
-use Rattle.command_table.specs.Table.{Command, create, edit, show, merge, upgrade, make, net, Line, does, serves, watches, exports}
+use Rattle.command_table.specs.Table.{Command, create, edit, show, merge, upgrade, undo, make, net, Line, does, serves, watches, exports}
 use Rattle.opened_files.specs.Touches.{CommandTakes}
 use Rattle.serve_plans.specs.SessionTouches.{session_touches}
 use Rattle.command_runs.specs.LineTouches.{LineTakes}
@@ -15,6 +15,7 @@ command_takes (edit name agent) limits files n = untouched _ files n
 command_takes (show listing name) limits files n = untouched _ files n
 command_takes (merge name other) limits files n = untouched _ files n
 command_takes (upgrade name) limits files n = untouched _ files n
+command_takes (undo name agent first count) limits files n = untouched _ files n
 command_takes (make seed count) limits files n = omega arith
 command_takes net limits files n = tt
 

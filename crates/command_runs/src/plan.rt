@@ -23,11 +23,13 @@ use ew_outside::{Fault, Shelf, Sink, Source};
 use line_plans::edit::edit;
 use line_plans::merge::merge;
 use line_plans::net::net;
+use line_plans::undoing::undo_events;
 use line_plans::upgrade::upgrade;
 use opened_files::reply::Reply;
 use serve_plans::serve::serve;
 use std::alloc::Global;
 use std::sync::ledger::Ledger;
+use undo::Undone;
 
 /// Reads what the line reads, and answers what is to be done. A session is served by then, up to what is to be stored and printed
 /// at last; of another line nothing is stored or printed yet. The line has no use for the journal.
@@ -141,6 +143,19 @@ fn plan_unread<H: Shelf, L: Ledger>(
         Taken::Show { listing, file } => show(alloc, listing, file, limits, shelf, steps),
         Taken::Merge { file, other } => merge(alloc, file, other, limits, shelf, steps),
         Taken::Upgrade(file) => upgrade(alloc, file, limits, shelf, steps),
+        Taken::Undo {
+            file,
+            agent,
+            first,
+            count,
+        } => {
+            let undone = Undone {
+                agent: first.agent,
+                first: first.seq,
+                count,
+            };
+            undo_events(alloc, file, agent, &undone, limits, shelf, steps)
+        }
         Taken::Make { seed, count } => make_history(alloc, limits, seed, count, steps),
         Taken::Edit { .. } | Taken::Net => unreachable!(),
     }

@@ -2,7 +2,7 @@ use Rattle.std.proofs.Common.{[], ◌∷◌, arith}
 use Rattle.std.specs.FinMap.{get}
 use Rattle.ew_model.specs.Limits.{most_file_bytes}
 use Rattle.command_table.specs.Loads.{whole_of}
-use Rattle.command_table.specs.Table.{create, make, merge, show, upgrade, create_reply, make_reply, merge_reply, open_file, over_both, over_events, show_reply, upgrade_reply}
+use Rattle.command_table.specs.Table.{create, make, merge, show, undo, upgrade, create_reply, make_reply, merge_reply, open_file, over_both, over_events, show_reply, undo_reply, upgrade_reply}
 use Rattle.peer_definitions.specs.Making.{made}
 use Rattle.command_reader.specs.Words.{listing_view}
 use Rattle.command_runs.proofs.Lines.{all_of_shelf, asks_most, asks_none, loads_none, loads_one, made_file, may_plan, no_causes, no_front, none_all, none_failed_loads, none_made, one_all, one_front, plans_alone, plans_any}
@@ -145,3 +145,30 @@ returns-in-Merge-clause-asked g c = rw c.in-Merge.is c.merge.ensures.asked
 
 pub returns-in-Make-clause-asked : goal.returns-in-Make-clause-asked
 returns-in-Make-clause-asked g c = rw c.in-Make.is (asks_none _ _)
+
+pub returns-in-Undo-clause-told : goal.returns-in-Undo-clause-told
+returns-in-Undo-clause-told g c =
+    let name = c.in-Undo.file.now in
+    let limits = c.args.limits.now in
+    rw c.in-Undo.is (plans_alone (λ m. over_events (undo_reply name c.in-Undo.agent c.in-Undo.first c.in-Undo.count limits) (open_file name limits m)) (g.H.Shelf.seen c.args.shelf.now).files c.undo_events.result c.undo_events.ensures.told)
+
+pub returns-in-Undo-clause-front : goal.returns-in-Undo-clause-front
+returns-in-Undo-clause-front g c = rw c.in-Undo.is (one_front c.in-Undo.file.now _ _ c.undo_events.ensures.loads)
+
+pub returns-in-Undo-clause-loads : goal.returns-in-Undo-clause-loads
+returns-in-Undo-clause-loads g c = rw c.in-Undo.is (loads_one c.in-Undo.file.now c.args.limits.now (g.H.Shelf.seen c.args.shelf.now).files _ _ c.undo_events.result c.undo_events.ensures.loads)
+
+pub returns-in-Undo-clause-some : goal.returns-in-Undo-clause-some
+returns-in-Undo-clause-some g c = rw c.in-Undo.is (may_plan (undo c.in-Undo.file.now c.in-Undo.agent c.in-Undo.first c.in-Undo.count) c.args.limits.now c.undo_events.result c.undo_events.ensures.some)
+
+pub returns-in-Undo-clause-most : goal.returns-in-Undo-clause-most
+returns-in-Undo-clause-most g c = rw c.in-Undo.is c.undo_events.ensures.most
+
+pub returns-in-Undo-clause-all : goal.returns-in-Undo-clause-all
+returns-in-Undo-clause-all g c = rw c.in-Undo.is (one_all c.in-Undo.file.now _ _ c.undo_events.result c.undo_events.ensures.loads)
+
+pub returns-in-Undo-clause-makes : goal.returns-in-Undo-clause-makes
+returns-in-Undo-clause-makes g c = rw c.in-Undo.is (none_made _ _ c.undo_events.result)
+
+pub returns-in-Undo-clause-asked : goal.returns-in-Undo-clause-asked
+returns-in-Undo-clause-asked g c = rw c.in-Undo.is (asks_most _ _ _ c.undo_events.ensures.asked)
