@@ -156,15 +156,15 @@ def run_reader(words, folder, streams):
 
 
 def command_of(words):
-    """The first word, and the option `--at` where it is there."""
+    """The first word, and the option `--at` where `cat` has it."""
     texts = [os.fsencode(word) for word in words]
-    has_version = any(re.match(rb"--at(=|$)", text) for text in texts[1:])
+    has_version = texts[:1] == [b"cat"] and any(re.match(rb"--at(=|$)", text) for text in texts[1:])
     return b" ".join(texts[:1] + [b"--at"] * has_version).decode(errors="replace")
 
 
 def shape_of(text):
     """An error text without its names and numbers."""
-    text = re.sub(rb"^egw: (?!line|frame|input|journal|file |no file|clash|unknown|more than|\d+ heads|shelf|disk|source|sink)[^:]*: ", b"egw: F: ", text)
+    text = re.sub(rb"^egw: (?!line|frame|input|index|journal|file |no file|clash|unknown|more than|\d+ heads|shelf|disk|source|sink)[^:]*: ", b"egw: F: ", text)
     text = re.sub(rb"(no file|file|clash|unknown|no peer|peer) [^\n]*?( is there)?\n", rb"\1 NAME\2\n", text)
     return re.sub(rb"[0-9a-f]{64}|[0-9]+", b"N", text).decode(errors="replace").strip()
 

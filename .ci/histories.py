@@ -25,6 +25,9 @@ USAGE = b"""usage: egw new FILE
        egw upgrade FILE
        egw watch --agent NAME
        egw export FILE
+       egw undo FILE --agent NAME --of ID --count N
+       egw caret FILE --at VERSION --index N
+       egw blame FILE --columns N [--at VERSION]
 """
 
 Id = namedtuple("Id", "agent seq")  # a name's bytes and a number: compared in this order, as the page wants it

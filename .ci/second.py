@@ -105,8 +105,44 @@ def list_versions(beside, draws, name):
     at(old, draws.one_of(unknown), draws.one_of(unknown))
     at(draws.one_of(unknown), old)
     at(draws.one_of(NO_VERSIONS))
+    for version in (old, ",".join(several), draws.one_of(unknown), ",".join(reversed(heads)) or "root"):
+        place_carets(beside, draws, name, version, len(ids))
+    place_carets(beside, draws, name, draws.one_of(NO_VERSIONS), 1)
+    tell_authors(beside, draws, name, answers[0][1], [old, ",".join(several), draws.one_of(unknown), draws.one_of(NO_VERSIONS)])
+    undo_and_back(beside, draws, name, answers, [old, *several, draws.one_of(unknown), draws.one_of(NO_VERSIONS)])
     upgrade_twice(beside, name, answers)
     return answers
+
+
+def place_carets(beside, draws, name, version, most):
+    """Where carets of a version stand: the first, the last and others, and such that are behind its end."""
+    for index in {0, draws.below(most + 1), draws.below(4), most + draws.below(2)}:
+        beside.run("caret", *draws.one_of([[name, "--at", version, "--index", str(index)], [f"--index={index}", "--at=" + version, name]]))
+
+
+def tell_authors(beside, draws, name, text, versions):
+    """Who wrote what. A text with characters whose width depends on others beside them is shown whole."""
+    plain = all(char == 10 or 32 <= char < 127 for char in text)
+    for version in [[], *(["--at", version] for version in versions)]:
+        beside.run("blame", name, *version, "--columns", str(draws.one_of([1, 2, 3, 7, 80, 1000] if plain else [1000])))
+
+
+def undo_and_back(beside, draws, name, answers, firsts):
+    """Undoes events of copies of a file. An undo of what an undo made gives the text back."""
+    for first in firsts:
+        beside.copy(name, "undone")
+        agent = draws.one_of(["undoer", first.split(":")[0] or "a"])
+        made = beside.run("undo", "undone", "--agent", agent, "--of", first, "--count", str(draws.one_of([1, 1, 2, 3, 10])))
+        told = list_all(beside, "undone")
+        lines = told[2][1].decode().split("\n")[:-1]
+        if made[0] or made[1] == b"made 0\n":
+            if told[:3] != answers[:3]:
+                beside.wrong(f"an undo of {name} that made nothing changed it")
+            continue
+        own = [line.split(" ")[0] for line in lines][-int(made[1].split()[1]) :]
+        beside.run("undo", "undone", "--agent", "other", "--of", own[0], "--count", str(len(own)))
+        if beside.run("cat", "undone") != answers[0]:
+            beside.wrong(f"an undo of an undo of {name} doesn't give the text back")
 
 
 def upgrade_twice(beside, name, answers):
@@ -684,8 +720,8 @@ def scripts(beside, draws):
 # Lines of words
 
 
-WORDS = ["watch", "export", "new", "edit", "cat", "heads", "log", "check", "merge", "replay", "ask", "serve", "make", "net", "marks", "upgrade", "F", "F", "F", "G", "--agent", "--agent", "--agent=a", "--agent=", "--agent==a", "a",
-         "-", "--", "--", "", "-h", "--help", "help", "-V", "--version", "--at", "--at", "--at=", "--at=root", "--at=a:1", "root", "a:0", "a:2,a:0", "b:0", "--seed", "--seed=7", "--count", "--count=3", "7", "-F", "--agents", "--agen", "-agent", "---", "--=", "a" * 32, "a" * 33, "-1", "ä", "-ä", "=", "a b"]
+WORDS = ["undo", "caret", "blame", "watch", "export", "new", "edit", "cat", "heads", "log", "check", "merge", "replay", "ask", "serve", "make", "net", "marks", "upgrade", "F", "F", "F", "G", "--agent", "--agent", "--agent=a", "--agent=", "--agent==a", "a",
+         "-", "--", "--", "", "-h", "--help", "help", "-V", "--version", "--at", "--at", "--at=", "--at=root", "--at=a:1", "root", "a:0", "a:2,a:0", "b:0", "--seed", "--seed=7", "--count", "--count=3", "--of", "--of=a:1", "--index", "--index=1", "--columns", "--columns=9", "7", "-F", "--agents", "--agen", "-agent", "---", "--=", "a" * 32, "a" * 33, "-1", "ä", "-ä", "=", "a b"]
 TAKEN = [["edit", "F", "--agent", "a"], ["edit", "--agent", "a", "F"], ["edit", "--agent=a", "--", "F"], ["edit", "F", "--agent=a"], ["edit", "--agent", "a", "--", "-F"],
          ["edit", "F", "--", "--agent", "a"], ["edit", "F", "--agent", "--", "a"], ["edit", "F", "--agent", "a", "--agent", "a"], ["edit", "F", "--agent", "a", "--agent=a"],
          ["edit", "--agent", "--agent", "a", "F"], ["edit", "F", "--agent", "-"], ["edit", "F", "--agent", ""], ["edit", "F", "--agent", "a", "--"], ["edit", "--", "F"],
@@ -722,6 +758,21 @@ TAKEN = [["edit", "F", "--agent", "a"], ["edit", "--agent", "a", "F"], ["edit", 
          ["watch", "-"], ["help", "watch"], ["Watch", "--agent", "a"], ["watches", "--agent", "a"], ["--agent", "a", "watch"], [b"watch", b"--agent", b"\xff"],
          ["export", "E"], ["export", "E"], ["export"], ["export", "F"], ["export", "E2", "F"], ["export", "--", "E3"], ["export", "E4", "--"], ["export", "--", "-E"], ["export", "-E"], ["export", ""], ["export", "-"],
          ["export", "nowhere/E"], ["export", "F/E"], ["export", "E5", "--agent", "a"], ["export", "E5", "--at", "root"], ["export", "E5", "--help"], ["help", "export"], ["Export", "E5"], ["exports", "E5"], [b"export", b"\xff"],
+         ["undo", "F", "--agent", "b", "--of", "a:0", "--count", "1"], ["undo", "--count=1", "--of=a:0", "--agent=b", "F"], ["undo", "--count=1", "--of=a:0", "--agent=b", "--", "F"], ["undo", "F"], ["undo"],
+         ["undo", "F", "--agent", "b", "--of", "a:0"], ["undo", "F", "--agent", "b", "--count", "1"], ["undo", "F", "--of", "a:0", "--count", "1"], ["undo", "F", "--agent", "b", "--of", "a", "--count", "1"],
+         ["undo", "F", "--agent", "b", "--of", "a:00", "--count", "1"], ["undo", "F", "--agent", "b", "--of", "root", "--count", "1"], ["undo", "F", "--agent", "b", "--of", "a:0,a:1", "--count", "1"],
+         ["undo", "F", "--agent", "b", "--of=", "--count", "1"], ["undo", "F", "--agent", "b", "--of", "a:4294967295", "--count", "1000000"], ["undo", "F", "--agent", "b", "--of", "a:4294967296", "--count", "1"],
+         ["undo", "F", "--agent", "-b", "--of", "a:0", "--count", "1"], ["undo", "F", "--agent", "b", "--of", "a:0", "--of", "a:0", "--count", "1"], ["undo", "F", "G", "--agent", "b", "--of", "a:0", "--count", "1"],
+         *(["undo", "F", "--agent", "b", "--of", "a:0", f"--count={count}"] for count in ("0", "-0", "+1", "++1", "01", "1000000", "1000001", "", "-", "x", "-1", "4294967297", "1 ")),
+         ["undo", "nowhere", "--agent", "b", "--of", "a:0", "--count", "1"], ["undo", "F", "--at", "a:0", "--agent", "b", "--of", "a:0", "--count", "1"], ["undo", "F", "--help"], ["Undo", "F"], ["help", "undo"],
+         ["caret", "F", "--at", "a:0", "--index", "0"], ["caret", "--index=1", "--at=a:0", "F"], ["caret", "--index=1", "--at=a:0", "--", "F"], ["caret", "F"], ["caret"], ["caret", "F", "--at", "a:0"], ["caret", "F", "--index", "0"],
+         ["caret", "F", "--at", "x", "--index", "0"], ["caret", "F", "--at", "a:0", "--at", "a:0", "--index", "0"], ["caret", "F", "--at", "a:0", "--index", "0", "--index", "0"], ["caret", "F", "G", "--at", "a:0", "--index", "0"],
+         *(["caret", "F", "--at", "a:2", f"--index={index}"] for index in ("-0", "-00", "+3", "++3", "03", "3", "4", "4294967295", "4294967296", "", "-", "x", "-1", " 1")),
+         ["caret", "nowhere", "--at", "a:0", "--index", "0"], ["caret", "F", "--agent", "a", "--at", "a:0", "--index", "0"], ["caret", "F", "--help"], ["Caret", "F"], ["help", "caret"],
+         ["blame", "F", "--columns", "80"], ["blame", "--columns=80", "F"], ["blame", "--columns=80", "--", "F"], ["blame", "F"], ["blame"], ["blame", "F", "--columns", "80", "--at", "a:0"], ["blame", "F", "--at", "a:0"],
+         ["blame", "F", "--at", "x", "--columns", "80"], ["blame", "F", "--columns", "80", "--columns", "80"], ["blame", "F", "--columns", "80", "--at", "a:0", "--at", "a:0"], ["blame", "F", "G", "--columns", "80"],
+         *(["blame", "F", f"--columns={columns}"] for columns in ("0", "-0", "1", "+1", "++1", "01", "1000", "1001", "", "-", "x", "-1", "4294967297")),
+         ["blame", "nowhere", "--columns", "80"], ["blame", "F", "--agent", "a", "--columns", "80"], ["blame", "F", "--help"], ["Blame", "F"], ["help", "blame"],
          ["make", "--seed", "1", "--count", "1"], ["make", "--count", "1", "--seed", "1"], ["make", "--seed=1", "--count=1"], ["make", "--seed=1", "--count", "1"], ["make", "--count=1", "--seed", "1"],
          ["make", "--seed", "1"], ["make", "--count", "1"], ["make"], ["make", "--seed", "1", "--count"], ["make", "--seed", "--count", "1"], ["make", "--seed=", "--count=1"], ["make", "--seed=1", "--count="],
          ["make", "--seed=1", "--seed=1", "--count=1"], ["make", "--seed=1", "--count=1", "--count=1"], ["make", "--seed=1", "--count=1", "--"], ["make", "--", "--seed=1", "--count=1"],
@@ -748,10 +799,12 @@ def words(beside, draws):
     beside.run("new", "F")
     beside.run("edit", "F", "--agent", "a", input=b"ins 0 abc")
     beside.copy("F", "kept")
-    lines = TAKEN + [[draws.one_of(WORDS[:16])] + [draws.one_of(WORDS) for _ in range(draws.below(6))] for _ in range(400)]
+    lines = TAKEN + [[draws.one_of(WORDS[:19])] + [draws.one_of(WORDS) for _ in range(draws.below(6))] for _ in range(400)]
     lines += [["edit"] + [draws.one_of(["F", "--agent", "--agent=a", "a", "--", "-", "-x", ""]) for _ in range(1 + draws.below(5))] for _ in range(200)]
     lines += [["cat"] + [draws.one_of(["F", "F", "--at", "--at=a:1", "a:0", "root", "b:0", "--", "-", "-x", ""]) for _ in range(1 + draws.below(5))] for _ in range(200)]
     lines += [["make"] + [draws.one_of(["--seed", "--seed=7", "--count", "--count=3", "5", "5", "+4", "-", "--", "F"]) for _ in range(1 + draws.below(5))] for _ in range(200)]
+    for one, least in (("undo", ["--agent=b", "--of=a:0", "--count=1"]), ("caret", ["--at=a:2", "--index=1"]), ("blame", ["--columns=9", "--at=a:1"])):
+        lines += [[one] + [draws.one_of(["F", "F", *least, *least, *(word.split("=")[0] for word in least), "a:0", "2", "b", "--", "-"]) for _ in range(1 + draws.below(6))] for _ in range(200)]
     for line in lines:
         beside.run(*line, input=b"ins 0 x")
     beside.clear()
@@ -874,9 +927,11 @@ def made(beside, draws):
 NAMES = ["a", "b", "c", "B", "_-", "9", "aa", "a" * 32]
 BAD_LINES = ["show", "show ", "show z ", "peer -a", "peer " + "a" * 33, "peer ä", "push a", "push a b ", "push  a b", "ask a", "send a b 1", "send a b 01 1", "send a b 1 4294967296", "deliver", "deliver +1",
              "deliver 1 ", "restart", "agree ", " agree", "agree\r", "agree\0", "ins a 0", "ins a  x", "ins 0 x", "ins a 0 \\x", "ins a 0 \\", "del a 0", "del a 0 1 ", "del a 0 -1", "deliver 0x1", "Agree", "net", "\t", "mark", "mark a", "mark a ",
-             "mark  m", "mark a m ", "mark a -m", "mark a  m", "mark a " + "m" * 33, "mark a ä", "mark a m n", "mark a \\n", "mark -a m", "MARK a m", "marks a m"]
+             "mark  m", "mark a m ", "mark a -m", "mark a  m", "mark a " + "m" * 33, "mark a ä", "mark a m n", "mark a \\n", "mark -a m", "MARK a m", "marks a m", "undo a", "undo a b", "undo a b 0", "undo a b 0 ", "undo a b 00 1", "undo a b 0 4294967296", "undo a -b 0 1", "undo a b 0 1 ", "undo  b 0 1", "undo a:0 1",
+             "caret a", "caret a ", "caret a 01", "caret a 4294967296", "caret a 0 ", "caret -a 0", "caret 0", "where", "where ", "where a ", "where a b", "where -a", "Where a"]
 REFUSED_LINES = ["peer a", "show nobody", "push a nobody", "push nobody a", "push nobody none", "send nobody a 0 0", "ask a nobody", "restart nobody", "ins nobody 0 x", "del nobody 9 9", "deliver 4294967295",
-                 "deliver 9999", "ins a 4294967295 ", "ins a 999 x", "del a 0 4294967295", "del a 4294967295 4294967295", "mark nobody m", "mark nobody a"]
+                 "deliver 9999", "ins a 4294967295 ", "ins a 999 x", "del a 0 4294967295", "del a 4294967295 4294967295", "mark nobody m", "mark nobody a",
+                 "undo nobody a 0 1", "undo nobody nobody 0 0", "undo a nobody 0 1", "undo a nobody 4294967295 4294967295", "undo a a 4294967295 1", "undo a a 0 9999", "caret nobody 0", "caret a 9999", "caret a 4294967295", "where nobody"]
 
 
 class NetScript:
@@ -896,7 +951,7 @@ class NetScript:
 
     def line(self):
         draws, name, other = self.draws, self.draws.one_of(self.names), self.draws.one_of(self.names)
-        length, kind, packets = len(self.net.desks[name].history.visible()), self.draws.below(17), len(self.net.packets)
+        length, kind, packets = len(self.net.desks[name].history.visible()), self.draws.below(21), len(self.net.packets)
         heads = len(self.net.desks[name].history.heads)
         if kind < 5 and heads <= 16:
             return f"ins {name} {draws.below(length + 1)} " + "".join(draws.one_of(["a", "b", " ", "\\n", "\\\\", "é", "🦀"]) for _ in range(draws.below(5)))
@@ -905,6 +960,14 @@ class NetScript:
             return f"del {name} {at} {draws.below(min(length - at, 3) + 1)}"
         if kind == 16:
             return f"mark {name} {draws.one_of(LABELS).decode()}"
+        if kind == 17 and heads <= 16:
+            whose = draws.one_of(self.names + ["z"])
+            first = draws.below(len(self.net.desks[name].history.by_agent.get(whose, ())) + 1)
+            return f"undo {name} {whose} {first} {draws.below(min(len(self.net.desks[name].history.by_agent.get(whose, ())) - first, 4) + 1)}"
+        if kind == 18:
+            return f"caret {name} {draws.below(length + 1)}"
+        if kind > 18:
+            return f"where {name}"
         if kind < 12 and packets:
             return f"deliver {draws.below(packets)}"
         words = ["push", "push", "send", "ask", "restart", "show", "agree"]
@@ -948,6 +1011,10 @@ def limits(beside):
         for script in (b"ins 0 x", b"ins 0 ", b"del 0 1", b"del 0 0", b"ins 99 x", b"ins 99 ", b"mark m", b"mark m\nins 0 x"):
             beside.copy("kept", "heads")
             beside.run("edit", "heads", "--agent", "a", input=script)
+        for first in ("p0:0", "p0:1", "a:0"):
+            beside.copy("kept", "heads")
+            beside.run("undo", "heads", "--agent", "a", "--of", first, "--count", "1")
+        beside.copy("kept", "heads")
         beside.run("replay", "heads")
         beside.run("ask", "heads")
         beside.run("cat", "heads", "--at", ",".join(f"p{n}:0" for n in reversed(range(agents))))
@@ -1005,6 +1072,9 @@ def refusals(beside):
         beside.run("replay", name)
         beside.run("marks", name)
         beside.run("upgrade", name)
+        beside.run("undo", name, "--agent", "a", "--of", "z:0", "--count", "1")
+        beside.run("caret", name, "--at", "a:0", "--index", "1")
+        beside.run("blame", name, "--columns", "3")
         beside.run("ask", name)
         beside.run("serve", name, input=frame(6))
         beside.run("edit", name, "--agent", "a", input=b"ins 0 x")
@@ -1031,6 +1101,13 @@ def refusals(beside):
         beside.run("upgrade", "old", out=full)
         beside.run("upgrade", "old")
         beside.run("upgrade", "nowhere", err=full)
+        beside.run("caret", "F", "--at", "a:2", "--index", "1", out=full)
+        beside.run("caret", "F", "--at", "a:2", "--index", "9", err=full)
+        beside.run("blame", "F", "--columns", "3", out=full)
+        beside.run("blame", "F", "--columns", "3", "--at", "b:0", err=full)
+        beside.run("undo", "F", "--agent", "b", "--of", "a:1", "--count", "1", out=full)
+        beside.run("undo", "F", "--agent", "b", "--of", "a:1", "--count", "1", out=full)
+        beside.run("undo", "F", "--agent", "b", "--of", "b:9", "--count", "1", err=full)
         beside.run("ask", "F", out=full)
         beside.run("serve", "F", input=frame(1, bytes(4)), out=full)
         beside.run("serve", "F", input=frame(3), out=full)
@@ -1092,6 +1169,7 @@ WANTED += [(4, f"egw: F: byte N: {fault}") for fault in ("cut", "bad name", "nam
 WANTED += [(4, f"egw: F: event N: {fault}") for fault in ("not reduced", "skipped", "out of range, length N")]
 WANTED += [(5, "egw: line N: unreadable"), (5, "egw: line N: out of range, length N"), (5, "egw: clash NAME"), (5, "egw: unknown NAME")]
 WANTED += [(5, f"egw: line N: {fault}") for fault in ("no peer NAME", "peer NAME is there", "no packet N")]
+WANTED += [(5, "egw: index N: out of range, length N")]
 WANTED += [(5, f"egw: frame N: {fault}") for fault in ("cut", "bad kind N", "too long, N", "bad body")]
 WANTED += [(4, "egw: journal: byte N: bad batch")]
 WANTED += [(4, f"egw: journal: event N: {fault}") for fault in ("repeat", "clash", "own parent", "too many parents", "parents unsorted", "unknown NAME", "not reduced", "skipped", "out of range, length N")]
@@ -1099,7 +1177,7 @@ WANTED += [(6, f"egw: {what} failed") for what in ("shelf", "disk", "source", "s
 WANTED += [(7, "egw: F: more than N bytes"), (7, "egw: F: more than N events"), (7, "egw: input: more than N bytes"), (7, "egw: N heads, more than N")]
 # (`egw: more than N events` wants a history at the limit, and `egw: journal: more than N events` a journal beyond it: the rows of command_trials have it at small limits.)
 # And each status that a command may come to, but for memory.
-STATUSES = {"cat --at": (0, 2, 3, 4, 5, 6, 7), "replay": (0, 2, 3, 4, 6, 7), "ask": (0, 2, 3, 4, 6, 7), "serve": (0, 2, 3, 4, 5, 6, 7), "make": (0, 2, 6), "net": (0, 2, 5, 6, 7), "marks": (0, 2, 3, 4, 6, 7), "upgrade": (0, 2, 3, 4, 6, 7), "watch": (0, 2, 4, 5, 6, 7), "export": (0, 2, 3, 4, 6)}
+STATUSES = {"cat --at": (0, 2, 3, 4, 5, 6, 7), "replay": (0, 2, 3, 4, 6, 7), "ask": (0, 2, 3, 4, 6, 7), "serve": (0, 2, 3, 4, 5, 6, 7), "make": (0, 2, 6), "net": (0, 2, 5, 6, 7), "marks": (0, 2, 3, 4, 6, 7), "upgrade": (0, 2, 3, 4, 6, 7), "watch": (0, 2, 4, 5, 6, 7), "export": (0, 2, 3, 4, 6), "undo": (0, 2, 3, 4, 5, 6, 7), "caret": (0, 2, 3, 4, 5, 6), "blame": (0, 2, 3, 4, 5, 6)}
 
 
 def main():

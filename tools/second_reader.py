@@ -1,9 +1,9 @@
 #!/usr/bin/env python3
 """A second implementation of `egw`, written from docs/FORMATS.md alone.
 
-It has new, edit, cat, heads, log, replay, check, merge, ask, serve, net, make, marks, upgrade, watch and
-export. Its authors had never seen the program, but for those of `serve`, `net`, `make`, `marks`, `watch` and
-`export`. It reads and writes event files of both versions, and stores version 2.
+It has new, edit, cat, heads, log, replay, check, merge, ask, serve, net, make, marks, upgrade, watch,
+export, undo, caret and blame. Its authors had never seen the program, but for those of `serve`, `net`, `make`, `marks`, `watch`,
+`export`, `undo`, `caret` and `blame`. It reads and writes event files of both versions, and stores version 2.
 The sections follow those of the page. Python 3, nothing else.
 """
 
@@ -19,9 +19,10 @@ import re
 import stat
 import struct
 import sys
+import unicodedata
 
 MAX_EVENTS, MAX_FILE, MAX_INPUT, MAX_PARENTS, MAX_MADE = 16777216, 2348810288, 16777216, 16, 1000000
-MAX_NUMBER = 4294967295
+MAX_NUMBER, MAX_COLUMNS = 4294967295, 1000
 MAX_WAITING, MAX_BODY, MAX_HAVE, PIECE = 65536, 1048576, 4 + 37 * MAX_EVENTS, 4096
 EVENT_ROOM = 664
 ESCAPE = re.compile(r'\\(.?)', re.DOTALL)
@@ -39,7 +40,9 @@ LINE = re.compile('ins %s (.*)|del %s %s|mark (%s)' % (NUMBER, NUMBER, NUMBER, N
 USAGE = 'usage: egw ' + '\n       egw '.join((
     'new FILE', 'edit FILE --agent NAME', 'cat FILE [--at VERSION]', 'heads FILE', 'log FILE',
     'replay FILE', 'check FILE', 'merge FILE OTHER', 'ask FILE', 'serve FILE', 'net',
-    'make --seed N --count N', 'marks FILE', 'upgrade FILE', 'watch --agent NAME', 'export FILE'))
+    'make --seed N --count N', 'marks FILE', 'upgrade FILE', 'watch --agent NAME', 'export FILE',
+    'undo FILE --agent NAME --of ID --count N', 'caret FILE --at VERSION --index N',
+    'blame FILE --columns N [--at VERSION]'))
 
 
 # An id is a pair (name, number), so ids compare as the page orders them.
@@ -50,6 +53,14 @@ Event = collections.namedtuple('Event', 'id parents kind index what')
 
 class Refusal(Exception):
     """The first thing that stands in the way: a status and a text."""
+
+
+class Unknown(Exception):
+    """An id that no event has."""
+
+
+class OutOfRange(Exception):
+    """An index above this length."""
 
 
 def spell(ident):
@@ -465,6 +476,78 @@ def do_edit(history, agent, number, edit):
         history.add(Event(ident, parents, kind, at, text[step:step + 1]))
 
 
+def undone(history, whose, first, count):
+    """The ids of so many events of an agent; each has to be held."""
+    held = len(history.by_agent.get(whose, ()))
+    if count and first + count > held:
+        raise Unknown((whose, max(first, held)))
+    return {(whose, first + step) for step in range(count)}
+
+
+def do_undo(history, agent, ids):
+    """Make the events that undo these, by what is visible now; gives their number."""
+    edits, index = [], 0
+    for node in history.walk():
+        wanted = node.id not in ids and ids.issuperset(node.deleters)
+        if node.deleters and wanted:
+            edits.append((INSERT, index, node.char))
+        elif not node.deleters and not wanted:
+            edits.append((DELETE, index, ''))
+        index += wanted
+    if edits and len(history.heads) > MAX_PARENTS:
+        raise Refusal(7, '%d heads, more than %d' % (len(history.heads), MAX_PARENTS))
+    if edits and len(history.events) + len(edits) > MAX_EVENTS:
+        raise Refusal(7, 'more than %d events' % MAX_EVENTS)
+    for kind, at, what in edits:
+        ident = (agent, len(history.by_agent.get(agent, ())))
+        history.add(Event(ident, tuple(sorted(history.heads)), kind, at, what))
+    return len(edits)
+
+
+def caret_at(history, known, index):
+    """The node left of an index of a version's text; the root at its start."""
+    seen = history.visible(known)
+    if index > len(seen):
+        raise OutOfRange(len(seen))
+    return seen[index - 1] if index else history.root
+
+
+def side(history, caret):
+    """How many characters of the text stand at the caret's node or before it."""
+    index, node = 0, history.root
+    while node is not caret:
+        node = node.after
+        index += not node.deleters
+    return index
+
+
+def pieces(nodes):
+    """Nodes cut where the agent changes, a number is left out, or a line ends."""
+    cut = []
+    for node in nodes:
+        last = cut[-1][-1] if cut else None
+        if last and last.char != '\n' and node.id == (last.id[0], last.id[1] + 1):
+            cut[-1].append(node)
+        else:
+            cut.append([node])
+    return cut
+
+
+def shown(text, columns):
+    """As much of a text, as it is written, as is at most so many columns wide."""
+    return next(written(text[:count]) for count in range(len(text), -1, -1) if width(written(text[:count])) <= columns)
+
+
+def written(text):
+    """A text with its newlines and backslashes escaped."""
+    return text.replace('\\', '\\\\').replace('\n', '\\n')
+
+
+def width(text):
+    """The columns of a text of which each character takes the same whatever stands beside it: all that this program is asked for."""
+    return sum(0 if unicodedata.combining(char) else 2 if unicodedata.east_asian_width(char) in 'WF' else 1 for char in text)
+
+
 def do_mark(history, agent, label):
     """Join all heads by marks of the agent."""
     heads = sorted(history.heads)
@@ -814,14 +897,14 @@ def talk(desk):
 
 # Nets
 
-# What stands behind the first word of a line: names, numbers, a text, a label.
+# What stands behind the first word of a line: names of peers, other names, numbers, a text, a label.
 STEPS = {'peer': 'N', 'ins': 'N#T', 'del': 'N##', 'mark': 'NL', 'push': 'NN', 'send': 'NN##', 'ask': 'NN',
-         'deliver': '#', 'restart': 'N', 'show': 'N', 'agree': ''}
+         'deliver': '#', 'restart': 'N', 'show': 'N', 'agree': '', 'undo': 'Nn##', 'caret': 'N#', 'where': 'N'}
 
 
 def parse_part(kind, part):
     """A name, a number, a text or a label; None where it is none."""
-    if kind in 'NL':
+    if kind in 'NnL':
         return parse_name(part)
     if kind == '#':
         return int(part) if re.fullmatch(NUMBER, part) and int(part) <= MAX_NUMBER else None
@@ -849,7 +932,7 @@ class Net:
     """Peers, by their names, and packets: a sender, a receiver and the bytes of the frames."""
 
     def __init__(self):
-        self.desks, self.packets = {}, []
+        self.desks, self.packets, self.carets = {}, [], {}
 
     def step(self, number, word, values):
         """Do what a line does; gives what it prints."""
@@ -863,12 +946,32 @@ class Net:
             raise Refusal(5, 'line %d: no packet %d' % (number, values[0]))
         if word in ('ins', 'del', 'mark'):
             return self.edit(number, word, *values)
-        return getattr(self, word)(*values)
+        try:
+            return getattr(self, word)(*values)
+        except Unknown as unknown:
+            raise Refusal(5, 'line %d: unknown %s' % (number, spell(unknown.args[0])))
+        except OutOfRange as refused:
+            raise Refusal(5, 'line %d: out of range, length %d' % (number, refused.args[0]))
 
     def peer(self, name):
         """Add a peer that holds nothing."""
         self.desks[name] = Desk(History(''))
+        self.carets[name] = self.desks[name].history.root
         return 'peer %s\n' % name
+
+    def undo(self, name, whose, first, count):
+        """Undo some events of an agent at a peer."""
+        history = self.desks[name].history
+        return '%s made %d\n' % (name, do_undo(history, name, undone(history, whose, first, count)))
+
+    def caret(self, name, index):
+        """Set the caret of a peer."""
+        self.carets[name] = caret_at(self.desks[name].history, None, index)
+        return '%s caret %d\n' % (name, index)
+
+    def where(self, name):
+        """Where the caret of a peer stands."""
+        return '%s caret %d\n' % (name, side(self.desks[name].history, self.carets[name]))
 
     def edit(self, number, word, name, *values):
         """An edit of a peer's history."""
@@ -1183,6 +1286,49 @@ def run_export(files, _values):
     return ''
 
 
+def run_undo(files, values):
+    """Undo some events of an agent."""
+    agent, (whose, first), count = values
+    history = load(files[0])
+    try:
+        made = do_undo(history, agent, undone(history, whose, first, count))
+    except Unknown as unknown:
+        raise Refusal(5, 'unknown %s' % spell(unknown.args[0]))
+    if made:
+        store(files[0], history.events)
+    return 'made %d\n' % made
+
+
+def run_caret(files, values):
+    """Print where a caret of a version stands now."""
+    idents, index = values
+    history = load(files[0])
+    for ident in idents:
+        if ident not in history.where:
+            raise Refusal(5, 'unknown %s' % spell(ident))
+    try:
+        caret = caret_at(history, history.version(idents), index)
+    except OutOfRange as refused:
+        raise Refusal(5, 'index %d: out of range, length %d' % (index, refused.args[0]))
+    return '%d\n' % side(history, caret)
+
+
+def run_blame(files, values):
+    """Print who wrote what, of the text or of that of a version."""
+    (columns, *versions), known = values, None
+    history = load(files[0])
+    for idents in versions:
+        for ident in idents:
+            if ident not in history.where:
+                raise Refusal(5, 'unknown %s' % spell(ident))
+        known = history.version(idents)
+    printed = ''
+    for piece in pieces(history.visible(known)):
+        text = ''.join(node.char for node in piece)
+        printed += '%s %d %s\n' % (spell(piece[0].id), len(piece), shown(text, columns))
+    return printed
+
+
 def run_net(_files, _values):
     """Run a net script; nothing is printed unless all lines were run."""
     with using('source'):
@@ -1244,6 +1390,12 @@ def parse_name(word):
     return word if NAME.fullmatch(word) else None
 
 
+def parse_ident(word):
+    """An id, or None where it is none."""
+    found = IDENT.fullmatch(word)
+    return (found[1], int(found[2])) if found and int(found[2]) <= MAX_NUMBER else None
+
+
 def parse_version(word):
     """The ids of a version, or None where it is none."""
     if word == 'root':
@@ -1254,12 +1406,12 @@ def parse_version(word):
     return [(ident[1], int(ident[2])) for ident in found]
 
 
-def parse_up_to(most, minus=''):
+def parse_up_to(most, minus='', least=0):
     """What reads a number up to another, which may have a plus and zeros in front; zeros alone may have `minus` there."""
     def parse(word):
         digits = re.fullmatch(f'[+]?0*([0-9]{{1,20}})|[{minus}+]0*(0)', word)
         number = int(digits[1] or digits[2]) if digits else most + 1
-        return number if number <= most else None
+        return number if least <= number <= most else None
     return parse
 
 
@@ -1270,6 +1422,9 @@ COMMANDS = {'new': (run_new, 1, {}), 'edit': (run_edit, 1, {'--agent': (1, parse
             'check': (run_check, 1, {}), 'ask': (run_ask, 1, {}), 'serve': (run_serve, 1, {}),
             'upgrade': (run_upgrade, 1, {}), 'merge': (run_merge, 2, {}), 'net': (run_net, 0, {}),
             'watch': (run_watch, 0, {'--agent': (1, parse_name)}), 'export': (run_export, 1, {}),
+            'undo': (run_undo, 1, {'--agent': (1, parse_name), '--of': (1, parse_ident), '--count': (1, parse_up_to(MAX_MADE, least=1))}),
+            'blame': (run_blame, 1, {'--columns': (1, parse_up_to(MAX_COLUMNS, least=1)), '--at': (0, parse_version)}),
+            'caret': (run_caret, 1, {'--at': (1, parse_version), '--index': (1, parse_up_to(MAX_NUMBER, '-'))}),
             'make': (run_make, 0, {'--seed': (1, parse_up_to(2 ** 64 - 1)), '--count': (1, parse_up_to(MAX_MADE, '-'))})}
 
 
