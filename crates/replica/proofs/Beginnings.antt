@@ -1,6 +1,7 @@
 -- What a replica keeps as it begins.
-use Rattle.std.proofs.Common.{◌≡◌, ℕ, ◌≤◌, List, [], None, length, refl, sym, ap, subst, arith, ◌∙◌}
+use Rattle.std.proofs.Common.{◌≡◌, ℕ, ◌≤◌, List, [], Option, None, Some, IfSome, length, refl, sym, ap, subst, arith, ◌∙◌}
 use Rattle.ew_model.specs.declared.event.Event.{Event}
+use Rattle.ew_model.specs.declared.text_op.TextOp.{TextOp}
 use Rattle.ew_model.specs.Limits.{LimitNumbers}
 use Rattle.ew_model.specs.Operations.{operations, operations_of}
 use Rattle.ew_model.specs.Texts.{text_of}
@@ -11,7 +12,8 @@ use Rattle.ew_model.proofs.FirstBadLaws.{good_has_no_bad}
 use Rattle.waiting_pool.specs.Waiting.{Waiting, events_of}
 use Rattle.waiting_pool.specs.Knowing.{IsBehind}
 use Rattle.waiting_pool.proofs.Behind.{behind_none}
-use Rattle.replica.specs.Keeping.{IsUpToDate}
+use Rattle.replica.specs.Keeping.{IsToldBy, IsUpToDate}
+use Rattle.replica.specs.LazyTexts.{ToldText}
 use Rattle.replica.specs.Lengths.{prefix_lengths}
 
 no_event_is_good : IsGood []
@@ -53,3 +55,14 @@ same_kept limits held graph pool kept_pool text kept_text lengths kept_lengths g
   text_is = t ∙ (h.text_is ∙ ap text_of (sym g));
   lengths_are = l ∙ (h.lengths_are ∙ ap prefix_lengths (sym g));
 }
+
+-- so may what the text is told by; a text that isn't told by operations is told by no others; one that is told by fewer is told by the same
+pub same_told : (held graph : List Event) (text kept : ToldText) → graph ≡ held → kept ≡ text → IsToldBy held text.told → IsToldBy graph kept.told
+same_told held graph text kept g t h = subst (λ (es : List Event). IsToldBy es kept.told) (sym g) (subst (λ (w : ToldText). IsToldBy held w.told) (sym t) h)
+
+pub none_told : (held : List Event) (told : Option (List TextOp)) → told ≡ None → IsToldBy held told
+none_told held told e = subst (IsToldBy held) (sym e) tt
+
+pub still_told : (held : List Event) (old new : Option (List TextOp)) → IfSome new (λ ops. old ≡ Some ops) → IsToldBy held old → IsToldBy held new
+still_told held old None h t = tt
+still_told held old (Some ops) h t = subst (IsToldBy held) h t

@@ -1,8 +1,10 @@
 -- What a replica keeps beside its events: their text, and how long it was after each.
-use Rattle.std.specs.Prelude.{◌≡◌, ℕ, List}
+use Rattle.std.specs.Prelude.{◌≡◌, ℕ, List, Option, IfSome}
 use Rattle.ew_model.specs.declared.event.Event.{Event}
+use Rattle.ew_model.specs.declared.text_op.TextOp.{TextOp}
 use Rattle.ew_model.specs.Limits.{LimitNumbers}
 use Rattle.ew_model.specs.Ancestors.{heads}
+use Rattle.ew_model.specs.Operations.{operations}
 use Rattle.ew_model.specs.Positions.{positions_in}
 use Rattle.ew_model.specs.Texts.{text_of}
 use Rattle.ew_model.specs.Kept.{IsKept}
@@ -22,3 +24,7 @@ pub record IsUpToDate (limits : LimitNumbers) (held : List Event) (pool : Waitin
   pub behind : IsBehind held pool
   pub text_is : text ≡ text_of held
   pub lengths_are : lengths ≡ prefix_lengths held
+
+-- the operations that a text is told by, where it is, are those of the events held
+abbrev pub IsToldBy : List Event → Option (List TextOp) → Type 0
+IsToldBy held told = IfSome told (λ ops. ops ≡ operations held)

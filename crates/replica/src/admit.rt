@@ -35,11 +35,12 @@ pub fn extend(
     requires fit { LaterFit rest }
     requires room { length graph.old + 1 + length (later_ops rest) < 2 ^ 32 }
     requires cut { is_critical (graph.old ++ chain_from first.now (later_ops rest)) (length graph.old) ≡ true }
-    requires text_fit { AllFit text.old changes.now }
-    requires short { AllStayShort text.old changes.now }
+    requires text_fit { AllFit text.old.characters changes.now }
+    requires short { AllStayShort text.old.characters changes.now }
     ensures graph { OnOk result (graph.new ≡ graph.old ++ chain_from first.now (later_ops rest.entry)) }
-    ensures text { OnOk result (text.new ≡ changed_by_all changes.now text.old) }
-    ensures lengths { OnOk result (lengths.new.items ≡ lengths.old.items ++ lengths_through text.old changes.now) }
+    ensures text { OnOk result (text.new.characters ≡ changed_by_all changes.now text.old.characters) }
+    ensures told { OnOk result (text.new.told ≡ None) }
+    ensures lengths { OnOk result (lengths.new.items ≡ lengths.old.items ++ lengths_through text.old.characters changes.now) }
     ensures same_graph { OnErr result (graph.new ≡ graph.old) }
     ensures same_text { OnErr result (text.new ≡ text.old) }
     ensures same_lengths { OnErr result (lengths.new.items ≡ lengths.old.items) }
@@ -67,11 +68,12 @@ fn grow(
     requires fit { LaterFit rest }
     requires room { length graph.old + 1 + length (later_ops rest) < 2 ^ 32 }
     requires cut { is_critical (graph.old ++ chain_from first.now (later_ops rest)) (length graph.old) ≡ true }
-    requires text_fit { AllFit text.old changes.now }
-    requires short { AllStayShort text.old changes.now }
+    requires text_fit { AllFit text.old.characters changes.now }
+    requires short { AllStayShort text.old.characters changes.now }
     ensures graph { OnOk result (graph.new ≡ graph.old ++ chain_from first.now (later_ops rest.entry)) }
-    ensures text { OnOk result (text.new ≡ changed_by_all changes.now text.old) }
-    ensures lengths { OnOk result (lengths.new.items ≡ lengths.old.items ++ lengths_through text.old changes.now) }
+    ensures text { OnOk result (text.new.characters ≡ changed_by_all changes.now text.old.characters) }
+    ensures told { OnOk result (text.new.told ≡ None) }
+    ensures lengths { OnOk result (lengths.new.items ≡ lengths.old.items ++ lengths_through text.old.characters changes.now) }
     ensures front { OnErr result (IsFront graph.old graph.new) }
     ensures still_cut { OnErr result (is_critical graph.new (length graph.old) ≡ true) }
     ensures same_text { OnErr result (text.new ≡ text.old) }

@@ -1,6 +1,6 @@
 //! A text that is made when it is asked for.
 
-ghost use Rattle.std.specs.Prelude.{◌≡◌, [], ◌++◌, length, IfOk, OnOk, OnErr, encode_utf8_all};
+ghost use Rattle.std.specs.Prelude.{◌≡◌, [], ◌++◌, length, None, Some, IfSome, IfOk, OnOk, OnErr, encode_utf8_all};
 ghost use Rattle.ew_model.specs.Operations.{changed_by_all};
 ghost use Rattle.ew_model.specs.TextLaws.{AllFit};
 ghost use Rattle.rope.specs.Lengths.{AllStayShort};
@@ -11,7 +11,8 @@ use rope::Rope;
 use std::alloc::Global;
 use std::marker::Model;
 
-/// A text. As long as nobody asks for it, it is known by the operations that make it of the empty one. Contracts see its characters.
+/// A text. As long as nobody asks for it, it is known by the operations that make it of the empty one. Contracts see its characters,
+/// and the operations that it was told by, as long as nothing else came behind them.
 #[derive(Drop)]
 pub struct LazyText {
     form: Form,
@@ -22,16 +23,20 @@ pub struct LazyText {
 enum Form {
     Made(Rope),
     /// The operations that make it of the empty text, and how many characters they leave.
-    Told { ops: Vec<TextOp>, len: u32 },
+    Told {
+        ops: Vec<TextOp>,
+        len: u32,
+        /// Whether something came behind those that it was told by.
+        grown: bool,
+    },
 }
 
 impl Model for LazyText {
-    ghost use Rattle.std.specs.Prelude.{ℕ, List};
-    ghost use Rattle.replica.specs.LazyTexts.{characters_of, IsTellable};
+    ghost use Rattle.replica.specs.LazyTexts.{ToldText, characters_of, told_of, IsTellable};
 
-    ghost Value = { List ℕ };
+    ghost Value = { ToldText };
 
-    ghost view = { λ t. characters_of t.form };
+    ghost view = { λ t. record { characters = characters_of t.form; told = told_of t.form } };
 
     ghost invariant = { λ t. IsTellable t.form };
 }
@@ -39,7 +44,7 @@ impl Model for LazyText {
 impl LazyText {
     /// The empty text.
     pub fn new(alloc: Global) -> Result<LazyText, NoMem>
-        ensures { IfOk result (λ t. t ≡ []) }
+        ensures { IfOk result (λ t. t ≡ record { characters = []; told = None }) }
     {
         let rope = Rope::new(alloc)?;
         Ok(LazyText {
@@ -52,20 +57,25 @@ impl LazyText {
         requires fit { AllFit [] ops.items }
         requires short { AllStayShort [] ops.items }
         requires long { len ≡ length (changed_by_all ops.items []) }
-        ensures { result ≡ changed_by_all ops.items [] }
+        ensures { result ≡ record { characters = changed_by_all ops.items []; told = Some ops.items } }
     {
         LazyText {
-            form: Form::Told { ops, len },
+            form: Form::Told {
+                ops,
+                len,
+                grown: false,
+            },
         }
     }
 
     /// Makes the text, if it isn't made yet, and keeps it. Where memory is wanting it is as before.
     pub fn make(&mut self, alloc: Global) -> Result<(), NoMem>
-        ensures { self.new ≡ self.old }
+        ensures characters { self.new.characters ≡ self.old.characters }
+        ensures told { IfSome self.new.told (λ ops. self.old.told ≡ Some ops) }
     {
         match &self.form {
             Form::Made(_) => Ok(()),
-            Form::Told { ops, len: _ } => {
+            Form::Told { ops, .. } => {
                 let rope = made(alloc, ops)?;
                 self.form = Form::Made(rope);
                 Ok(())
@@ -75,27 +85,54 @@ impl LazyText {
 
     /// How many characters there are.
     pub fn len(&self) -> u32
-        ensures { result ≡ length self.now }
+        ensures { result ≡ length self.now.characters }
     {
         match &self.form {
             Form::Made(rope) => rope.len(),
-            Form::Told { ops: _, len } => *len,
+            Form::Told { len, .. } => *len,
+        }
+    }
+
+    /// The operations that it was told by, as long as nothing else came behind them.
+    pub fn operations(&self) -> Option<&[TextOp]>
+        ensures { IfSome result (λ ops. self.now.told ≡ Some ops.now) }
+    {
+        match &self.form {
+            Form::Told {
+                ops,
+                grown: false,
+                ..
+            } => Some(ops.as_slice()),
+            Form::Told { grown: true, .. } | Form::Made(_) => None,
+        }
+    }
+
+    /// Something comes behind the operations that it was told by, and leaves the text as it is.
+    pub fn grow(&mut self)
+        ensures characters { self.new.characters ≡ self.old.characters }
+        ensures told { self.new.told ≡ None }
+    {
+        match &mut self.form {
+            Form::Made(_) => {}
+            Form::Told { grown, .. } => *grown = true,
         }
     }
 
     /// Does operations to the text, which leave `after` characters. Where memory is wanting the text is as before.
     pub fn apply(&mut self, changes: &[TextOp], after: u32) -> Result<(), NoMem>
-        requires fit { AllFit self.old changes.now }
-        requires short { AllStayShort self.old changes.now }
-        requires long { after ≡ length (changed_by_all changes.now self.old) }
-        ensures ok { OnOk result (self.new ≡ changed_by_all changes.now self.old) }
+        requires fit { AllFit self.old.characters changes.now }
+        requires short { AllStayShort self.old.characters changes.now }
+        requires long { after ≡ length (changed_by_all changes.now self.old.characters) }
+        ensures ok { OnOk result (self.new.characters ≡ changed_by_all changes.now self.old.characters) }
+        ensures told { OnOk result (self.new.told ≡ None) }
         ensures err { OnErr result (self.new ≡ self.old) }
     {
         match &mut self.form {
             Form::Made(rope) => rope.apply(changes),
-            Form::Told { ops, len } => {
+            Form::Told { ops, len, grown } => {
                 ops.extend_from_slice(changes)?;
                 *len = after;
+                *grown = true;
                 Ok(())
             }
         }
@@ -103,11 +140,11 @@ impl LazyText {
 
     /// Writes the text behind the bytes, in UTF-8.
     pub fn write_to(&self, to: &mut Vec<u8>) -> Result<(), NoMem>
-        ensures { OnOk result (to.new.items ≡ to.old.items ++ encode_utf8_all self.now) }
+        ensures { OnOk result (to.new.items ≡ to.old.items ++ encode_utf8_all self.now.characters) }
     {
         match &self.form {
             Form::Made(rope) => rope.write_to(to),
-            Form::Told { ops, len: _ } => {
+            Form::Told { ops, .. } => {
                 let rope = made(*to.allocator(), ops)?;
                 rope.write_to(to)
             }

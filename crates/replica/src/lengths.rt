@@ -1,6 +1,6 @@
 //! A text, and how long it was after each operation.
 
-ghost use Rattle.std.specs.Prelude.{◌≡◌, ℕ, ◌+◌, ◌≤◌, ◌<◌, ◌^◌, [], ◌++◌, List, length, take, IfOk, OnOk, OnErr};
+ghost use Rattle.std.specs.Prelude.{◌≡◌, ℕ, ◌+◌, ◌≤◌, ◌<◌, ◌^◌, [], ◌++◌, List, length, take, None, Some, IfOk, OnOk, OnErr};
 ghost use Rattle.ew_model.specs.declared.event.Event.{Event};
 ghost use Rattle.ew_model.specs.Operations.{changed_by, changed_by_all};
 ghost use Rattle.ew_model.specs.TextLaws.{Fits, AllFit};
@@ -17,7 +17,7 @@ use std::alloc::Global;
 pub fn written(alloc: Global, ops: Vec<TextOp>) -> Result<(LazyText, Vec<u32>), NoMem>
     requires fit { AllFit [] ops.items }
     requires short { AllStayShort [] ops.items }
-    ensures text { IfOk result (λ made. made.0 ≡ changed_by_all ops.items []) }
+    ensures text { IfOk result (λ made. made.0 ≡ record { characters = changed_by_all ops.items []; told = Some ops.items }) }
     ensures lengths { IfOk result (λ made. made.1.items ≡ lengths_through [] ops.items) }
 {
     let empty = LazyText::new(alloc)?;
@@ -29,10 +29,11 @@ pub fn written(alloc: Global, ops: Vec<TextOp>) -> Result<(LazyText, Vec<u32>), 
 /// Does the operations to the text, and puts how long it is after each behind the other lengths. Where memory is wanting,
 /// the text is as before, and some of the lengths may be there.
 pub fn write(text: &mut LazyText, lengths: &mut Vec<u32>, ops: &[TextOp]) -> Result<(), NoMem>
-    requires fit { AllFit text.old ops.now }
-    requires short { AllStayShort text.old ops.now }
-    ensures text { OnOk result (text.new ≡ changed_by_all ops.now text.old) }
-    ensures lengths { OnOk result (lengths.new.items ≡ lengths.old.items ++ lengths_through text.old ops.now) }
+    requires fit { AllFit text.old.characters ops.now }
+    requires short { AllStayShort text.old.characters ops.now }
+    ensures text { OnOk result (text.new.characters ≡ changed_by_all ops.now text.old.characters) }
+    ensures told { OnOk result (text.new.told ≡ None) }
+    ensures lengths { OnOk result (lengths.new.items ≡ lengths.old.items ++ lengths_through text.old.characters ops.now) }
     ensures same_text { OnErr result (text.new ≡ text.old) }
     ensures front { OnErr result (take (length lengths.old.items) lengths.new.items ≡ lengths.old.items) }
 {
@@ -43,10 +44,10 @@ pub fn write(text: &mut LazyText, lengths: &mut Vec<u32>, ops: &[TextOp]) -> Res
 /// Puts how long the text would be after each of the operations behind the other lengths, and answers how long it would be after all.
 /// Where memory is wanting, some of the lengths may be there.
 fn push_lengths(lengths: &mut Vec<u32>, text: &LazyText, ops: &[TextOp]) -> Result<u32, NoMem>
-    requires fit { AllFit text.now ops.now }
-    requires short { AllStayShort text.now ops.now }
-    ensures ok { OnOk result (lengths.new.items ≡ lengths.old.items ++ lengths_through text.now ops.now) }
-    ensures long { IfOk result (λ len. len ≡ length (changed_by_all ops.now text.now)) }
+    requires fit { AllFit text.now.characters ops.now }
+    requires short { AllStayShort text.now.characters ops.now }
+    ensures ok { OnOk result (lengths.new.items ≡ lengths.old.items ++ lengths_through text.now.characters ops.now) }
+    ensures long { IfOk result (λ len. len ≡ length (changed_by_all ops.now text.now.characters)) }
     ensures front { OnErr result (take (length lengths.old.items) lengths.new.items ≡ lengths.old.items) }
 {
     let mut len = text.len();

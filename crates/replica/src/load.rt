@@ -10,6 +10,7 @@ ghost use Rattle.ew_model.specs.Verdicts.{first_bad};
 ghost use Rattle.transform.specs.Walking.{bad_at, walked_of};
 ghost use Rattle.replica.specs.Answers.{TellsBad};
 ghost use Rattle.replica.specs.Fronts.{IsAdmittedFront};
+ghost use Rattle.replica.specs.Keeping.{IsToldBy};
 ghost use Rattle.replica.specs.Lengths.{prefix_lengths};
 
 use crate::fault::LoadFault;
@@ -35,7 +36,8 @@ pub fn load<L: Ledger>(
     requires few { length graph.now ≤ 16777216 }
     ensures all { OnOk result (refused ≡ None) }
     ensures good { OnOk result (first_bad graph.now ≡ None) }
-    ensures text { IfOk result (λ made. made.0 ≡ text_of graph.now) }
+    ensures text { IfOk result (λ made. made.0.characters ≡ text_of graph.now) }
+    ensures told { IfOk result (λ made. IsToldBy graph.now made.0.told) }
     ensures lengths { IfOk result (λ made. made.1.items ≡ prefix_lengths graph.now) }
     ensures bad { IfErr result (λ fault. (events : List Event) → IsAdmittedFront graph.now (option_map ruling_of refused) events → TellsBad events fault) }
     ensures touches { steps.new ≤ steps.old + touches graph.now 0 }

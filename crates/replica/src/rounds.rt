@@ -57,11 +57,12 @@ pub fn round<L: Ledger>(
     steps: &mut Steps<L>,
 ) -> Result<(Desk, bool), NoMem>
     requires desk { IsDesk intake.limits.now graph.old intake.events.now intake.pool.now intake.progress.now }
-    requires kept { IsUpToDate intake.limits.now graph.old intake.pool.now text.old lengths.old.items }
+    requires kept { IsUpToDate intake.limits.now graph.old intake.pool.now text.old.characters lengths.old.items }
     requires few { length intake.events.now < 2 ^ 32 }
     ensures round { IfOk result (λ r. IsRound intake.entry.limits.now (desk_at graph.old (events_of intake.entry.pool.now) intake.entry.events.now intake.entry.progress.now) (desk_as graph.new intake.entry.events.now r.0) intake.entry.progress.now r.0.progress (drop (length graph.old) (operations graph.new)) r.1) }
     ensures desk { IfOk result (λ r. IsDesk intake.entry.limits.now graph.new intake.entry.events.now r.0.pool r.0.progress) }
-    ensures kept { IfOk result (λ r. IsUpToDate intake.entry.limits.now graph.new r.0.pool text.new lengths.new.items) }
+    ensures kept { IfOk result (λ r. IsUpToDate intake.entry.limits.now graph.new r.0.pool text.new.characters lengths.new.items) }
+    ensures told { OnOk result (text.new.told ≡ None) }
     ensures touches { IfOk result (λ r. r.1 ≡ false → steps.new ≡ steps.old + round_touches intake.entry.limits.now (desk_at graph.old (events_of intake.entry.pool.now) intake.entry.events.now intake.entry.progress.now)) }
     ensures most { steps.new ≤ steps.old + round_touches intake.entry.limits.now (desk_at graph.old (events_of intake.entry.pool.now) intake.entry.events.now intake.entry.progress.now) }
     ensures same_graph { OnErr result (graph.new ≡ graph.old) }

@@ -1,6 +1,6 @@
 //! The replica itself.
 
-ghost use Rattle.std.specs.Prelude.{◌≡◌, ◌+◌, ◌≤◌, ◌<◌, ◌^◌, List, [], ◌∷◌, ◌++◌, drop, length, take, None, Some, true, false, IfOk, IfErr, OnOk, OnErr, encode_utf8_all, ◌↔◌, IsTrue};
+ghost use Rattle.std.specs.Prelude.{◌≡◌, ◌+◌, ◌≤◌, ◌<◌, ◌^◌, List, [], ◌∷◌, ◌++◌, drop, length, take, None, Some, true, false, IfSome, IfOk, IfErr, OnOk, OnErr, encode_utf8_all, ◌↔◌, IsTrue};
 ghost use Rattle.std.specs.List.{All};
 ghost use Rattle.std.specs.Option.{option_and_then};
 ghost use Rattle.std.specs.Str.{chars};
@@ -14,6 +14,7 @@ ghost use Rattle.ew_model.specs.declared.id.Id.{Id};
 ghost use Rattle.ew_model.specs.Ids.{id_cmp};
 ghost use Rattle.ew_model.specs.Writable.{IsWritable};
 ghost use Rattle.ew_model.specs.Kept.{IsKept, is_awaited};
+ghost use Rattle.ew_model.specs.Operations.{operations};
 ghost use Rattle.ew_model.specs.Rounds.{after_out_of_range, most_touches, round_touches, rounds_touches};
 ghost use Rattle.ew_model.specs.Sets.{SameElements};
 ghost use Rattle.ew_model.specs.Sorting.{sort_by};
@@ -26,7 +27,7 @@ ghost use Rattle.replica.specs.Answers.{EditsBy, Loads, refusal_of};
 ghost use Rattle.replica.specs.Appending.{CanAppend, chain_from};
 ghost use Rattle.replica.specs.Desks.{desk_of_replica, IsBegun};
 ghost use Rattle.replica.specs.Editing.{edit_view};
-ghost use Rattle.replica.specs.Keeping.{head_positions};
+ghost use Rattle.replica.specs.Keeping.{head_positions, IsToldBy};
 ghost use Rattle.replica.specs.Later.{later_ops, LaterFit};
 ghost use Rattle.replica.specs.Lengths.{prefix_lengths};
 ghost use Rattle.replica.specs.Marking.{CanMark};
@@ -94,13 +95,13 @@ impl Drop for Replica {
 impl Model for Replica {
     ghost use Rattle.waiting_pool.specs.Waiting.{events_of};
     ghost use Rattle.ew_model.specs.Kept.{ReplicaState};
-    ghost use Rattle.replica.specs.Keeping.{IsUpToDate};
+    ghost use Rattle.replica.specs.Keeping.{IsToldBy, IsUpToDate};
 
     ghost Value = { ReplicaState };
 
     ghost view = { λ r. record { limits = r.limits; held = r.graph; waiting = events_of r.pool } };
 
-    ghost invariant = { λ r. IsUpToDate r.limits r.graph r.pool r.text r.lengths.items };
+    ghost invariant = { λ r. IsUpToDate r.limits r.graph r.pool r.text.characters r.lengths.items × IsToldBy r.graph r.text.told };
 }
 
 impl Replica {
@@ -142,7 +143,8 @@ impl Replica {
     ) -> Result<Replica, NoMem>
         requires good { first_bad graph ≡ None }
         requires few { length graph ≤ limits.events }
-        requires text { text ≡ text_of graph }
+        requires text { text.characters ≡ text_of graph }
+        requires told { IsToldBy graph text.told }
         requires lengths { lengths.items ≡ prefix_lengths graph }
         ensures { IfOk result (λ r. r ≡ record { limits = limits; held = graph; waiting = [] }) }
     {
@@ -303,6 +305,14 @@ impl Replica {
         ensures err { OnErr result (self.new ≡ self.old) }
     {
         self.text.make(self.alloc)
+    }
+
+    /// What each of the events held does to the text of those before it, in order, where that is still known: of a replica that was
+    /// loaded, as long as nothing was received or made since, nor its text.
+    pub fn operations(&self) -> Option<&[TextOp]>
+        ensures { IfSome result (λ ops. ops.now ≡ operations self.now.held) }
+    {
+        self.text.operations()
     }
 
     /// The text, in UTF-8.
@@ -582,6 +592,7 @@ impl Replica {
         let _most = self.limits.events();
         let len = self.text.len();
         extend_marks(&mut self.graph, &mut self.lengths, len, made)?;
+        self.text.grow();
         Ok(made.len() as u32)
     }
 }

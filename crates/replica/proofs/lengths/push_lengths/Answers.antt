@@ -8,27 +8,27 @@ use Rattle.replica.proofs.lengths.push_lengths.Goals as goal
 use Rattle.replica.proofs.lengths.push_lengths.Goals.{In-loop-op}
 
 -- where the next operation comes
-next : (c : In-loop-op) → IsOnTheWay c.loop-op.len c.loop-op.lengths.items (get_or c.args.ops.now c.loop-op.op-index (Ins 0 0) ∷ drop (c.loop-op.op-index + 1) c.args.ops.now) (c.args.lengths.now.items ++ lengths_through c.args.text.now c.args.ops.now) (changed_by_all c.args.ops.now c.args.text.now)
-next c = at_next c.loop-op.len c.loop-op.lengths.items (c.args.lengths.now.items ++ lengths_through c.args.text.now c.args.ops.now) (changed_by_all c.args.ops.now c.args.text.now) c.args.ops.now c.loop-op.op-index (Ins 0 0) c.loop-op-test.true c.loop-op.invariant.left
+next : (c : In-loop-op) → IsOnTheWay c.loop-op.len c.loop-op.lengths.items (get_or c.args.ops.now c.loop-op.op-index (Ins 0 0) ∷ drop (c.loop-op.op-index + 1) c.args.ops.now) (c.args.lengths.now.items ++ lengths_through c.args.text.now.characters c.args.ops.now) (changed_by_all c.args.ops.now c.args.text.now.characters)
+next c = at_next c.loop-op.len c.loop-op.lengths.items (c.args.lengths.now.items ++ lengths_through c.args.text.now.characters c.args.ops.now) (changed_by_all c.args.ops.now c.args.text.now.characters) c.args.ops.now c.loop-op.op-index (Ins 0 0) c.loop-op-test.true c.loop-op.invariant.left
 
 pub length_after-len-requires-clause-fits : goal.length_after-len-requires-clause-fits
 length_after-len-requires-clause-fits c =
-    (next_fits c.loop-op.len c.loop-op.lengths.items (c.args.lengths.now.items ++ lengths_through c.args.text.now c.args.ops.now) (changed_by_all c.args.ops.now c.args.text.now) (get_or c.args.ops.now c.loop-op.op-index (Ins 0 0)) (drop (c.loop-op.op-index + 1) c.args.ops.now) (next c)).0
+    (next_fits c.loop-op.len c.loop-op.lengths.items (c.args.lengths.now.items ++ lengths_through c.args.text.now.characters c.args.ops.now) (changed_by_all c.args.ops.now c.args.text.now.characters) (get_or c.args.ops.now c.loop-op.op-index (Ins 0 0)) (drop (c.loop-op.op-index + 1) c.args.ops.now) (next c)).0
 
 pub length_after-len-requires-clause-room : goal.length_after-len-requires-clause-room
 length_after-len-requires-clause-room c =
-    (next_fits c.loop-op.len c.loop-op.lengths.items (c.args.lengths.now.items ++ lengths_through c.args.text.now c.args.ops.now) (changed_by_all c.args.ops.now c.args.text.now) (get_or c.args.ops.now c.loop-op.op-index (Ins 0 0)) (drop (c.loop-op.op-index + 1) c.args.ops.now) (next c)).1
+    (next_fits c.loop-op.len c.loop-op.lengths.items (c.args.lengths.now.items ++ lengths_through c.args.text.now.characters c.args.ops.now) (changed_by_all c.args.ops.now c.args.text.now.characters) (get_or c.args.ops.now c.loop-op.op-index (Ins 0 0)) (drop (c.loop-op.op-index + 1) c.args.ops.now) (next c)).1
 
 pub loop-op-init : goal.loop-op-init
 loop-op-init c = record {
   begun = ([], sym (append-nil c.args.lengths.now.items));
-  left = record { now = c.args.text.now; long = sym c.len-len.ensures; fit = c.requires.fit; short = c.requires.short; rest = refl; ends = refl };
+  left = record { now = c.args.text.now.characters; long = sym c.len-len.ensures; fit = c.requires.fit; short = c.requires.short; rest = refl; ends = refl };
 }
 
 pub loop-op-preserved : goal.loop-op-preserved
 loop-op-preserved c =
-    let all = c.args.lengths.now.items ++ lengths_through c.args.text.now c.args.ops.now in
-    let end = changed_by_all c.args.ops.now c.args.text.now in
+    let all = c.args.lengths.now.items ++ lengths_through c.args.text.now.characters c.args.ops.now in
+    let end = changed_by_all c.args.ops.now c.args.text.now.characters in
     let left = drop (c.loop-op.op-index + 1) c.args.ops.now in
     let begun = c.loop-op.invariant.begun in
     record {
@@ -40,11 +40,11 @@ loop-op-preserved c =
 
 pub returns-clause-ok : goal.returns-clause-ok
 returns-clause-ok c =
-    (at_end c.loop-op.len c.loop-op.lengths.items (c.args.lengths.now.items ++ lengths_through c.args.text.now c.args.ops.now) (changed_by_all c.args.ops.now c.args.text.now) c.args.ops.now c.loop-op.op-index c.loop-op-test.false c.loop-op.invariant.left).0
+    (at_end c.loop-op.len c.loop-op.lengths.items (c.args.lengths.now.items ++ lengths_through c.args.text.now.characters c.args.ops.now) (changed_by_all c.args.ops.now c.args.text.now.characters) c.args.ops.now c.loop-op.op-index c.loop-op-test.false c.loop-op.invariant.left).0
 
 pub returns-clause-long : goal.returns-clause-long
 returns-clause-long c =
-    (at_end c.loop-op.len c.loop-op.lengths.items (c.args.lengths.now.items ++ lengths_through c.args.text.now c.args.ops.now) (changed_by_all c.args.ops.now c.args.text.now) c.args.ops.now c.loop-op.op-index c.loop-op-test.false c.loop-op.invariant.left).1
+    (at_end c.loop-op.len c.loop-op.lengths.items (c.args.lengths.now.items ++ lengths_through c.args.text.now.characters c.args.ops.now) (changed_by_all c.args.ops.now c.args.text.now.characters) c.args.ops.now c.loop-op.op-index c.loop-op-test.false c.loop-op.invariant.left).1
 
 pub returns-in_err-push-clause-front : goal.returns-in_err-push-clause-front
 returns-in_err-push-clause-front c =

@@ -6,7 +6,8 @@ use Rattle.replica.specs.Appending.{CanAppend, chain_from}
 use Rattle.replica.specs.Later.{later_ops}
 use Rattle.replica.specs.Lengths.{lengths_through}
 use Rattle.replica.proofs.Appends.{appended}
-use Rattle.replica.proofs.Beginnings.{same_kept}
+use Rattle.replica.proofs.Beginnings.{none_told, same_kept, same_told}
+use Rattle.replica.specs.LazyTexts.{ToldText}
 use Rattle.replica.proofs.Chains.{chain_room}
 use Rattle.replica.proofs.state.Replica.append.Goals as goal
 
@@ -14,8 +15,10 @@ use Rattle.replica.proofs.state.Replica.append.Goals as goal
 pub invariant_of-self : goal.invariant_of-self
 invariant_of-self c =
     let inside = c.self.inside in
-    let told = c.in_err-extend.ensures in
-    same_kept inside.limits inside.graph _ inside.pool _ inside.text _ inside.lengths.items _ told.same_graph refl told.same_text told.same_lengths c.self.invariant
+    let told = c.in_err-extend.ensures in (
+      same_kept inside.limits inside.graph _ inside.pool _ inside.text.characters _ inside.lengths.items _ told.same_graph refl (ap (λ (t : ToldText). t.characters) told.same_text) told.same_lengths c.self.invariant.0,
+      same_told inside.graph _ inside.text _ told.same_graph told.same_text c.self.invariant.1,
+    )
 
 -- all of it was done
 pub invariant_of-self-2 : goal.invariant_of-self-2
@@ -24,9 +27,11 @@ invariant_of-self-2 c =
     let made = chain_from c.args.first.now (later_ops c.args.rest) in
     let changes = c.args.changes.now in
     let told = c.in_ok-extend.ensures in
-    let can : CanAppend inside.limits inside.graph (events_of inside.pool) made changes = subst (λ (s : ReplicaState). CanAppend s.limits s.held s.waiting made changes) (sym c.self.view_is) c.requires.can in
-    same_kept inside.limits (inside.graph ++ made) _ inside.pool _ (changed_by_all changes inside.text) _ (inside.lengths.items ++ lengths_through inside.text changes) _ told.graph refl told.text told.lengths
-    (appended inside.limits inside.graph inside.pool made changes inside.text inside.lengths.items c.self.invariant can)
+    let can : CanAppend inside.limits inside.graph (events_of inside.pool) made changes = subst (λ (s : ReplicaState). CanAppend s.limits s.held s.waiting made changes) (sym c.self.view_is) c.requires.can in (
+      same_kept inside.limits (inside.graph ++ made) _ inside.pool _ (changed_by_all changes inside.text.characters) _ (inside.lengths.items ++ lengths_through inside.text.characters changes) _ told.graph refl told.text told.lengths
+          (appended inside.limits inside.graph inside.pool made changes inside.text.characters inside.lengths.items c.self.invariant.0 can),
+      none_told _ _ told.told,
+    )
 
 -- there is room for all
 pub extend-requires-clause-room : goal.extend-requires-clause-room

@@ -25,7 +25,7 @@ pub returns-then-size-eq0-clause-text : goal.returns-then-size-eq0-clause-text
 returns-then-size-eq0-clause-text c =
     let edit = edit_view c.args.edit.now in
     let now = c.args.self.now in
-    let good : IsGood now.held = subst (λ (s : ReplicaState). IsGood s.held) c.self.view_is c.self.invariant.kept.orderly.good in
+    let good : IsGood now.held = subst (λ (s : ReplicaState). IsGood s.held) c.self.view_is c.self.invariant.0.kept.orderly.good in
     text_after c.args.agent edit now now 0 good
     (nothing_made c.args.agent edit now (view_of_text now.held c.args.agent c.args.edit.now) (refusal_is now.limits now.held c.args.agent edit (view_of_text now.held c.args.agent c.args.edit.now) ∙ sym c.in_default.ensures) (sym c.size.ensures ∙ c.if-size-eq0.true))
 
@@ -33,7 +33,7 @@ pub ops-op-requires-clause-small : goal.ops-op-requires-clause-small
 ops-op-requires-clause-small c =
     let edit = edit_view c.args.edit.now in
     let now = c.args.self.now in
-    let kept : IsKept now.limits now.held now.waiting = subst (λ (s : ReplicaState). IsKept s.limits s.held s.waiting) c.self.view_is c.self.invariant.kept in
+    let kept : IsKept now.limits now.held now.waiting = subst (λ (s : ReplicaState). IsKept s.limits s.held s.waiting) c.self.view_is c.self.invariant.0.kept in
     let most = ap (λ (s : ReplicaState). s.limits.events) c.self.view_is in
     let few : now.limits.events ≤ 16777216 = omega (arith, most, c.events-most.ensures.range.few_events) in
     let none = refusal_is now.limits now.held c.args.agent edit (view_of_text now.held c.args.agent c.args.edit.now) ∙ sym c.in_default.ensures in
@@ -64,6 +64,6 @@ returns-clause-text c =
     let now = c.args.self.now in
     let rest = ops_of c.ops-op.result.1 in
     let none : edit_refusal now.limits now.held c.args.agent edit ≡ None = refusal_is now.limits now.held c.args.agent edit (view_of_text now.held c.args.agent c.args.edit.now) ∙ sym c.in_default.ensures in
-    let good : IsGood now.held = subst (λ (s : ReplicaState). IsGood s.held) c.self.view_is c.self.invariant.kept.orderly.good in
+    let good : IsGood now.held = subst (λ (s : ReplicaState). IsGood s.held) c.self.view_is c.self.invariant.0.kept.orderly.good in
     text_after c.args.agent edit now c.append.new.self c.in_ok-n.n good
     (some_made c.args.agent edit now c.append.new.self (chain_from c.in_ok-first.first rest) c.in_ok-n.n none (c.in_ok-first.ensures.events rest c.ops-op.ensures.ops) c.in_ok-n.ensures.ok c.in_ok-n.ensures.count)

@@ -7,7 +7,7 @@ pub overflow_cast-result : goal.overflow_cast-result
 overflow_cast-result c =
     let now = c.self.inside.graph in
     let many = ap length (c.as_slice.ensures.heads ∙ c.frontier.ensures) in
-    omega (arith, many, length-head_positions now, few_heads now, c.self.invariant.kept.few, c.events-most.ensures.range.few_events)
+    omega (arith, many, length-head_positions now, few_heads now, c.self.invariant.0.kept.few, c.events-most.ensures.range.few_events)
 
 pub returns : goal.returns
 returns c =

@@ -13,7 +13,7 @@ pub changes-requires : goal.changes-requires
 changes-requires c =
     let edit = edit_view c.args.edit.now in
     let none = not_refused c.args.agent edit _ c.args.self.now c.self.view_is c.requires.allowed in
-    let small = edit_is_small c.self.inside.limits c.self.inside.graph (events_of c.self.inside.pool) c.args.agent edit c.self.invariant.kept c.events-most.ensures.range.few_events none in
+    let small = edit_is_small c.self.inside.limits c.self.inside.graph (events_of c.self.inside.pool) c.args.agent edit c.self.invariant.0.kept c.events-most.ensures.range.few_events none in
     omega (arith, small.0, small.1)
 
 -- the events are those of the edit
@@ -36,6 +36,6 @@ returns-clause-can c =
     let none = not_refused c.args.agent edit _ c.args.self.now c.self.view_is c.requires.allowed in
     let changes : c.in_ok-changes.changes.items ≡ map own_change (ops_of edit) = c.in_ok-changes.ensures in
     let can : CanAppend c.self.inside.limits held waiting (events_of_edit held c.args.agent edit) (map own_change (ops_of edit)) =
-    can_append c.self.inside.limits held waiting c.args.agent edit (view_of_text held c.args.agent c.args.edit.now) c.self.invariant.kept awaited c.events-most.ensures.range.few_events none in
+    can_append c.self.inside.limits held waiting c.args.agent edit (view_of_text held c.args.agent c.args.edit.now) c.self.invariant.0.kept awaited c.events-most.ensures.range.few_events none in
     let all : CanAppend c.self.inside.limits held waiting (events_of_edit held c.args.agent edit) c.in_ok-changes.changes.items = rw changes can in
     subst (λ (s : ReplicaState). CanAppend s.limits s.held s.waiting (events_of_edit s.held c.args.agent edit) c.in_ok-changes.changes.items) c.self.view_is all

@@ -17,7 +17,7 @@ is_made agent label inside now made same is = is ∙ ap (λ (s : ReplicaState). 
 pub returns-then-len-room-clause-edits : goal.returns-then-len-room-clause-edits
 returns-then-len-room-clause-edits g c =
     let now = c.args.self.now in
-    let kept : IsKept now.limits now.held now.waiting = subst (λ (s : ReplicaState). IsKept s.limits s.held s.waiting) c.self.view_is c.self.invariant.kept in
+    let kept : IsKept now.limits now.held now.waiting = subst (λ (s : ReplicaState). IsKept s.limits s.held s.waiting) c.self.view_is c.self.invariant.0.kept in
     let made = is_made c.args.agent c.args.label _ now c.in_ok-made.made.items c.self.view_is c.in_ok-made.ensures in
     let full =
     mark_full now.limits now.held c.args.agent c.args.label c.in_ok-made.made.items kept.orderly.good made
@@ -27,7 +27,7 @@ returns-then-len-room-clause-edits g c =
 pub append_marks-requires : goal.append_marks-requires
 append_marks-requires g c =
     let now = c.args.self.now in
-    let kept : IsKept now.limits now.held now.waiting = subst (λ (s : ReplicaState). IsKept s.limits s.held s.waiting) c.self.view_is c.self.invariant.kept in
+    let kept : IsKept now.limits now.held now.waiting = subst (λ (s : ReplicaState). IsKept s.limits s.held s.waiting) c.self.view_is c.self.invariant.0.kept in
     let made = is_made c.args.agent c.args.label _ now c.in_ok-made.made.items c.self.view_is c.in_ok-made.ensures in
     let none =
     mark_allowed now.limits now.held c.args.agent c.args.label c.in_ok-made.made.items kept.orderly.good made
@@ -37,7 +37,7 @@ append_marks-requires g c =
 pub returns-clause-edits : goal.returns-clause-edits
 returns-clause-edits g c =
     let now = c.args.self.now in
-    let kept : IsKept now.limits now.held now.waiting = subst (λ (s : ReplicaState). IsKept s.limits s.held s.waiting) c.self.view_is c.self.invariant.kept in
+    let kept : IsKept now.limits now.held now.waiting = subst (λ (s : ReplicaState). IsKept s.limits s.held s.waiting) c.self.view_is c.self.invariant.0.kept in
     let made = is_made c.args.agent c.args.label _ now c.in_ok-made.made.items c.self.view_is c.in_ok-made.ensures in
     let none =
     mark_allowed now.limits now.held c.args.agent c.args.label c.in_ok-made.made.items kept.orderly.good made
@@ -47,7 +47,7 @@ returns-clause-edits g c =
 pub returns-clause-text : goal.returns-clause-text
 returns-clause-text g c =
     let now = c.args.self.now in
-    let kept : IsKept now.limits now.held now.waiting = subst (λ (s : ReplicaState). IsKept s.limits s.held s.waiting) c.self.view_is c.self.invariant.kept in
+    let kept : IsKept now.limits now.held now.waiting = subst (λ (s : ReplicaState). IsKept s.limits s.held s.waiting) c.self.view_is c.self.invariant.0.kept in
     let made = is_made c.args.agent c.args.label _ now c.in_ok-made.made.items c.self.view_is c.in_ok-made.ensures in
     let none =
     mark_allowed now.limits now.held c.args.agent c.args.label c.in_ok-made.made.items kept.orderly.good made

@@ -7,7 +7,7 @@ use Rattle.replica.proofs.state.Replica.text_at.Goals as goal
 
 pub text_at-requires-clause-few : goal.text_at-requires-clause-few
 text_at-requires-clause-few g c =
-    omega (arith, c.self.invariant.kept.few, c.events-most.ensures.range.few_events, ap (length {A = Event}) c.graph.ensures.graph, ap (λ (r : ReplicaState). length r.held) c.self.view_is)
+    omega (arith, c.self.invariant.0.kept.few, c.events-most.ensures.range.few_events, ap (length {A = Event}) c.graph.ensures.graph, ap (λ (r : ReplicaState). length r.held) c.self.view_is)
 
 pub returns-clause-unknown : goal.returns-clause-unknown
 returns-clause-unknown g c =
