@@ -23,6 +23,9 @@ pub fn replay_text<L: Ledger>(
     ensures text { IfOk result (λ text. text.items ≡ model.replay_text replica.now.held) }
     ensures touches { steps.new ≤ steps.old + touches replica.now.held 0 }
 {
+    if let Some(ops) = replica.operations() {
+        return changes_text(alloc, ops);
+    }
     let ops = replay(alloc, replica.graph(), steps)?;
     changes_text(alloc, ops.as_slice())
 }
