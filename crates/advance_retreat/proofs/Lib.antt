@@ -10,6 +10,8 @@ pub mod Hanging
 pub mod Inserting
 pub mod Keeping
 pub mod LooseEvents
+pub mod LineMoves
+pub mod LineSteps
 pub mod Losses
 pub mod Marking
 pub mod Moving

@@ -28,6 +28,16 @@ range_parted low mid high le more =
 pub falling_parted : (low mid high : ℕ) → low ≤ mid → mid ≤ high → reverse (range_with_len low (high - low)) ≡ reverse (range_with_len mid (high - mid)) ++ reverse (range_with_len low (mid - low))
 falling_parted low mid high le more = ap reverse (range_parted low mid high le more) ∙ reverse-append (range_with_len low (mid - low)) (range_with_len mid (high - mid))
 
+pub front_parted : (low n high : ℕ) → low + n ≤ high → range_with_len low (high - low) ≡ range_with_len low n ++ range_with_len (low + n) (high - (low + n))
+front_parted low n high le =
+    let long : (low + n) - low ≡ n = omega arith in
+    range_parted low (low + n) high (omega arith) le ∙ ap (λ (k : ℕ). range_with_len low k ++ range_with_len (low + n) (high - (low + n))) long
+
+pub back_parted : (low mid n high : ℕ) → low ≤ mid → mid + n ≡ high → reverse (range_with_len low (high - low)) ≡ reverse (range_with_len mid n) ++ reverse (range_with_len low (mid - low))
+back_parted low mid n high le on =
+    let long : high - mid ≡ n = omega (arith, on) in
+    falling_parted low mid high le (omega (arith, on)) ∙ ap (λ (k : ℕ). reverse (range_with_len mid k) ++ reverse (range_with_len low (mid - low))) long
+
 pub falling_more : (from n : ℕ) → reverse (range_with_len from (suc n)) ≡ (from + n) ∷ reverse (range_with_len from n)
 falling_more from n =
     let more : suc n ≡ n + 1 = omega arith in
@@ -48,6 +58,19 @@ same_records s low high change le = ap (with_records s) (none_among change (is_e
 
 abbrev pub AreTold : Kept → ℕ → ℕ → Type 0
 AreTold s low high = (n : ℕ) → low ≤ n → n < high → target_at s.targets n ≡ Some (Event n)
+
+-- so many events from one on are about characters that go up with them, from c on, or down, to c
+abbrev pub GoUp : Kept → ℕ → ℕ → ℕ → Type 0
+GoUp s low c n = (i m k : ℕ) → i < n → m ≡ low + i → k ≡ c + i → target_at s.targets m ≡ Some (Event k)
+
+abbrev pub GoDown : Kept → ℕ → ℕ → ℕ → Type 0
+GoDown s low c n = (i m k : ℕ) → i < n → m ≡ low + i → k + i + 1 ≡ c + n → target_at s.targets m ≡ Some (Event k)
+
+-- insertions do, with their own
+own_go_up : (s : Kept) (low from high : ℕ) → AreTold s from high → (n : ℕ) → from ≤ low → low + n ≤ high → GoUp s low low n
+own_go_up s low from high told n le more i m k lt e f =
+    let same : m ≡ k = omega (arith, e, f) in
+    subst (λ (j : ℕ). target_at s.targets m ≡ Some (Event j)) same (told m (omega (arith, e, le)) (omega (arith, e, lt, more)))
 
 -- MOVES IN PARTS
 pub advances-append : (prepared xs ys : List ℕ) → after_advances prepared (xs ++ ys) ≡ after_advances (after_advances prepared xs) ys
@@ -120,24 +143,55 @@ module _ (b : ℕ) (events : List (Applied ℕ)) (prepared all : List ℕ) where
 
 module _ (b : ℕ) (events : List (Applied ℕ)) where
   -- ADVANCES
-  advance_all : (n low high : ℕ) (s : Kept) (prepared rest : List ℕ) → low + n ≡ high → StandsFor s b events prepared → AreTold s low high → MayAdvanceEach events prepared (range_with_len low n ++ rest)
-      → Advanced (changed_span s low high Raise) b events prepared (range_with_len low n ++ rest) rest
-  advance_all zero low high s prepared rest long st told may =
-      subst (λ (t : Kept). Advanced t b events prepared rest rest) (sym (same_records s low high Raise (omega (arith, long)))) (record { made = []; parts = refl; now = prepared; is = refl; stands = st; may = may })
-  advance_all (suc n) low high s prepared rest long st told may =
-      let one = changed_state s (Event low) Raise in
-      let stands : StandsFor one b events (low ∷ prepared) = advanced_by s b events prepared st low (Event low) (told low (omega arith) (omega (arith, long))) may.0.0 may.0.1 in
-      let later = advance_all n (low + 1) high one (low ∷ prepared) rest (omega (arith, long)) stands (λ k le lt. told k (omega (arith, le)) lt) may.1 in
-      let records = in_turn Raise (is_event_in low high) (λ v. node_eq v (Event low)) (is_event_in (low + 1) high) (event_low low high (omega (arith, long))) (low_apart low high) s.records in
+  -- events whose characters go up with them, from c on
+  advance_up : (n low c high : ℕ) (s : Kept) (prepared rest : List ℕ) → c + n ≡ high → StandsFor s b events prepared → GoUp s low c n → MayAdvanceEach events prepared (range_with_len low n ++ rest)
+      → Advanced (changed_span s c high Raise) b events prepared (range_with_len low n ++ rest) rest
+  advance_up zero low c high s prepared rest long st told may =
+      subst (λ (t : Kept). Advanced t b events prepared rest rest) (sym (same_records s c high Raise (omega (arith, long)))) (record { made = []; parts = refl; now = prepared; is = refl; stands = st; may = may })
+  advance_up (suc n) low c high s prepared rest long st told may =
+      let one = changed_state s (Event c) Raise in
+      let stands : StandsFor one b events (low ∷ prepared) = advanced_by s b events prepared st low (Event c) (told 0 low c (omega arith) (omega arith) (omega arith)) may.0.0 may.0.1 in
+      let later = advance_up n (low + 1) (c + 1) high one (low ∷ prepared) rest (omega (arith, long)) stands (λ i m k lt e f. told (i + 1) m k (omega (arith, lt)) (omega (arith, e)) (omega (arith, f))) may.1 in
+      let records = in_turn Raise (is_event_in c high) (λ v. node_eq v (Event c)) (is_event_in (c + 1) high) (event_low c high (omega (arith, long))) (low_apart c high) s.records in
       subst (λ (t : Kept). Advanced t b events prepared (low ∷ (range_with_len (low + 1) n ++ rest)) rest) (ap (with_records s) records)
       (record { made = low ∷ later.made; parts = ap (λ (ps : List ℕ). low ∷ ps) later.parts; now = later.now; is = later.is; stands = later.stands; may = later.may })
+
+  -- events whose characters go down, to c
+  advance_down : (n low c : ℕ) (s : Kept) (prepared rest : List ℕ) → StandsFor s b events prepared → GoDown s low c n → MayAdvanceEach events prepared (range_with_len low n ++ rest)
+      → Advanced (changed_span s c (c + n) Raise) b events prepared (range_with_len low n ++ rest) rest
+  advance_down zero low c s prepared rest st told may =
+      subst (λ (t : Kept). Advanced t b events prepared rest rest) (sym (same_records s c (c + 0) Raise (omega arith))) (record { made = []; parts = refl; now = prepared; is = refl; stands = st; may = may })
+  advance_down (suc n) low c s prepared rest st told may =
+      let top = c + n in
+      let next : c + suc n ≡ top + 1 = omega arith in
+      let one = changed_state s (Event top) Raise in
+      let stands : StandsFor one b events (low ∷ prepared) = advanced_by s b events prepared st low (Event top) (told 0 low top (omega arith) (omega arith) (omega arith)) may.0.0 may.0.1 in
+      let later = advance_down n (low + 1) c one (low ∷ prepared) rest stands (λ i m k lt e f. told (i + 1) m k (omega (arith, lt)) (omega (arith, e)) (omega (arith, f))) may.1 in
+      let records = in_turn Raise (is_event_in c (top + 1)) (λ v. node_eq v (Event top)) (is_event_in c top) (event_high c top (omega arith)) (high_apart c top) s.records in
+      subst (λ (k : ℕ). Advanced (changed_span s c k Raise) b events prepared (low ∷ (range_with_len (low + 1) n ++ rest)) rest) (sym next)
+      (subst (λ (t : Kept). Advanced t b events prepared (low ∷ (range_with_len (low + 1) n ++ rest)) rest) (ap (with_records s) records)
+      (record { made = low ∷ later.made; parts = ap (λ (ps : List ℕ). low ∷ ps) later.parts; now = later.now; is = later.is; stands = later.stands; may = later.may }))
+
+  pub advance_front_up : (s : Kept) (prepared : List ℕ) (low n high c : ℕ) → low + n ≤ high → StandsFor s b events prepared → GoUp s low c n → MayAdvanceEach events prepared (range_with_len low (high - low))
+      → Advanced (changed_span s c (c + n) Raise) b events prepared (range_with_len low (high - low)) (range_with_len (low + n) (high - (low + n)))
+  advance_front_up s prepared low n high c le st told may =
+      let parts = front_parted low n high le in
+      subst (λ (ps : List ℕ). Advanced (changed_span s c (c + n) Raise) b events prepared ps (range_with_len (low + n) (high - (low + n)))) (sym parts)
+      (advance_up n low c (c + n) s prepared (range_with_len (low + n) (high - (low + n))) refl st told (subst (MayAdvanceEach events prepared) parts may))
+
+  pub advance_front_down : (s : Kept) (prepared : List ℕ) (low n high c : ℕ) → low + n ≤ high → StandsFor s b events prepared → GoDown s low c n → MayAdvanceEach events prepared (range_with_len low (high - low))
+      → Advanced (changed_span s c (c + n) Raise) b events prepared (range_with_len low (high - low)) (range_with_len (low + n) (high - (low + n)))
+  advance_front_down s prepared low n high c le st told may =
+      let parts = front_parted low n high le in
+      subst (λ (ps : List ℕ). Advanced (changed_span s c (c + n) Raise) b events prepared ps (range_with_len (low + n) (high - (low + n)))) (sym parts)
+      (advance_down n low c s prepared (range_with_len (low + n) (high - (low + n))) st told (subst (MayAdvanceEach events prepared) parts may))
 
   pub advance_run : (s : Kept) (prepared : List ℕ) (low mid high : ℕ) → low ≤ mid → mid ≤ high → StandsFor s b events prepared → AreTold s low mid → MayAdvanceEach events prepared (range_with_len low (high - low))
       → Advanced (changed_span s low mid Raise) b events prepared (range_with_len low (high - low)) (range_with_len mid (high - mid))
   advance_run s prepared low mid high le more st told may =
       let parts = range_parted low mid high le more in
       subst (λ (ps : List ℕ). Advanced (changed_span s low mid Raise) b events prepared ps (range_with_len mid (high - mid))) (sym parts)
-      (advance_all (mid - low) low mid s prepared (range_with_len mid (high - mid)) (omega (arith, le)) st told (subst (MayAdvanceEach events prepared) parts may))
+      (advance_up (mid - low) low low mid s prepared (range_with_len mid (high - mid)) (omega (arith, le)) st (own_go_up s low low mid told (mid - low) (omega arith) (omega (arith, le))) (subst (MayAdvanceEach events prepared) parts may))
 
   pub advance_one : (t : Kept) (prepared : List ℕ) (low high : ℕ) → low < high → MayAdvanceEach events prepared (range_with_len low (high - low)) → StandsFor t b events (low ∷ prepared)
       → Advanced t b events prepared (range_with_len low (high - low)) (range_with_len (low + 1) (high - (low + 1)))
@@ -152,32 +206,63 @@ module _ (b : ℕ) (events : List (Applied ℕ)) where
       subst (StandsFor s b events) (ap (λ (n : ℕ). after_advances a.now (range_with_len low n)) none ∙ advance_whole b events prepared all s (range_with_len low (high - low)) a) a.stands
 
   -- RETREATS
-  retreat_all : (n low : ℕ) (s : Kept) (prepared rest : List ℕ) → StandsFor s b events prepared → AreTold s low (low + n) → MayRetreatEach events prepared (reverse (range_with_len low n) ++ rest)
-      → Retreated (changed_span s low (low + n) Lower) b events prepared (reverse (range_with_len low n) ++ rest) rest
-  retreat_all zero low s prepared rest st told may =
-      subst (λ (t : Kept). Retreated t b events prepared rest rest) (sym (same_records s low (low + 0) Lower (omega arith))) (record { made = []; parts = refl; now = prepared; is = refl; stands = st; may = may })
-  retreat_all (suc n) low s prepared rest st told may =
+  -- events whose characters go up with them, from c on
+  retreat_up : (n low c : ℕ) (s : Kept) (prepared rest : List ℕ) → StandsFor s b events prepared → GoUp s low c n → MayRetreatEach events prepared (reverse (range_with_len low n) ++ rest)
+      → Retreated (changed_span s c (c + n) Lower) b events prepared (reverse (range_with_len low n) ++ rest) rest
+  retreat_up zero low c s prepared rest st told may =
+      subst (λ (t : Kept). Retreated t b events prepared rest rest) (sym (same_records s c (c + 0) Lower (omega arith))) (record { made = []; parts = refl; now = prepared; is = refl; stands = st; may = may })
+  retreat_up (suc n) low c s prepared rest st told may =
       let last = low + n in
-      let next : low + suc n ≡ last + 1 = omega arith in
+      let top = c + n in
+      let next : c + suc n ≡ top + 1 = omega arith in
       let falls : reverse (range_with_len low (suc n)) ++ rest ≡ last ∷ (reverse (range_with_len low n) ++ rest) = ap (λ (ps : List ℕ). ps ++ rest) (falling_more low n) in
       let allowed = subst (MayRetreatEach events prepared) falls may in
-      let one = changed_state s (Event last) Lower in
-      let stands : StandsFor one b events (without last prepared) = retreated_by s b events prepared st last (Event last) (told last (omega arith) (omega arith)) allowed.0.0 allowed.0.1 in
-      let later = retreat_all n low one (without last prepared) rest stands (λ k le lt. told k le (omega (arith, lt))) allowed.1 in
-      let records = in_turn Lower (is_event_in low (last + 1)) (λ v. node_eq v (Event last)) (is_event_in low last) (event_high low last (omega arith)) (high_apart low last) s.records in
-      subst (λ (ps : List ℕ). Retreated (changed_span s low (low + suc n) Lower) b events prepared ps rest) (sym falls)
-      (subst (λ (k : ℕ). Retreated (changed_span s low k Lower) b events prepared (last ∷ (reverse (range_with_len low n) ++ rest)) rest) (sym next)
+      let one = changed_state s (Event top) Lower in
+      let stands : StandsFor one b events (without last prepared) = retreated_by s b events prepared st last (Event top) (told n last top (omega arith) refl refl) allowed.0.0 allowed.0.1 in
+      let later = retreat_up n low c one (without last prepared) rest stands (λ i m k lt e f. told i m k (omega (arith, lt)) e f) allowed.1 in
+      let records = in_turn Lower (is_event_in c (top + 1)) (λ v. node_eq v (Event top)) (is_event_in c top) (event_high c top (omega arith)) (high_apart c top) s.records in
+      subst (λ (ps : List ℕ). Retreated (changed_span s c (c + suc n) Lower) b events prepared ps rest) (sym falls)
+      (subst (λ (k : ℕ). Retreated (changed_span s c k Lower) b events prepared (last ∷ (reverse (range_with_len low n) ++ rest)) rest) (sym next)
       (subst (λ (t : Kept). Retreated t b events prepared (last ∷ (reverse (range_with_len low n) ++ rest)) rest) (ap (with_records s) records)
       (record { made = last ∷ later.made; parts = ap (λ (ps : List ℕ). last ∷ ps) later.parts; now = later.now; is = later.is; stands = later.stands; may = later.may })))
+
+  -- events whose characters go down, to c
+  retreat_down : (n low c high : ℕ) (s : Kept) (prepared rest : List ℕ) → c + n ≡ high → StandsFor s b events prepared → GoDown s low c n → MayRetreatEach events prepared (reverse (range_with_len low n) ++ rest)
+      → Retreated (changed_span s c high Lower) b events prepared (reverse (range_with_len low n) ++ rest) rest
+  retreat_down zero low c high s prepared rest long st told may =
+      subst (λ (t : Kept). Retreated t b events prepared rest rest) (sym (same_records s c high Lower (omega (arith, long)))) (record { made = []; parts = refl; now = prepared; is = refl; stands = st; may = may })
+  retreat_down (suc n) low c high s prepared rest long st told may =
+      let last = low + n in
+      let falls : reverse (range_with_len low (suc n)) ++ rest ≡ last ∷ (reverse (range_with_len low n) ++ rest) = ap (λ (ps : List ℕ). ps ++ rest) (falling_more low n) in
+      let allowed = subst (MayRetreatEach events prepared) falls may in
+      let one = changed_state s (Event c) Lower in
+      let stands : StandsFor one b events (without last prepared) = retreated_by s b events prepared st last (Event c) (told n last c (omega arith) refl (omega arith)) allowed.0.0 allowed.0.1 in
+      let later = retreat_down n low (c + 1) high one (without last prepared) rest (omega (arith, long)) stands (λ i m k lt e f. told i m k (omega (arith, lt)) e (omega (arith, f))) allowed.1 in
+      let records = in_turn Lower (is_event_in c high) (λ v. node_eq v (Event c)) (is_event_in (c + 1) high) (event_low c high (omega (arith, long))) (low_apart c high) s.records in
+      subst (λ (ps : List ℕ). Retreated (changed_span s c high Lower) b events prepared ps rest) (sym falls)
+      (subst (λ (t : Kept). Retreated t b events prepared (last ∷ (reverse (range_with_len low n) ++ rest)) rest) (ap (with_records s) records)
+      (record { made = last ∷ later.made; parts = ap (λ (ps : List ℕ). last ∷ ps) later.parts; now = later.now; is = later.is; stands = later.stands; may = later.may }))
+
+  pub retreat_back_up : (s : Kept) (prepared : List ℕ) (low mid n high c : ℕ) → low ≤ mid → mid + n ≡ high → StandsFor s b events prepared → GoUp s mid c n → MayRetreatEach events prepared (reverse (range_with_len low (high - low)))
+      → Retreated (changed_span s c (c + n) Lower) b events prepared (reverse (range_with_len low (high - low))) (reverse (range_with_len low (mid - low)))
+  retreat_back_up s prepared low mid n high c le on st told may =
+      let parts = back_parted low mid n high le on in
+      subst (λ (ps : List ℕ). Retreated (changed_span s c (c + n) Lower) b events prepared ps (reverse (range_with_len low (mid - low)))) (sym parts)
+      (retreat_up n mid c s prepared (reverse (range_with_len low (mid - low))) st told (subst (MayRetreatEach events prepared) parts may))
+
+  pub retreat_back_down : (s : Kept) (prepared : List ℕ) (low mid n high c : ℕ) → low ≤ mid → mid + n ≡ high → StandsFor s b events prepared → GoDown s mid c n → MayRetreatEach events prepared (reverse (range_with_len low (high - low)))
+      → Retreated (changed_span s c (c + n) Lower) b events prepared (reverse (range_with_len low (high - low))) (reverse (range_with_len low (mid - low)))
+  retreat_back_down s prepared low mid n high c le on st told may =
+      let parts = back_parted low mid n high le on in
+      subst (λ (ps : List ℕ). Retreated (changed_span s c (c + n) Lower) b events prepared ps (reverse (range_with_len low (mid - low)))) (sym parts)
+      (retreat_down n mid c (c + n) s prepared (reverse (range_with_len low (mid - low))) refl st told (subst (MayRetreatEach events prepared) parts may))
 
   pub retreat_run : (s : Kept) (prepared : List ℕ) (low mid high : ℕ) → low ≤ mid → mid ≤ high → StandsFor s b events prepared → AreTold s mid high → MayRetreatEach events prepared (reverse (range_with_len low (high - low)))
       → Retreated (changed_span s mid high Lower) b events prepared (reverse (range_with_len low (high - low))) (reverse (range_with_len low (mid - low)))
   retreat_run s prepared low mid high le more st told may =
-      let parts = falling_parted low mid high le more in
       let on : mid + (high - mid) ≡ high = omega (arith, more) in
-      subst (λ (ps : List ℕ). Retreated (changed_span s mid high Lower) b events prepared ps (reverse (range_with_len low (mid - low)))) (sym parts)
-      (subst (λ (k : ℕ). Retreated (changed_span s mid k Lower) b events prepared (reverse (range_with_len mid (high - mid)) ++ reverse (range_with_len low (mid - low))) (reverse (range_with_len low (mid - low)))) on
-      (retreat_all (high - mid) mid s prepared (reverse (range_with_len low (mid - low))) st (λ k l h. told k l (omega (arith, h, on))) (subst (MayRetreatEach events prepared) parts may)))
+      subst (λ (k : ℕ). Retreated (changed_span s mid k Lower) b events prepared (reverse (range_with_len low (high - low))) (reverse (range_with_len low (mid - low)))) on
+      (retreat_back_up s prepared low mid (high - mid) high mid le on st (own_go_up s mid mid high told (high - mid) (omega arith) (omega (arith, on))) may)
 
   pub retreat_one : (t : Kept) (prepared : List ℕ) (low last high : ℕ) → low ≤ last → last + 1 ≡ high → MayRetreatEach events prepared (reverse (range_with_len low (high - low))) → StandsFor t b events (without last prepared)
       → Retreated t b events prepared (reverse (range_with_len low (high - low))) (reverse (range_with_len low (last - low)))

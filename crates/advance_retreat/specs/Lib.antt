@@ -1,6 +1,7 @@
 pub mod Conditions
 pub mod Hanging
 pub mod Kept
+pub mod Lines
 pub mod Placing
 pub mod Refusals
 pub mod Standing

@@ -16,6 +16,7 @@
 #![tactic(auto)]
 
 mod fault;
+mod line;
 mod state;
 mod target;
 mod tree;

@@ -14,6 +14,8 @@ ghost use Rattle.advance_retreat.specs.declared.fault.ApplyFault.TheVariants as 
 ghost use Rattle.advance_retreat.specs.Kept.{with_lost, with_deletion, with_mark, target_at, AreWithin};
 ghost use Rattle.character_runs.specs.States.{HasRoom};
 ghost use Rattle.character_runs.specs.Laid.{records_in};
+ghost use Rattle.advance_retreat.specs.declared.line.Way.TheVariants as lines;
+ghost use Rattle.advance_retreat.specs.Lines.{IsLineFrom};
 ghost use Rattle.advance_retreat.specs.Standing.{most, StandsFor};
 ghost use Rattle.advance_retreat.specs.Placing.{AreInOrder, DeletesOf, IsNoDeletion};
 ghost use Rattle.advance_retreat.specs.Refusals.{lost_after, one_more};
@@ -21,6 +23,7 @@ ghost use Rattle.advance_retreat.specs.Conditions.{MayInsert, MayDelete, MayMark
 ghost use Rattle.advance_retreat.specs.Hanging.{MayHang, Puts};
 
 use crate::fault::ApplyFault;
+use crate::line::{Line, Way, behind};
 use crate::target::Targets;
 use crate::tree::Tree;
 use character_runs::{Change, Positions, Slot};
@@ -358,17 +361,27 @@ impl State {
         ensures most { steps.new ≤ steps.old + (to - from) }
     {
         let mut at = from;
+        let mut line = None;
         while at < to {
-            at = self.advance_some(Positions { from: at, to }, steps)?;
+            let here = self.line_on(line, at, Way::Up, to - at);
+            let next = self.advance_some(Positions { from: at, to }, here, steps)?;
+            line = behind(here, Way::Up, next - at);
+            at = next;
         }
         Ok(())
     }
 
     /// Puts the first of the events at these positions into the prepared version, and with it those behind it whose characters
     /// are one run with its own. Answers the position of the next.
-    fn advance_some<L: Ledger>(&mut self, at: Positions, steps: &mut Steps<L>) -> Result<u32, NoMem>
+    fn advance_some<L: Ledger>(
+        &mut self,
+        at: Positions,
+        line: Option<Line>,
+        steps: &mut Steps<L>,
+    ) -> Result<u32, NoMem>
         requires some { at.from < at.to }
         requires may { (b : ℕ) × (events : List (Applied ℕ)) × (prepared : List ℕ) × StandsFor self.old b events prepared × MayAdvanceEach events prepared (range_with_len at.from (at.to - at.from)) }
+        requires line { IfSome line (IsLineFrom lines.Up self.old.targets at.from (at.to - at.from)) }
         ensures low { IfOk result (λ next. at.from < next) }
         ensures high { IfOk result (λ next. next ≤ at.to) }
         ensures ok { (b : ℕ) (events : List (Applied ℕ)) (prepared : List ℕ) → StandsFor self.old b events prepared → MayAdvanceEach events prepared (range_with_len at.from (at.to - at.from))
@@ -378,16 +391,78 @@ impl State {
         ensures steps { IfOk result (λ next. steps.new + at.from ≡ steps.old + next) }
         ensures most { OnErr result (steps.new ≡ steps.old + 1) }
     {
-        match self.tree.change_run(at.from, at, Change::Raise) {
-            Some(moved) => {
-                tick_each(moved.to - moved.from, steps);
-                Ok(moved.to)
+        match self.raise(at, line) {
+            Some(count) => {
+                tick_each(count, steps);
+                Ok(at.from + count)
             }
             None => {
                 self.advance(at.from, steps)?;
                 Ok(at.from + 1)
             }
         }
+    }
+
+    /// The line, if there is one, or else one that begins with an event and has at most so many.
+    fn line_on(&self, line: Option<Line>, event: u32, order: Way, most: u32) -> Option<Line>
+        requires { IfSome line (IsLineFrom order self.now.targets event most) }
+        ensures { IfSome result (IsLineFrom order self.now.targets event most) }
+    {
+        self.targets.line_on(line, event, order, most)
+    }
+
+    /// Puts the first of the events at these positions into the prepared version, and with it those behind it whose characters are one
+    /// run with its own: events of the line, or, where that has none, insertions. Answers how many they are. None where it isn't so.
+    fn raise(&mut self, at: Positions, line: Option<Line>) -> Option<u32>
+        requires some { at.from < at.to }
+        requires may { (b : ℕ) × (events : List (Applied ℕ)) × (prepared : List ℕ) × StandsFor self.old b events prepared × MayAdvanceEach events prepared (range_with_len at.from (at.to - at.from)) }
+        requires line { IfSome line (IsLineFrom lines.Up self.old.targets at.from (at.to - at.from)) }
+        ensures some { IfSome result (λ n. 0 < n) }
+        ensures most { IfSome result (λ n. at.from + n ≤ at.to) }
+        ensures ok { (b : ℕ) (events : List (Applied ℕ)) (prepared : List ℕ) → StandsFor self.old b events prepared → MayAdvanceEach events prepared (range_with_len at.from (at.to - at.from))
+            → IfSome result (λ n. Advanced self.new b events prepared (range_with_len at.from (at.to - at.from)) (range_with_len (at.from + n) (at.to - (at.from + n)))) }
+        ensures none { IfNone result (self.new ≡ self.old) }
+        ensures lost { self.new.lost ≡ self.old.lost }
+    {
+        match line {
+            Some(line) => self.raise_line(at, line),
+            None if self.targets.is_own(at.from) => self.raise_own(at),
+            None => None,
+        }
+    }
+
+    /// The same for events of a line.
+    fn raise_line(&mut self, at: Positions, line: Line) -> Option<u32>
+        requires some { at.from < at.to }
+        requires may { (b : ℕ) × (events : List (Applied ℕ)) × (prepared : List ℕ) × StandsFor self.old b events prepared × MayAdvanceEach events prepared (range_with_len at.from (at.to - at.from)) }
+        requires line { IsLineFrom lines.Up self.old.targets at.from (at.to - at.from) line }
+        ensures some { IfSome result (λ n. 0 < n) }
+        ensures most { IfSome result (λ n. at.from + n ≤ at.to) }
+        ensures ok { (b : ℕ) (events : List (Applied ℕ)) (prepared : List ℕ) → StandsFor self.old b events prepared → MayAdvanceEach events prepared (range_with_len at.from (at.to - at.from))
+            → IfSome result (λ n. Advanced self.new b events prepared (range_with_len at.from (at.to - at.from)) (range_with_len (at.from + n) (at.to - (at.from + n)))) }
+        ensures none { IfNone result (self.new ≡ self.old) }
+        ensures lost { self.new.lost ≡ self.old.lost }
+    {
+        let characters = line.characters()?;
+        let moved = self
+            .tree
+            .change_run(line.character, characters, Change::Raise)?;
+        Some(moved.to - moved.from)
+    }
+
+    /// The same for insertions.
+    fn raise_own(&mut self, at: Positions) -> Option<u32>
+        requires some { at.from < at.to }
+        requires may { (b : ℕ) × (events : List (Applied ℕ)) × (prepared : List ℕ) × StandsFor self.old b events prepared × MayAdvanceEach events prepared (range_with_len at.from (at.to - at.from)) }
+        ensures some { IfSome result (λ n. 0 < n) }
+        ensures most { IfSome result (λ n. at.from + n ≤ at.to) }
+        ensures ok { (b : ℕ) (events : List (Applied ℕ)) (prepared : List ℕ) → StandsFor self.old b events prepared → MayAdvanceEach events prepared (range_with_len at.from (at.to - at.from))
+            → IfSome result (λ n. Advanced self.new b events prepared (range_with_len at.from (at.to - at.from)) (range_with_len (at.from + n) (at.to - (at.from + n)))) }
+        ensures none { IfNone result (self.new ≡ self.old) }
+        ensures lost { self.new.lost ≡ self.old.lost }
+    {
+        let moved = self.tree.change_run(at.from, at, Change::Raise)?;
+        Some(moved.to - moved.from)
     }
 
     /// Takes the events at the positions from `from` on that are below `to` out of the prepared version, one after another from
@@ -414,8 +489,12 @@ impl State {
             return Ok(());
         }
         let mut at = to;
+        let mut line = None;
         while from < at {
-            at = self.retreat_some(Positions { from, to: at }, steps)?;
+            let here = self.line_on(line, at - 1, Way::Down, at - from);
+            let next = self.retreat_some(Positions { from, to: at }, here, steps)?;
+            line = behind(here, Way::Down, at - next);
+            at = next;
         }
         Ok(())
     }
@@ -435,9 +514,15 @@ impl State {
 
     /// Takes the last of the events at these positions out of the prepared version, and with it those before it whose characters
     /// are one run with its own. Answers the first position that was taken out.
-    fn retreat_some<L: Ledger>(&mut self, at: Positions, steps: &mut Steps<L>) -> Result<u32, NoMem>
+    fn retreat_some<L: Ledger>(
+        &mut self,
+        at: Positions,
+        line: Option<Line>,
+        steps: &mut Steps<L>,
+    ) -> Result<u32, NoMem>
         requires some { at.from < at.to }
         requires may { (b : ℕ) × (events : List (Applied ℕ)) × (prepared : List ℕ) × StandsFor self.old b events prepared × MayRetreatEach events prepared (reverse (range_with_len at.from (at.to - at.from))) }
+        requires line { IfSome line (IsLineFrom lines.Down self.old.targets (at.to - 1) (at.to - at.from)) }
         ensures low { IfOk result (λ next. at.from ≤ next) }
         ensures high { IfOk result (λ next. next < at.to) }
         ensures ok { (b : ℕ) (events : List (Applied ℕ)) (prepared : List ℕ) → StandsFor self.old b events prepared → MayRetreatEach events prepared (reverse (range_with_len at.from (at.to - at.from)))
@@ -448,16 +533,70 @@ impl State {
         ensures most { OnErr result (steps.new ≡ steps.old + 1) }
     {
         let last = at.to - 1;
-        match self.tree.change_run(last, at, Change::Lower) {
-            Some(moved) => {
-                tick_each(moved.to - moved.from, steps);
-                Ok(moved.from)
+        match self.lower(at, line) {
+            Some(count) => {
+                tick_each(count, steps);
+                Ok(at.to - count)
             }
             None => {
                 self.retreat(last, steps)?;
                 Ok(last)
             }
         }
+    }
+
+    /// Takes the last of the events at these positions out of the prepared version, and with it those before it whose characters are one
+    /// run with its own: events of the line, or, where that has none, insertions. Answers how many they are. None where it isn't so.
+    fn lower(&mut self, at: Positions, line: Option<Line>) -> Option<u32>
+        requires some { at.from < at.to }
+        requires may { (b : ℕ) × (events : List (Applied ℕ)) × (prepared : List ℕ) × StandsFor self.old b events prepared × MayRetreatEach events prepared (reverse (range_with_len at.from (at.to - at.from))) }
+        requires line { IfSome line (IsLineFrom lines.Down self.old.targets (at.to - 1) (at.to - at.from)) }
+        ensures some { IfSome result (λ n. 0 < n) }
+        ensures most { IfSome result (λ n. at.from + n ≤ at.to) }
+        ensures ok { (b : ℕ) (events : List (Applied ℕ)) (prepared : List ℕ) → StandsFor self.old b events prepared → MayRetreatEach events prepared (reverse (range_with_len at.from (at.to - at.from)))
+            → IfSome result (λ n. Retreated self.new b events prepared (reverse (range_with_len at.from (at.to - at.from))) (reverse (range_with_len at.from ((at.to - n) - at.from)))) }
+        ensures none { IfNone result (self.new ≡ self.old) }
+        ensures lost { self.new.lost ≡ self.old.lost }
+    {
+        match line {
+            Some(line) => self.lower_line(at, line),
+            None if self.targets.is_own(at.to - 1) => self.lower_own(at),
+            None => None,
+        }
+    }
+
+    /// The same for events of a line.
+    fn lower_line(&mut self, at: Positions, line: Line) -> Option<u32>
+        requires some { at.from < at.to }
+        requires may { (b : ℕ) × (events : List (Applied ℕ)) × (prepared : List ℕ) × StandsFor self.old b events prepared × MayRetreatEach events prepared (reverse (range_with_len at.from (at.to - at.from))) }
+        requires line { IsLineFrom lines.Down self.old.targets (at.to - 1) (at.to - at.from) line }
+        ensures some { IfSome result (λ n. 0 < n) }
+        ensures most { IfSome result (λ n. at.from + n ≤ at.to) }
+        ensures ok { (b : ℕ) (events : List (Applied ℕ)) (prepared : List ℕ) → StandsFor self.old b events prepared → MayRetreatEach events prepared (reverse (range_with_len at.from (at.to - at.from)))
+            → IfSome result (λ n. Retreated self.new b events prepared (reverse (range_with_len at.from (at.to - at.from))) (reverse (range_with_len at.from ((at.to - n) - at.from)))) }
+        ensures none { IfNone result (self.new ≡ self.old) }
+        ensures lost { self.new.lost ≡ self.old.lost }
+    {
+        let characters = line.characters()?;
+        let moved = self
+            .tree
+            .change_run(line.character, characters, Change::Lower)?;
+        Some(moved.to - moved.from)
+    }
+
+    /// The same for insertions.
+    fn lower_own(&mut self, at: Positions) -> Option<u32>
+        requires some { at.from < at.to }
+        requires may { (b : ℕ) × (events : List (Applied ℕ)) × (prepared : List ℕ) × StandsFor self.old b events prepared × MayRetreatEach events prepared (reverse (range_with_len at.from (at.to - at.from))) }
+        ensures some { IfSome result (λ n. 0 < n) }
+        ensures most { IfSome result (λ n. at.from + n ≤ at.to) }
+        ensures ok { (b : ℕ) (events : List (Applied ℕ)) (prepared : List ℕ) → StandsFor self.old b events prepared → MayRetreatEach events prepared (reverse (range_with_len at.from (at.to - at.from)))
+            → IfSome result (λ n. Retreated self.new b events prepared (reverse (range_with_len at.from (at.to - at.from))) (reverse (range_with_len at.from ((at.to - n) - at.from)))) }
+        ensures none { IfNone result (self.new ≡ self.old) }
+        ensures lost { self.new.lost ≡ self.old.lost }
+    {
+        let moved = self.tree.change_run(at.to - 1, at, Change::Lower)?;
+        Some(moved.to - moved.from)
     }
 
     /// The positions of the inserted characters, deleted ones too, in the order of the tree: where the base has no characters.

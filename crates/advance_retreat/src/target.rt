@@ -1,12 +1,15 @@
 //! Which character each applied event is about. A mark is about none: the root stands in its place.
 
-ghost use Rattle.std.specs.Prelude.{◌≡◌, true, None, Some, [], ◌∷◌, ◌++◌, List, length, OnOk, OnErr, ℕ, nat_eq, if◌then◌else◌};
+ghost use Rattle.std.specs.Prelude.{◌≡◌, ◌<◌, true, None, Some, [], ◌∷◌, ◌++◌, List, length, IfSome, OnOk, OnErr, IsTrue, ℕ, nat_eq, if◌then◌else◌};
+ghost use Rattle.ew_model.specs.declared.node.Node.TheVariants as nodes;
 ghost use Rattle.std.specs.Ordering.{nat_cmp};
 ghost use Rattle.std.specs.BTreeMap.{get};
 ghost use Rattle.advance_retreat.specs.declared.target.Target.{Target as One};
 ghost use Rattle.advance_retreat.specs.Kept.{target_at, place_in, is_next, found_in, AreWithin};
+ghost use Rattle.advance_retreat.specs.Lines.{IsAway, IsLineFrom};
 ghost use Rattle.advance_retreat.specs.Placing.{other_event};
 
+use crate::line::{Line, Way};
 use character_runs::Positions;
 use ew_model::NoMem;
 use ew_model::node::Node;
@@ -93,6 +96,86 @@ impl Targets {
         ensures { result ≡ true → AreWithin at (target_at self.now) }
     {
         self.others.is_empty() && go_on_within(&self.applied, at)
+    }
+
+    /// Whether the event at a position is about its own character, as an insertion is.
+    pub fn is_own(&self, lv: u32) -> bool {
+        self.is_about(lv, lv)
+    }
+
+    /// Whether the event at a position is about the character of an event.
+    fn is_about(&self, lv: u32, character: u32) -> bool
+        ensures { IsTrue result → target_at self.now lv ≡ Some (nodes.Event character) }
+    {
+        match self.node(lv) {
+            Some(Node::Event(own)) => own == character,
+            Some(Node::Root | Node::Base(_)) | None => false,
+        }
+    }
+
+    /// The line, if there is one, or else one that begins with an event and has at most so many.
+    pub fn line_on(&self, line: Option<Line>, event: u32, order: Way, most: u32) -> Option<Line>
+        requires { IfSome line (IsLineFrom order self.now event most) }
+        ensures { IfSome result (IsLineFrom order self.now event most) }
+    {
+        if line.is_some() {
+            line
+        } else {
+            self.line(event, order, most)
+        }
+    }
+
+    /// The events from one on, at most so many, that delete characters which stand beside one another in the order of their events.
+    /// None where they are fewer than two.
+    fn line(&self, event: u32, order: Way, most: u32) -> Option<Line>
+        ensures { IfSome result (IsLineFrom order self.now event most) }
+    {
+        let Some(Node::Event(character)) = self.node(event) else {
+            return None;
+        };
+        if character == event {
+            return None;
+        }
+        let up = self.line_by(event, order, most, character, Way::Up);
+        if up.count > 1 {
+            return Some(up);
+        }
+        let down = self.line_by(event, order, most, character, Way::Down);
+        if down.count > 1 { Some(down) } else { None }
+    }
+
+    /// The events from one on, at most so many, that are about the characters from one on.
+    fn line_by(&self, event: u32, order: Way, most: u32, character: u32, way: Way) -> Line
+        ensures { IsLineFrom order self.now event most result }
+    {
+        let line = Line {
+            event,
+            way,
+            character,
+            count: most,
+        };
+        let mut count = 0;
+        while self.goes_on(order, line, count) {
+            count += 1;
+        }
+        Line { count, ..line }
+    }
+
+    /// Whether the event so many steps away from a line's first, as it would be, is about the character as many away from its first.
+    fn goes_on(&self, order: Way, line: Line, steps: u32) -> bool
+        ensures few { IsTrue result → steps < line.count }
+        ensures told { IsTrue result → (n m : ℕ) → IsAway order line.event steps n → IsAway line.way line.character steps m → target_at self.now n ≡ Some (nodes.Event m) }
+    {
+        if steps >= line.count {
+            return false;
+        }
+        let Some(event) = order.from(line.event, steps) else {
+            return false;
+        };
+        let Some(character) = line.way.from(line.character, steps) else {
+            return false;
+        };
+        self.is_about(event, character)
     }
 
     /// Adds an event with a new position.

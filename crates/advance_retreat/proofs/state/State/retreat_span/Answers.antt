@@ -1,7 +1,10 @@
-use Rattle.std.proofs.Common.{ℕ, ◌-◌, List, [], ◌∙◌, reverse, refl, subst, sym, arith}
+use Rattle.std.proofs.Common.{IfSome, ℕ, ◌-◌, List, [], ◌∙◌, reverse, refl, subst, sym, arith}
 use Rattle.character_runs.specs.declared.change.Positions.{Positions}
 use Rattle.std.specs.List.{range_with_len}
+use Rattle.advance_retreat.specs.declared.line.Way.TheVariants.{Down}
+use Rattle.advance_retreat.specs.declared.target.Target.{Target}
 use Rattle.advance_retreat.specs.Kept.{Kept, target_at, AreWithin}
+use Rattle.advance_retreat.specs.Lines.{IsLineFrom}
 use Rattle.advance_retreat.specs.Standing.{StandsFor}
 use Rattle.advance_retreat.specs.Conditions.{PartRetreated}
 use Rattle.advance_retreat.proofs.Resting.{none_prepared}
@@ -14,6 +17,7 @@ loop-at-init g c = record {
   low = c.requires.order;
   high = omega arith;
   stands = λ b events prepared st may. record { made = []; parts = refl; now = prepared; is = refl; stands = st; may = may };
+  line = tt;
   lost = refl;
   steps = refl;
 }
@@ -26,24 +30,30 @@ retreat_some-requires-clause-may g c =
 
 pub loop-at-preserved : goal.loop-at-preserved
 loop-at-preserved g c =
-    let low = c.in_ok-at.ensures.low in
-    let high = c.in_ok-at.ensures.high in
+    let low = c.in_ok-next.ensures.low in
+    let high = c.in_ok-next.ensures.high in
     record {
       low = omega (arith, low, c.loop-at.invariant.low);
       high = omega (arith, high, c.loop-at.invariant.high);
       stands = λ b events prepared st may.
           let a = c.loop-at.invariant.stands b events prepared st may in
-          let d = c.in_ok-at.ensures.ok b events a.now a.stands a.may in
+          let d = c.in_ok-next.ensures.ok b events a.now a.stands a.may in
           retreated_on b events prepared _ c.loop-at.self _ _ _ a d;
+      line =
+          let q = c.requires.may in
+          let a = c.loop-at.invariant.stands q.0 q.1 q.2 q.3 q.4 in
+          let d = c.in_ok-next.ensures.ok q.0 q.1 a.now a.stands a.may in
+          subst (λ (ts : List Target). IfSome c.behind-line.result (IsLineFrom Down ts (c.in_ok-next.next - 1) (c.in_ok-next.next - c.args.from))) (a.stands.targets ∙ sym d.stands.targets)
+          (c.behind-line.ensures c.loop-at.self.targets (c.loop-at.at - 1) (c.in_ok-next.next - 1) (c.loop-at.at - c.args.from) (c.in_ok-next.next - c.args.from) c.line_on-here.ensures (λ some. omega (arith, some, high)) (omega (arith, low, high)));
       lost = c.retreat_some.ensures.lost ∙ c.loop-at.invariant.lost;
-      steps = let one = c.in_ok-at.ensures.steps in let so = c.loop-at.invariant.steps in omega (arith, one, so);
+      steps = let one = c.in_ok-next.ensures.steps in let so = c.loop-at.invariant.steps in omega (arith, one, so);
     }
 
-pub returns-in_err-at-clause-err : goal.returns-in_err-at-clause-err
-returns-in_err-at-clause-err g c = λ b events prepared st may.
+pub returns-in_err-next-clause-err : goal.returns-in_err-next-clause-err
+returns-in_err-next-clause-err g c = λ b events prepared st may.
     let all = reverse (range_with_len c.args.from (c.args.to - c.args.from)) in
     let part = retreat_left b events c.loop-at.self prepared all c.args.from c.loop-at.at c.loop-at-test.true (c.loop-at.invariant.stands b events prepared st may) in
-    on_err c.from_residual.result (PartRetreated c.retreat_some.new.self b events prepared all) (subst (λ (s : Kept). PartRetreated s b events prepared all) (sym c.in_err-at.ensures.err) part)
+    on_err c.from_residual.result (PartRetreated c.retreat_some.new.self b events prepared all) (subst (λ (s : Kept). PartRetreated s b events prepared all) (sym c.in_err-next.ensures.err) part)
 
 pub returns-clause-ok : goal.returns-clause-ok
 returns-clause-ok g c = λ b events prepared st may.
