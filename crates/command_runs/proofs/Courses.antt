@@ -8,7 +8,8 @@ use Rattle.ew_outside.specs.Counts.{AsksAtMost, IsQuiet, Rose, RisesOnceAtMost}
 use Rattle.ew_outside.specs.Outputs.{GrowsByFront}
 use Rattle.ew_outside.specs.declared.fault.Fault.{Fault}
 use Rattle.ew_outside.specs.declared.fault.Fault.TheVariants as fault_is
-use Rattle.command_table.specs.Headline.{UnlessServes, UnlessSends, FaultLeaves}
+use Rattle.command_table.specs.Headline.{FaultLeaves}
+use Rattle.command_table.specs.Lines.{UnlessServes, UnlessSends}
 use Rattle.command_table.specs.Outcomes.{stored_by}
 use Rattle.command_table.specs.Refusals as table
 use Rattle.command_table.specs.Refusals.{refusal_status, refusal_text, not_taken}

@@ -6,8 +6,9 @@ use Rattle.ew_outside.specs.Counts.{IsQuiet, Rises}
 use Rattle.ew_outside.specs.Seen.{SinkSeen}
 use Rattle.ew_outside.specs.declared.fault.Fault.{Fault}
 use Rattle.ew_outside.specs.declared.fault.Fault.TheVariants as fault_is
-use Rattle.command_table.specs.Headline.{IsRunOf, Journals, Reads, UnlessSends}
-use Rattle.command_table.specs.Lines.{session_of}
+use Rattle.command_table.specs.Headline.{IsRunOf, Reads}
+use Rattle.command_table.specs.Kept.{Journals}
+use Rattle.command_table.specs.Lines.{session_of, UnlessSends}
 use Rattle.command_table.specs.Seen.{Seen, shelf, disk, source, sink, TellsErr}
 use Rattle.command_table.specs.Table.{Line}
 use Rattle.command_table.specs.Text.{disk_failed}

@@ -11,8 +11,9 @@ use Rattle.ew_outside.specs.declared.fault.Fault.{Fault}
 use Rattle.ew_outside.specs.declared.fault.Fault.TheVariants as fault_is
 use Rattle.event_journal.specs.Disk.{DiskSeen, TellsAlike}
 use Rattle.command_table.specs.Crashes.{OutlastsCrashes}
-use Rattle.command_table.specs.Headline.{IsRunOf, Journals, Reads}
+use Rattle.command_table.specs.Headline.{IsRunOf, Reads}
 use Rattle.command_table.specs.Journals.{Journal, TellsJournal, export_reply, open_journal}
+use Rattle.command_table.specs.Kept.{Journals}
 use Rattle.command_table.specs.Loads.{File, missing, whole_of}
 use Rattle.command_table.specs.Possible.{KeepsTo, MayOpenJournal}
 use Rattle.command_table.specs.Reads.{LeavesInput, shape_of}

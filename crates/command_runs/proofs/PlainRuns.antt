@@ -5,7 +5,8 @@ use Rattle.ew_model.specs.Limits.{LimitNumbers}
 use Rattle.ew_outside.specs.Seen.{SinkSeen}
 use Rattle.ew_outside.specs.declared.fault.Fault.{Fault}
 use Rattle.event_journal.specs.Disk.{TellsAlike}
-use Rattle.command_table.specs.Headline.{Journals, UnlessServes}
+use Rattle.command_table.specs.Kept.{Journals}
+use Rattle.command_table.specs.Lines.{UnlessServes}
 use Rattle.command_table.specs.Reads.{uses_journal}
 use Rattle.command_table.specs.Seen.{Seen}
 use Rattle.command_table.specs.Table.{Line, does, serves, watches, exports}

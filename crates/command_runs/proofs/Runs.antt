@@ -11,8 +11,9 @@ use Rattle.ew_outside.specs.Counts.{AsksAtMost, Rose, next}
 use Rattle.ew_outside.specs.Files.{Files}
 use Rattle.ew_outside.specs.declared.fault.Fault.{Fault}
 use Rattle.ew_outside.specs.declared.fault.Fault.TheVariants as fault_is
-use Rattle.command_table.specs.Headline.{Hears, IfServes, UnlessSends, Journals, IsRun, IsRunOf, IsStatus, StoresNothing, NamesFault, ReadsToEnd}
-use Rattle.command_table.specs.Lines.{session_of}
+use Rattle.command_table.specs.Headline.{Hears, IfServes, IsRun, IsRunOf, IsStatus, StoresNothing, NamesFault, ReadsToEnd}
+use Rattle.command_table.specs.Kept.{Journals}
+use Rattle.command_table.specs.Lines.{session_of, UnlessSends}
 use Rattle.command_table.specs.Outcomes.{IsClosed, stored_by}
 use Rattle.command_table.specs.Possible.{MayComeTo}
 use Rattle.command_table.specs.Reads.{needs_file, makes_file, may_store, most_asked, shape_of, IfFileRefused, LeavesInput, CountsLoads}

@@ -12,14 +12,14 @@ use Rattle.event_journal.specs.Disk.{TellsAlike}
 use Rattle.peer_definitions.specs.Batches.{AreBatches}
 use Rattle.ew_model.specs.declared.event.Event.{Event}
 use Rattle.ew_model.proofs.ListPlaces.{some_is}
-use Rattle.command_table.specs.Headline.{IsRunOf, Journals, UnlessServes}
+use Rattle.command_table.specs.Headline.{IsRunOf}
 use Rattle.command_table.specs.Crashes.{OutlastsCrashes, HoldsSameAsOne, HoldsSomeFront}
 use Rattle.command_table.specs.Journals.{Journal, IsJournal, open_journal}
 use Rattle.event_journal.specs.Journal.{HoldSame}
 use Rattle.event_journal.proofs.Moments.{at_first}
-use Rattle.command_table.specs.Kept.{HoldsPrinted}
+use Rattle.command_table.specs.Kept.{HoldsPrinted, Journals}
 use Rattle.command_table.specs.Loads.{missing}
-use Rattle.command_table.specs.Lines.{session_of, kept_of}
+use Rattle.command_table.specs.Lines.{session_of, kept_of, UnlessServes}
 use Rattle.command_table.specs.Reads.{needs_file, shape_of, LeavesInput}
 use Rattle.command_table.specs.Refusals.{not_taken, journal_too_many}
 use Rattle.command_table.specs.Seen.{Seen, TellsErr}

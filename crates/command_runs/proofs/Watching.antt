@@ -9,8 +9,9 @@ use Rattle.ew_outside.specs.declared.fault.Fault.{Fault}
 use Rattle.ew_outside.specs.declared.fault.Fault.TheVariants as fault_is
 use Rattle.event_journal.specs.Disk.{TellsAlike}
 use Rattle.command_table.specs.Crashes.{OutlastsCrashes}
-use Rattle.command_table.specs.Headline.{IsRunOf, Journals, Reads}
+use Rattle.command_table.specs.Headline.{IsRunOf, Reads}
 use Rattle.command_table.specs.Journals.{Journal, TellsJournal, open_journal, watch}
+use Rattle.command_table.specs.Kept.{Journals}
 use Rattle.command_table.specs.Possible.{MayWatch}
 use Rattle.command_table.specs.Reads.{IfRefused, LeavesInput, TakesAtMost, most_asked}
 use Rattle.command_table.specs.Scripts.{Means, Reading, told_of}

@@ -4,9 +4,9 @@ use Rattle.ew_outside.specs.Counts.{Rose}
 use Rattle.ew_outside.specs.Files.{Files}
 use Rattle.ew_outside.specs.Seen.{ShelfSeen, SourceSeen, SinkSeen}
 use Rattle.ew_model.specs.Limits.{LimitNumbers}
-use Rattle.command_table.specs.Headline.{UnlessSends, ReadsToEnd}
+use Rattle.command_table.specs.Headline.{ReadsToEnd}
 use Rattle.command_table.specs.Journals.{Journal}
-use Rattle.command_table.specs.Lines.{Meaning, IsInput, IsJournalOf, session_of}
+use Rattle.command_table.specs.Lines.{Meaning, IsInput, IsJournalOf, session_of, UnlessSends}
 use Rattle.command_table.specs.Possible.{MayComeTo, MayReplyTo}
 use Rattle.command_table.specs.Refusals.{not_taken}
 use Rattle.command_table.specs.Sessions.{Session}

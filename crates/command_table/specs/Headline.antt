@@ -9,30 +9,18 @@ use Rattle.ew_model.specs.Limits.{LimitNumbers}
 use Rattle.ew_outside.specs.Bytes.{IsFlushed}
 use Rattle.ew_outside.specs.Counts.{AsksAtMost, IsQuiet, Rose, RisesOnceAtMost, next}
 use Rattle.ew_outside.specs.Files.{Files}
-use Rattle.event_journal.specs.Disk.{TellsAlike}
 use Rattle.command_table.specs.Framings.{Framing, IsFramingOf}
-use Rattle.command_table.specs.Journals.{Journal, TellsJournal, open_journal}
-use Rattle.command_table.specs.Kept.{Keeps}
-use Rattle.command_table.specs.Lines.{Meaning, IsInput, IsJournalOf, session_of, kept_of}
+use Rattle.command_table.specs.Journals.{Journal}
+use Rattle.command_table.specs.Kept.{Journals}
+use Rattle.command_table.specs.Lines.{Meaning, IsInput, IsJournalOf, session_of, UnlessServes, UnlessSends}
 use Rattle.command_table.specs.Outcomes.{IsServed, IsSession, StoresFirst}
 use Rattle.command_table.specs.Possible.{MayComeTo}
-use Rattle.command_table.specs.Reads.{shape_of, reads_input, uses_journal, needs_file, may_store, makes_file, most_asked, loads_of_all, CountsLoads, LoadsFront, TakesAtMost, LeavesInput, IfRefused, IfFileRefused}
+use Rattle.command_table.specs.Reads.{shape_of, reads_input, needs_file, may_store, makes_file, most_asked, loads_of_all, CountsLoads, LoadsFront, TakesAtMost, LeavesInput, IfFileRefused}
 use Rattle.command_table.specs.Seen.{Seen, Object, shelf, disk, source, sink, faults_of, failed_text, TellsErr}
 use Rattle.command_table.specs.Sessions.{Session, is_bye, RepliesTo, IsPrompt}
-use Rattle.command_table.specs.Table.{Text, Line, serves, watches, line_of, opened, open_file}
+use Rattle.command_table.specs.Table.{Text, Line, serves, line_of, opened, open_file}
 use Rattle.command_table.specs.Cli.{usage as usage_text}
 use Rattle.command_table.specs.Text.{out_of_memory}
-
--- it holds, unless the line serves a peer
-abbrev pub UnlessServes : Option Line → Type 0 → Type 0
-UnlessServes (Some (serves file)) holds = ⊤
-UnlessServes line holds = holds
-
--- it holds, unless the line sends something before its end
-abbrev pub UnlessSends : Option Line → Type 0 → Type 0
-UnlessSends (Some (serves file)) holds = ⊤
-UnlessSends (Some (watches agent)) holds = ⊤
-UnlessSends line holds = holds
 
 -- the statuses of runs: 0, and 2 to 8
 abbrev pub IsStatus : ℕ → Type 0
@@ -144,21 +132,6 @@ pub record Reads (line : Option Line) (limits : LimitNumbers) (old new : Seen) (
   pub untouched : (files : Files) → old.shelf.files ≡ Some files → IfFileRefused (shape_of line) limits files (LeavesInput old.input new.input)
   pub refused : needs_file line ≡ true → (status ≡ 3) ⊎ (status ≡ 4) → LeavesInput old.input new.input
   pub hears : IfServes line limits old new status
-
--- What a run leaves of the journal.
-pub record Journals (line : Option Line) (limits : LimitNumbers) (old new : Seen) (status : ℕ) : Type 0 where
-  -- a line that has no use for it leaves the disk as it is, and so does one that is refused for a file that is there
-  pub alone : uses_journal line ≡ false → new.disk ≡ old.disk
-  pub there : status ≡ 3 → new.disk ≡ old.disk
-  -- the disk tells its bytes exactly where it did before
-  pub tells : TellsAlike old.disk.bytes new.disk.bytes
-  -- over a journal and an input that are known, what the line keeps stands behind the journal
-  pub known : (journal : Journal) (input : List ℕ) (meaning : Meaning line) → uses_journal line ≡ true → TellsJournal limits old.disk.bytes journal
-      → IsInput limits line old.input.left input meaning → Keeps limits journal (kept_of line limits journal input meaning) old new status
-  -- the input is left alone where the journal is refused; whatever is known of it, where it is bad
-  pub untouched : (journal : Journal) → uses_journal line ≡ true → TellsJournal limits old.disk.bytes journal
-      → IfRefused (open_journal limits journal) (LeavesInput old.input new.input)
-  pub refused : uses_journal line ≡ true → status ≡ 4 → LeavesInput old.input new.input
 
 -- A run of a line, which may not be taken.
 pub record IsRunOf (line : Option Line) (limits : LimitNumbers) (old new : Seen) (status : ℕ) : Type 0 where

@@ -1,5 +1,5 @@
 -- What an input and the journal mean to a line, and what the line comes to.
-use Rattle.std.specs.Prelude.{◌≡◌, ℕ, true, List, [], Option, None, Some}
+use Rattle.std.specs.Prelude.{◌≡◌, ℕ, true, List, [], Option, None, Some, ⊤}
 use Rattle.std.specs.FinMap.{get}
 use Rattle.ew_model.specs.declared.event.Event.{Event}
 use Rattle.ew_model.specs.Limits.{LimitNumbers}
@@ -60,3 +60,14 @@ table words limits files journal input meaning = session_answer (session_of (lin
 -- and the journal behind it
 abbrev pub table_journal : (words : List Text) → LimitNumbers → Journal → List ℕ → Meaning (line_of words) → Journal
 table_journal words limits journal input meaning = with_lines limits journal (kept_of (line_of words) limits journal input meaning)
+
+-- it holds, unless the line serves a peer
+abbrev pub UnlessServes : Option Line → Type 0 → Type 0
+UnlessServes (Some (serves file)) holds = ⊤
+UnlessServes line holds = holds
+
+-- it holds, unless the line sends something before its end
+abbrev pub UnlessSends : Option Line → Type 0 → Type 0
+UnlessSends (Some (serves file)) holds = ⊤
+UnlessSends (Some (watches agent)) holds = ⊤
+UnlessSends line holds = holds
