@@ -6,9 +6,10 @@ use Rattle.ew_model.specs.declared.id.Id.{Id}
 use Rattle.ew_model.specs.declared.event.Event.{Event}
 use Rattle.ew_model.specs.Ancestors.{ids_of}
 use Rattle.ew_model.specs.Entries.{Inserted}
+use Rattle.ew_model.specs.Texts.{text_chars}
 use Rattle.ew_model.proofs.ListParts.{take_next}
 use Rattle.transform.specs.Placing.{AreAt}
-use Rattle.undo_definitions.specs.Wanted.{chars_in_order, chars_shown, is_gone}
+use Rattle.undo_definitions.specs.Wanted.{chars_in_order, is_gone}
 use Rattle.undo_definitions.proofs.Wants.{shown_in_order}
 use Rattle.blame.specs.Letters.{AreShown, AreShownAt}
 
@@ -66,7 +67,7 @@ first_as history n positions chars more letters same_positions same_chars h =
     subst (λ ps. AreFirst history n ps letters) (sym same_positions) (subst (λ cs. AreFirst history n positions cs) (sym same_chars) h)
 
 -- all
-all_first : (history : List Event) (n : ℕ) → length (chars_in_order history) ≤ n → shown_first history n ≡ chars_shown history
+all_first : (history : List Event) (n : ℕ) → length (chars_in_order history) ≤ n → shown_first history n ≡ text_chars history
 all_first history n long = ap (filter (λ z. not (is_gone history z))) (take_all n (chars_in_order history) long) ∙ sym (shown_in_order history)
 
 pub positions_all : (history : List Event) (n : ℕ) (positions chars : List ℕ) → length (chars_in_order history) ≤ n → AreFirst history n positions chars → AreShownAt history positions

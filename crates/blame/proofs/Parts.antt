@@ -6,7 +6,7 @@ use Rattle.ew_model.specs.declared.id.Id.{Id}
 use Rattle.ew_model.specs.declared.event.Event.{Event}
 use Rattle.ew_model.specs.Ancestors.{ids_of}
 use Rattle.ew_model.specs.Entries.{Inserted}
-use Rattle.undo_definitions.specs.Wanted.{chars_shown}
+use Rattle.ew_model.specs.Texts.{text_chars}
 use Rattle.tree_places.proofs.Order.{place_at}
 use Rattle.blame.specs.Letters.{AreShownAt}
 use Rattle.blame_definitions.specs.Blame.{blame_lines, piece_line, piece_text, text_line}
@@ -57,15 +57,15 @@ at_place (y ∷ xs) ys x (suc n) e = at_place xs ys x n (omega (arith, e))
 
 -- the character at a place, where its event is
 pub shown_there : (history : List Event) (positions : List ℕ) (n : ℕ) → AreShownAt history positions → n < length positions
-    → (z : Inserted) × (slice_get (chars_shown history) n ≡ Some z) × (slice_get (ids_of history) (get_or positions n 0) ≡ Some z.id)
-shown_there history positions n are within = place_at (ids_of history) (chars_shown history) positions n (get_or positions n 0) are (slice_get-get_or positions n 0 within)
+    → (z : Inserted) × (slice_get (text_chars history) n ≡ Some z) × (slice_get (ids_of history) (get_or positions n 0) ≡ Some z.id)
+shown_there history positions n are within = place_at (ids_of history) (text_chars history) positions n (get_or positions n 0) are (slice_get-get_or positions n 0 within)
 
-pub shown_long : (history : List Event) (positions : List ℕ) → AreShownAt history positions → length positions ≡ length (chars_shown history)
+pub shown_long : (history : List Event) (positions : List ℕ) → AreShownAt history positions → length positions ≡ length (text_chars history)
 shown_long history positions are =
     sym (length-map positions (slice_get (ids_of history)))
     ∙ ap (length {A = Option Id}) are
-    ∙ length-map (map (λ (z : Inserted). z.id) (chars_shown history)) (λ (x : Id). Some x)
-    ∙ length-map (chars_shown history) (λ (z : Inserted). z.id)
+    ∙ length-map (map (λ (z : Inserted). z.id) (text_chars history)) (λ (x : Id). Some x)
+    ∙ length-map (text_chars history) (λ (z : Inserted). z.id)
 
 -- WHERE IT BEGINS
 pub opens : (columns : ℕ) (whole : List Inserted) (out : List ℕ) (z : Inserted) (first : Id) → slice_get whole 0 ≡ Some z → first ≡ z.id → out ≡ [] → IsOpen columns whole out 0 1 first first

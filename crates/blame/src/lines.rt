@@ -4,8 +4,8 @@ ghost use Rattle.std.specs.Prelude.{◌≡◌, ◌==◌, ◌&&◌, not, ◌++◌
 ghost use Rattle.blame.specs.Letters.{AreShown, AreShownAt};
 ghost use Rattle.blame_definitions.specs.Blame.{blame_lines, text_line};
 ghost use Rattle.ew_model.specs.Ids.{id_eq};
+ghost use Rattle.ew_model.specs.Texts.{text_chars};
 ghost use Rattle.history_definitions.specs.Chains.{next_id};
-ghost use Rattle.undo_definitions.specs.Wanted.{chars_shown};
 
 use crate::fitting::shown;
 use event_graph::{Graph, Near, is_next};
@@ -25,7 +25,7 @@ pub fn lines(
 ) -> Result<Vec<u8>, NoMem>
     requires positions { AreShownAt graph.now positions.now }
     requires chars { AreShown graph.now chars.now }
-    ensures { IfOk result (λ out. out.items ≡ blame_lines columns (chars_shown graph.now)) }
+    ensures { IfOk result (λ out. out.items ≡ blame_lines columns (text_chars graph.now)) }
 {
     let mut out = Vec::new(alloc);
     if positions.is_empty() {

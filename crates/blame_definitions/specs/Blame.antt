@@ -3,18 +3,17 @@ use Rattle.std.specs.Prelude.{ℕ, List, [], ◌∷◌, ◌++◌, Option, Some, 
 use Rattle.ew_model.specs.declared.id.Id.{Id}
 use Rattle.ew_model.specs.declared.event.Event.{Event}
 use Rattle.ew_model.specs.Ancestors.{version_events}
-use Rattle.ew_model.specs.Entries.{Inserted, visible}
+use Rattle.ew_model.specs.Entries.{Inserted}
 use Rattle.ew_model.specs.Scripts.{escaped_text, id_text, spaced}
-use Rattle.ew_model.specs.Texts.{visible_at}
+use Rattle.ew_model.specs.Texts.{text_chars, visible_at}
 use Rattle.ew_model.specs.Touches.{touches}
-use Rattle.ew_model.specs.Tree.{all_entries, tree}
 use Rattle.ew_model.specs.Verdicts.{first_unknown}
 use Rattle.blame_definitions.specs.Pieces.{pieces}
 use Rattle.blame_definitions.specs.Widths.{shown}
 
 -- the visible characters of a version; of the whole history, where no version is named
 abbrev pub chars_at : List Event → Option (List Id) → List Inserted
-chars_at history None = visible (all_entries 0 (tree history))
+chars_at history None = text_chars history
 chars_at history (Some version) = visible_at history version
 
 -- the characters of a piece

@@ -1,17 +1,15 @@
 -- The characters of a history that another holds are the other's too.
-use Rattle.std.proofs.Common.{◌≡◌, ℕ, true, List, [], ◌∷◌, ◌++◌, map, Some, refl, sym, ap, ◌∙◌, subst}
+use Rattle.std.proofs.Common.{◌≡◌, true, List, [], refl, sym, ◌∙◌, subst}
 use Rattle.ew_model.specs.declared.event.Event.{Event}
 use Rattle.ew_model.specs.declared.id.Id.{Id}
-use Rattle.ew_model.specs.Sets.{Among, SameElements}
+use Rattle.ew_model.specs.Sets.{Among}
 use Rattle.ew_model.specs.Ids.{id_eq, is_among}
-use Rattle.ew_model.specs.Ancestors.{ancestors, is_held, version_events}
-use Rattle.ew_model.specs.Entries.{Inserted, Entry, insertions, visible}
+use Rattle.ew_model.specs.Ancestors.{is_held, version_events}
+use Rattle.ew_model.specs.Entries.{Inserted, Entry}
 use Rattle.ew_model.specs.Entries.Entry.{Insertion}
-use Rattle.ew_model.specs.Texts.{visible_at}
-use Rattle.ew_model.specs.Tree.{Noted, all_entries, entries_over, tree, tree_on}
+use Rattle.ew_model.specs.Tree.{Noted, all_entries, tree}
 use Rattle.ew_model.specs.Verdicts.{IsGood}
 use Rattle.ew_model.proofs.CoverLaws.{event_of, equal_through}
-use Rattle.ew_model.proofs.EntryLaws.{LaidOut}
 use Rattle.ew_model.proofs.EqualSets.{note_of_tree, tree_of_note}
 use Rattle.ew_model.proofs.GoodLaws.{good_laid_out}
 use Rattle.ew_model.proofs.PlaceLaws.{among_insertions, insertion_among}

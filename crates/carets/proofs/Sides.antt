@@ -1,5 +1,5 @@
 -- Carets keep their sides.
-use Rattle.std.proofs.Common.{◌≡◌, ◌↔◌, ℕ, zero, suc, ◌<◌, ◌≤◌, nat_lt, Bool, true, false, cond, List, [], ◌∷◌, Option, Some, None, IsSome, option_map, refl, sym, ap, ◌∙◌, subst, arith}
+use Rattle.std.proofs.Common.{◌≡◌, ℕ, zero, suc, ◌<◌, ◌≤◌, nat_lt, Bool, true, false, List, [], Option, Some, None, IsSome, option_map, refl, sym, ap, ◌∙◌, arith}
 use Rattle.std.specs.Prelude.{slice_get}
 use Rattle.std.specs.List.Sorted.{IsStrictlySortedBy}
 use Rattle.std.specs.declared.cmp.Ordering.TheVariants.{Less, Equal, Greater}
@@ -11,26 +11,25 @@ use Rattle.ew_model.specs.declared.id.Id.{Id}
 use Rattle.ew_model.specs.Ids.{id_eq}
 use Rattle.ew_model.specs.Sets.{Among, SameElements}
 use Rattle.ew_model.specs.Ancestors.{ancestors}
-use Rattle.ew_model.specs.Entries.{Inserted, Entry, inserted_cmp, visible}
+use Rattle.ew_model.specs.Entries.{Inserted, inserted_cmp}
 use Rattle.ew_model.specs.Texts.{visible_at}
 use Rattle.ew_model.specs.Tree.{Noted, all_entries, entries_over, tree, tree_on}
 use Rattle.ew_model.specs.Verdicts.{IsGood}
-use Rattle.ew_model.proofs.EntryLaws.{LaidOut}
 use Rattle.ew_model.proofs.EqualSets.{same_mapped, same_tree, tree_apart, version_apart}
 use Rattle.ew_model.proofs.GoodLaws.{good_laid_out}
 use Rattle.ew_model.proofs.OperationLaws.{got, tree_ids_apart}
 use Rattle.ew_model.proofs.OwnIndex.{sorted_visible}
 use Rattle.ew_model.proofs.PlaceLaws.{same_visible}
 use Rattle.ew_model.proofs.PrefixLaws.{ordered_among, over_insertions, visible_among}
-use Rattle.ew_model.proofs.RunLaws.{id_itself, id_same}
+use Rattle.ew_model.proofs.RunLaws.{id_itself}
 use Rattle.ew_model.proofs.StemLaws.{places_cmp}
 use Rattle.ew_model.proofs.TextLaws.{IdsApart}
 use Rattle.carets.specs.declared.caret.Caret.{Caret}
 use Rattle.carets.specs.declared.caret.Caret.TheVariants.{Root, Behind}
-use Rattle.carets.specs.SideLaws.{HoldsCaret, IsHeldBy, CaretsAreAtTheirIndex, CaretsKeepTheirOrder, CharactersKeepTheirSide, EqualSetsHaveEqualSides}
-use Rattle.carets.specs.Sides.{all_chars, text_chars, caret_in, caret_at, char_of, is_up_to, many_up_to, side}
-use Rattle.carets.proofs.Held.{note_of, char_of_note, chars_held}
-use Rattle.carets.proofs.UpTo.{firsts, first_up_to, up_to_first, own_place, no_fewer, own_char, char_told, up_to, up_to_itself}
+use Rattle.carets.specs.SideLaws.{IsHeldBy, CaretsAreAtTheirIndex, CaretsKeepTheirOrder, CharactersKeepTheirSide, EqualSetsHaveEqualSides}
+use Rattle.carets.specs.Sides.{all_chars, text_chars, caret_in, char_of, is_up_to, many_up_to, side}
+use Rattle.carets.proofs.Held.{chars_held}
+use Rattle.carets.proofs.UpTo.{firsts, first_up_to, up_to_first, own_place, no_fewer, own_char, char_told, up_to}
 
 -- THE CHARACTERS OF A GOOD HISTORY
 pub text_sorted : (history : List Event) → IsGood history → IsStrictlySortedBy inserted_cmp (text_chars history)

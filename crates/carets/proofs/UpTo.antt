@@ -1,5 +1,5 @@
 -- Characters up to another.
-use Rattle.std.proofs.Common.{◌≡◌, ℕ, zero, suc, ◌<◌, ◌≤◌, nat_lt, Bool, true, false, cond, not, inl, inr, ⊎_elim, List, [], ◌∷◌, filter, find, length, Option, Some, None, refl, sym, ap, ◌∙◌, subst, arith}
+use Rattle.std.proofs.Common.{◌≡◌, ℕ, zero, suc, ◌<◌, ◌≤◌, nat_lt, Bool, true, false, cond, not, inl, inr, ⊎_elim, List, [], ◌∷◌, filter, length, Some, refl, sym, ap, ◌∙◌, arith}
 use Rattle.std.specs.Prelude.{slice_get}
 use Rattle.std.specs.Cmp.{nat_cmp_is, tied_itself}
 use Rattle.std.specs.List.Sorted.{IsStrictlySortedBy}
@@ -19,7 +19,7 @@ use Rattle.ew_model.proofs.RunLaws.{id_itself, id_same}
 use Rattle.ew_model.proofs.SortingLaws.{all_at}
 use Rattle.ew_model.proofs.StemLaws.{places_cmp}
 use Rattle.ew_model.proofs.TextLaws.{IdsApart}
-use Rattle.carets.specs.Sides.{char_of, is_up_to, many_up_to}
+use Rattle.carets.specs.Sides.{char_of, is_up_to}
 
 -- ONE CHARACTER AND ANOTHER
 is_less : (o : Ordering) → is_lt o ≡ true → o ≡ Less

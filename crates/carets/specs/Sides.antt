@@ -4,18 +4,16 @@ use Rattle.ew_model.specs.declared.id.Id.{Id}
 use Rattle.ew_model.specs.declared.event.Event.{Event}
 use Rattle.ew_model.specs.Ids.{id_eq}
 use Rattle.ew_model.specs.Paths.{path_lt}
-use Rattle.ew_model.specs.Entries.{Inserted, insertions, visible}
+use Rattle.ew_model.specs.Entries.{Inserted, insertions}
 use Rattle.ew_model.specs.Texts.{visible_at}
+pub use Rattle.ew_model.specs.Texts.{text_chars}
 use Rattle.ew_model.specs.Tree.{all_entries, tree}
 use Rattle.carets.specs.declared.caret.Caret.{Caret}
 use Rattle.carets.specs.declared.caret.Caret.TheVariants.{Root, Behind}
 
--- the inserted characters of a history, deleted ones too, and those of its text
+-- the inserted characters of a history, deleted ones too
 abbrev pub all_chars : List Event → List Inserted
 all_chars history = insertions (all_entries 0 (tree history))
-
-abbrev pub text_chars : List Event → List Inserted
-text_chars history = visible (all_entries 0 (tree history))
 
 -- the caret at an index among characters: behind the one before the index, or at the start
 abbrev pub caret_in : List Inserted → ℕ → Option Caret

@@ -14,8 +14,7 @@ use Rattle.opened_files.specs.declared.reply.Reply as own
 use Rattle.opened_files.specs.declared.reply.Reply.TheVariants as reply_is
 use Rattle.ew_outside.specs.declared.fault.Fault.{Fault}
 use Rattle.serve_plans.specs.Plans.{FollowsSession}
-use Rattle.serve_plans.proofs.Speaking.{front_grows, then_front}
-use Rattle.ew_outside.proofs.Outputs.{front_of_all}
+use Rattle.ew_outside.proofs.Outputs.{front_of_all, then_front}
 use Rattle.command_runs.specs.Endings.{out_of}
 use Rattle.command_runs.proofs.Faults.{quiet_not_rose}
 use Rattle.command_runs.proofs.Replies.{printed}

@@ -1,3 +1,4 @@
 pub mod Framings
 pub mod Openings
+pub mod Sessions
 pub mod VersionReading

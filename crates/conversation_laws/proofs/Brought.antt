@@ -1,6 +1,7 @@
 -- A conversation brings what the other file has.
 use Rattle.std.proofs.Common.{◌≡◌, ℕ, ◌+◌, ◌≤◌, ◌<◌, ◌^◌, Bool, true, false, if◌then◌else◌, nat_lt, ⊎_elim, List, [], ◌∷◌, ◌++◌, map, length, flat_map, Some, None, refl, sym, ap, ◌∙◌, subst, arith, append-nil, append_assoc}
 use Rattle.std.specs.List.{AllByRecursion}
+use Rattle.std.proofs.lemmas.Bool.{le-ltb}
 use Rattle.std.proofs.lemmas.Bool.Decides.{nat_tests}
 use Rattle.std.proofs.lemmas.List.{length-append}
 use Rattle.std.proofs.lemmas.List.Concat.{flat_map-append}
@@ -32,7 +33,7 @@ use Rattle.command_table.specs.Scripts.{Reading}
 use Rattle.command_table.specs.Sessions.{Exchange, Session, bytes_of, closed_reply, exchanged, opened_state, or_closed, served, served_as, served_by, served_from, session_answer}
 use Rattle.command_table.specs.Table.{Text, Answer, Reply, Opened, opened, open_file, over_events, prints, question, refuses, show, show_reply, stores, answer_of}
 use Rattle.command_table.specs.Refusals.{input_too_long}
-use Rattle.table_laws.proofs.MergedFiles.{IsStorable, Opens, opened_is, opens, status_in, storable, stored_opens, not_longer}
+use Rattle.table_laws.proofs.MergedFiles.{IsStorable, Opens, opened_is, opens, status_in, storable, stored_opens}
 use Rattle.arrival_laws.proofs.Answered.{each_swapped}
 use Rattle.replica.proofs.Beginnings.{good_from_none_bad}
 use Rattle.conversation_laws.specs.Conversations.{CanBeOne, ConversationsBring, IsBrought, IsConversation}
@@ -74,8 +75,8 @@ answered_so limits files name events input counts f e same short =
     }) files in
     ap (λ (o : Opened). session_answer (served_as name limits input f o) files) e
     ∙ ap (λ (g : Framing). session_answer (served_from name limits input g events) files) same
-    ∙ ap (λ (b : Bool). close b (nat_lt (length events) (length events))) (not_longer limits.input (length input) short)
-    ∙ ap (λ (c : Bool). close false c) (not_longer (length events) (length events) (omega arith))
+    ∙ ap (λ (b : Bool). close b (nat_lt (length events) (length events))) (le-ltb limits.input (length input) short)
+    ∙ ap (λ (c : Bool). close false c) (le-ltb (length events) (length events) (omega arith))
     ∙ ap (λ (out : List ℕ). answer_of (prints out) files) (append-nil (said ++ []) ∙ append-nil said)
 
 -- a session that ends with a Bye, after which the replica holds these events

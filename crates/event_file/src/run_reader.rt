@@ -27,7 +27,7 @@ pub(crate) struct RunReader<'a> {
     /// How many bytes stand before the digest.
     len: usize,
     /// The run that was read last.
-    open: Option<OpenRun<'a>>,
+    last_run: Option<OpenRun<'a>>,
 }
 
 impl<'a> Model for RunReader<'a> {
@@ -36,7 +36,7 @@ impl<'a> Model for RunReader<'a> {
 
     ghost Value = { RunsRest };
 
-    ghost view = { λ r. runs_rest r.progress r.open r.left r.len r.input.left.now };
+    ghost view = { λ r. runs_rest r.progress r.last_run r.left r.len r.input.left.now };
 
     ghost invariant = { λ r. length r.progress.events + r.left < 2 ^ 32 };
 }
@@ -52,7 +52,7 @@ impl<'a> RunReader<'a> {
             input,
             left,
             len,
-            open: None,
+            last_run: None,
         }
     }
 
@@ -68,8 +68,8 @@ impl<'a> RunReader<'a> {
         ensures end { IfOk result (λ event. event ≡ None → self.new ≡ self.old) }
         ensures err { OnErr result (self.new ≡ self.old) }
     {
-        if !is_done(&self.open) {
-            let event = next_of(&mut self.open, room)?;
+        if !is_done(&self.last_run) {
+            let event = next_of(&mut self.last_run, room)?;
             return Ok(Some(event));
         }
         if self.left == 0 {
@@ -80,7 +80,7 @@ impl<'a> RunReader<'a> {
         }
         match self
             .progress
-            .next_run(room, &self.open, self.left, &mut self.input)
+            .next_run(room, &self.last_run, self.left, &mut self.input)
         {
             Ok(run) => {
                 self.left -= run.ops.count() as u32;
@@ -88,7 +88,7 @@ impl<'a> RunReader<'a> {
                 let Some(op) = rest.take_first() else {
                     unreachable!()
                 };
-                self.open = Some(OpenRun::new(run.id, &run.ops, &rest));
+                self.last_run = Some(OpenRun::new(run.id, &run.ops, &rest));
                 Ok(Some(Event {
                     id: run.id,
                     parents: run.parents,
@@ -105,7 +105,7 @@ impl<'a> RunReader<'a> {
         ensures some { IfSome result (λ op. GoesOnBy op self.old.rest self.new.rest) }
         ensures none { IfNone result ((self.old.behind ≡ []) × (self.new ≡ self.old)) }
     {
-        go_on_in(&mut self.open)
+        go_on_in(&mut self.last_run)
     }
 
     /// The operations as `EventReader::go_on_run` hands them out: those of all events of the run that are still behind. None only
@@ -117,6 +117,6 @@ impl<'a> RunReader<'a> {
         ensures done { IfSome result (λ ops. self.new.behind ≡ []) }
         ensures none { IfNone result ((self.old.behind ≡ []) × (self.new ≡ self.old)) }
     {
-        go_on_run_in(&mut self.open)
+        go_on_run_in(&mut self.last_run)
     }
 }

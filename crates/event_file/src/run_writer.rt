@@ -33,7 +33,7 @@ pub struct RunWriter {
     text: Vec<char>,
     count: u32,
     /// Room for the end of the last run and the beginning of the next one.
-    record: Vec<u8>,
+    buffer: Vec<u8>,
 }
 
 impl Model for RunWriter {
@@ -63,7 +63,7 @@ impl RunWriter {
             last: None,
             text: Vec::new(alloc),
             count: 0,
-            record: Vec::new(alloc),
+            buffer: Vec::new(alloc),
         })
     }
 
@@ -157,10 +157,10 @@ impl RunWriter {
         ensures err { OnErr result (self.new ≡ self.old) }
     {
         self.text.reserve(1)?;
-        self.record.clear();
-        put_last(&mut self.record, self.last, &self.text)?;
-        put_head(&mut self.record, agent, seq, parents)?;
-        self.out.extend_from_slice(&self.record)?;
+        self.buffer.clear();
+        put_last(&mut self.buffer, self.last, &self.text)?;
+        put_head(&mut self.buffer, agent, seq, parents)?;
+        self.out.extend_from_slice(&self.buffer)?;
         begin_text(&mut self.text, op);
         self.last = Some(LastRun {
             agent,

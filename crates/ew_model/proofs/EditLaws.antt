@@ -55,7 +55,8 @@ not_refused limits history agent edit none =
       room = ⊎_elim (λ e. inl (eqb-true made 0 e)) (λ k. inr ((λ needs. ltb-false 16 (length (heads history)) (both_few edit (nat_lt 16 (length (heads history))) k.0 needs)), ltb-false limits.events (length history + made) k.1)) parts.1;
     }
 
-few_by : (history : List Event) (ops : List Op) → (length ops ≡ 0) ⊎ (length (heads history) ≤ 16) → FewHeads history ops
+-- no operations, or few heads
+pub few_by : (history : List Event) (ops : List Op) → (length ops ≡ 0) ⊎ (length (heads history) ≤ 16) → FewHeads history ops
 few_by history [] h = tt
 few_by history (o ∷ ops) h = ⊎_elim (λ e. absurd (omega (arith, e))) (λ few. few) h
 

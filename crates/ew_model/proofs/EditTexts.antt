@@ -1,5 +1,5 @@
 -- The operations of an edit: each is in range, and together they put in or take out the characters at the index.
-use Rattle.std.proofs.Common.{◌≡◌, ℕ, zero, suc, ◌+◌, ◌<◌, ◌≤◌, ◌^◌, List, [], ◌∷◌, ◌++◌, map, length, take, drop, insert, remove, refl, sym, ap, ◌∙◌, append_assoc, length-append, add-zero, arith}
+use Rattle.std.proofs.Common.{◌≡◌, ℕ, zero, suc, ◌+◌, ◌-◌, ◌<◌, ◌≤◌, ◌^◌, List, [], ◌∷◌, ◌++◌, map, length, take, drop, insert, remove, refl, sym, ap, ◌∙◌, append_assoc, length-append, add-zero, arith}
 use Rattle.std.specs.List.{AllByRecursion}
 use Rattle.std.proofs.lemmas.List.{take-append-drop, length-take-le, take_at, drop_at, drop-drop}
 use Rattle.std.proofs.lemmas.List.Edits.{length-insert, length-remove}
@@ -7,7 +7,7 @@ use Rattle.ew_model.specs.declared.event.Op.TheVariants.{Ins}
 use Rattle.ew_model.specs.Sound.{IsSoundOp}
 use Rattle.ew_model.specs.Operations.{changed_by_all}
 use Rattle.ew_model.specs.TextLaws.{own_change, AllFit}
-use Rattle.ew_model.specs.Edits.{Edit, insertions_at, deletions_at, ops_of, needed_length}
+use Rattle.ew_model.specs.Edits.{Edit, insertions_at, deletions_at, back_deletions_at, ops_of, needed_length}
 use Rattle.ew_model.specs.Edits.Edit.{Insert, Delete, Mark}
 use Rattle.ew_model.specs.EditLaws.{edited, size_of}
 
@@ -47,6 +47,10 @@ pub deletions_long : (at n : ℕ) → length (deletions_at at n) ≡ n
 deletions_long at zero = refl
 deletions_long at (suc n) = ap (λ n. suc n) (deletions_long at n)
 
+pub back_long : (at n : ℕ) → length (back_deletions_at at n) ≡ n
+back_long at zero = refl
+back_long at (suc n) = ap (λ n. suc n) (back_long (at - 1) n)
+
 -- The operations of an edit whose text is long enough are in range.
 pub edit_fits : (edit : Edit) (t : List ℕ) → needed_length edit ≤ length t → AllFit t (map own_change (ops_of edit))
 edit_fits (Insert at text) t h = insertions_fit at text t h
@@ -76,3 +80,7 @@ insertions_push at (x ∷ text) ch =
 pub deletions_sound : (at n : ℕ) → at < 2 ^ 32 → AllByRecursion IsSoundOp (deletions_at at n)
 deletions_sound at zero few = tt
 deletions_sound at (suc n) few = (few, deletions_sound at n few)
+
+pub back_sound : (at n : ℕ) → at < 2 ^ 32 → AllByRecursion IsSoundOp (back_deletions_at at n)
+back_sound at zero few = tt
+back_sound at (suc n) few = (few, back_sound (at - 1) n (omega (arith, few)))

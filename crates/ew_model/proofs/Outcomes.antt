@@ -6,6 +6,10 @@ pub on_ok_then : {T E : Type 0} (r : Result T E) (P Q : Type 0) → (P → Q) �
 on_ok_then (Ok x) P Q f p = f p
 on_ok_then (Err e) P Q f p = p
 
+pub on_ok : {T E : Type 0} (r : Result T E) (P : Type 0) → P → OnOk r P
+on_ok (Ok x) P p = p
+on_ok (Err e) P p = tt
+
 pub on_err : {T E : Type 0} (r : Result T E) (P : Type 0) → P → OnErr r P
 on_err (Ok x) P p = tt
 on_err (Err e) P p = p

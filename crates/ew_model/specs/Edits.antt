@@ -1,5 +1,5 @@
 -- The events of a local edit, and why an edit is refused.
-use Rattle.std.specs.Prelude.{ℕ, zero, suc, ◌+◌, Bool, true, false, not, ◌&&◌, List, [], ◌∷◌, ◌++◌, length, filter, find, if◌then◌else◌, nat_lt, count_by, Option, Some, None, ◌==◌}
+use Rattle.std.specs.Prelude.{ℕ, zero, suc, ◌+◌, ◌-◌, Bool, true, false, not, ◌&&◌, List, [], ◌∷◌, ◌++◌, length, filter, find, if◌then◌else◌, nat_lt, count_by, Option, Some, None, ◌==◌}
 use Rattle.std.specs.List.{onto_first}
 use Rattle.ew_model.specs.declared.id.Id.{Id}
 use Rattle.ew_model.specs.declared.event.Op.{Op}
@@ -38,6 +38,11 @@ insertions_at at (ch ∷ text) = op.Ins at ch ∷ insertions_at (at + 1) text
 abbrev pub deletions_at : ℕ → ℕ → List Op
 deletions_at at zero = []
 deletions_at at (suc n) = op.Del at ∷ deletions_at at n
+
+-- the operations that delete so many characters, each at the index below the one before
+abbrev pub back_deletions_at : ℕ → ℕ → List Op
+back_deletions_at at zero = []
+back_deletions_at at (suc n) = op.Del at ∷ back_deletions_at (at - 1) n
 
 -- the operations of an edit of the text, in order; a mark has none of these
 abbrev pub ops_of : Edit → List Op

@@ -15,6 +15,10 @@ visible_at history version = visible (entries_over id_eq 0 (tree history) (ances
 unfoldable pub text_at : List Event → List Id → List ℕ
 text_at history version = map (λ x. x.ch) (visible_at history version)
 
+-- the visible characters of a whole history
+abbrev pub text_chars : List Event → List Inserted
+text_chars history = visible (all_entries 0 (tree history))
+
 -- the text of a whole history
 unfoldable pub text_of : List Event → List ℕ
-text_of history = map (λ x. x.ch) (visible (all_entries 0 (tree history)))
+text_of history = map (λ x. x.ch) (text_chars history)

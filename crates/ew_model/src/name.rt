@@ -92,8 +92,19 @@ impl Name {
     pub fn is(&self, other: &Name) -> bool
         ensures { IsTrue result ↔ (self.now ≡ other.now) }
     {
-        self.as_slice() == other.as_slice()
+        self.len == other.len && are_same(&self.bytes, &other.bytes)
     }
+}
+
+/// Whether the two are the same bytes. There is no way out before the end: so they are compared side by side.
+fn are_same(ours: &[u8; LONGEST_NAME], theirs: &[u8; LONGEST_NAME]) -> bool
+    ensures { IsTrue result ↔ (ours.now ≡ theirs.now) }
+{
+    let mut same = true;
+    for place in 0..LONGEST_NAME {
+        same &= ours[place] == theirs[place];
+    }
+    same
 }
 
 /// The place of the first byte that may not stand where it does.

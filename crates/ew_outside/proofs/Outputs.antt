@@ -1,7 +1,7 @@
 -- Lemmas on outputs that are written whole.
-use Rattle.std.proofs.Common.{◌≡◌, ℕ, ◌+◌, ◌-◌, List, length, take, drop, sym, subst, Option, Result, Ok, Err, take_all, arith}
+use Rattle.std.proofs.Common.{◌≡◌, ℕ, ◌+◌, ◌-◌, List, ◌++◌, length, take, drop, sym, subst, Option, Result, Ok, Err, take_all, arith}
 use Rattle.std.proofs.lemmas.List.{take_rest}
-use Rattle.std.proofs.Math.Seq.{take-add}
+use Rattle.std.proofs.Math.Seq.{take-add, take-append-add}
 use Rattle.std.specs.Io.KnownBytes.{Appends}
 use Rattle.std.proofs.KnownBytes.{Appends-trans}
 use Rattle.ew_outside.specs.Outputs.{Takes}
@@ -23,3 +23,7 @@ Takes-all a b c bytes (Err _) all same =
 -- a front is all of it
 pub front_of_all : (a b : Option (List ℕ)) (bytes : List ℕ) → Appends a b bytes → GrowsByFront a b bytes
 front_of_all a b bytes all = (length bytes, subst (Appends a b) (sym (take_all (length bytes) bytes (omega arith))) all)
+
+-- all of one piece, and a front of the next
+pub then_front : (a b c : Option (List ℕ)) (first second : List ℕ) → Appends a b first → GrowsByFront b c second → GrowsByFront a c (first ++ second)
+then_front a b c first second all (n, front) = (length first + n, subst (Appends a c) (sym (take-append-add first second n)) (Appends-trans a b c first (take n second) all front))

@@ -7,12 +7,12 @@ use Rattle.ew_model.specs.declared.event.Op.{Op}
 use Rattle.ew_model.specs.declared.event.Op.TheVariants.{Ins, Del, Mark}
 use Rattle.ew_model.specs.declared.event.Event.{Event}
 use Rattle.ew_model.specs.Ids.{name_eq}
-use Rattle.ew_model.specs.Edits.{chain_of, insertions_at, deletions_at}
-use Rattle.ew_model.proofs.EditTexts.{insertions_long, deletions_long, insertions_push}
+use Rattle.ew_model.specs.Edits.{chain_of, insertions_at, deletions_at, back_deletions_at}
+use Rattle.ew_model.proofs.EditTexts.{insertions_long, deletions_long, back_long, insertions_push}
 use Rattle.ew_model.proofs.IdLaws.{name_exact}
 use Rattle.ew_model.proofs.PathOrder.{id_exact}
 use Rattle.ew_model.proofs.GapLaws.{eq_from}
-use Rattle.file_words.specs.FileRuns.{RunOps, FileRun, ops_count, back_deletions_at, ops_in, run_events, op_alone, run_of_one, takes_step, last_id, is_next_id, are_only, continues, with_op, longer, runs_from, file_runs}
+use Rattle.file_words.specs.FileRuns.{RunOps, FileRun, ops_count, ops_in, run_events, op_alone, run_of_one, takes_step, last_id, is_next_id, are_only, continues, with_op, longer, runs_from, file_runs}
 use Rattle.file_words.specs.FileRuns.RunOps.{Insertions, Deletions, BackDeletions, OneMark}
 use Rattle.file_words.specs.FileRunLaws.{IsSteady, RunsHoldHistories}
 
@@ -28,10 +28,6 @@ steady_some (Insertions at text) s = s
 steady_some (Deletions at count) s = s
 steady_some (BackDeletions at count) s = omega (arith, s.0)
 steady_some (OneMark label) s = omega arith
-
-back_long : (at n : ℕ) → length (back_deletions_at at n) ≡ n
-back_long at zero = refl
-back_long at (suc n) = ap (λ n. suc n) (back_long (at - 1) n)
 
 pub ops_long : (ops : RunOps) → length (ops_in ops) ≡ ops_count ops
 ops_long (Insertions at text) = insertions_long at text

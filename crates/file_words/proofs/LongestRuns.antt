@@ -7,10 +7,10 @@ use Rattle.ew_model.specs.declared.event.Op.{Op}
 use Rattle.ew_model.specs.declared.event.Op.TheVariants.{Ins, Del, Mark}
 use Rattle.ew_model.specs.declared.event.Event.{Event}
 use Rattle.ew_model.specs.Ids.{id_eq}
-use Rattle.ew_model.specs.Edits.{chain_of, insertions_at, deletions_at}
+use Rattle.ew_model.specs.Edits.{chain_of, insertions_at, deletions_at, back_deletions_at}
 use Rattle.ew_model.proofs.IdLaws.{names_equal}
 use Rattle.ew_model.proofs.TextLaws.{ids_equal}
-use Rattle.file_words.specs.FileRuns.{RunOps, FileRun, ops_count, back_deletions_at, run_events, op_alone, run_of_one, takes_step, last_id, is_next_id, are_only, continues, with_op, longer, runs_from, file_runs}
+use Rattle.file_words.specs.FileRuns.{RunOps, FileRun, ops_count, run_events, op_alone, run_of_one, takes_step, last_id, is_next_id, are_only, continues, with_op, longer, runs_from, file_runs}
 use Rattle.file_words.specs.FileRuns.RunOps.{Insertions, Deletions, BackDeletions, OneMark}
 use Rattle.file_words.specs.FileRunLaws.{IsSteady, first_op_of, first_event, AreApart, AreLongest, RunsAreTheLongest}
 use Rattle.file_words.proofs.FileRuns.{alone_steady, steps_grow, continues_parts}

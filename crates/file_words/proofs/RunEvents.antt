@@ -15,7 +15,7 @@ use Rattle.ew_model.specs.Writable.{agents_of, are_writable_after}
 use Rattle.ew_model.proofs.AgentLaws.{agents_push, known_agent}
 use Rattle.ew_model.proofs.EditLaws.{chain_long}
 use Rattle.ew_model.proofs.TextLaws.{ids_equal}
-use Rattle.file_words.specs.FileRuns.{RunOps, FileRun, ops_count, back_deletions_at, ops_in, run_events, are_new}
+use Rattle.file_words.specs.FileRuns.{RunOps, FileRun, ops_count, ops_in, run_events, are_new}
 use Rattle.file_words.specs.FileRuns.RunOps.{Insertions, Deletions, BackDeletions, OneMark}
 use Rattle.file_words.specs.FileRunLaws.{IsSteady, first_op_of, first_event}
 use Rattle.file_words.proofs.FileFields.{scalar_is}
@@ -23,7 +23,7 @@ use Rattle.file_words.proofs.FileRecords.{id_eq_exact, MayFollow}
 use Rattle.file_words.proofs.FileEvents.{ids_push, writable_first, writable_parts}
 use Rattle.file_words.proofs.FileRuns.{steady_some, ops_long}
 use Rattle.file_words.proofs.RunFields.{AreScalars, AreSoundOps}
-use Rattle.ew_model.proofs.EditTexts.{deletions_sound}
+use Rattle.ew_model.proofs.EditTexts.{deletions_sound, back_sound}
 
 -- ---- ids
 
@@ -144,10 +144,6 @@ chain_sound agent n parents (op ∷ ops) name few sound can =
 insertions_sound : (at : ℕ) (text : List ℕ) → at + length text ≤ 2 ^ 32 → AreScalars text → AllByRecursion IsSoundOp (insertions_at at text)
 insertions_sound at [] few scalars = tt
 insertions_sound at (ch ∷ text) few scalars = ((omega (arith, few), sym (scalar_is ch) ∙ scalars.0), insertions_sound (at + 1) text (omega (arith, few)) scalars.1)
-
-back_sound : (at n : ℕ) → at < 2 ^ 32 → AllByRecursion IsSoundOp (back_deletions_at at n)
-back_sound at zero few = tt
-back_sound at (suc n) few = (few, back_sound (at - 1) n (omega (arith, few)))
 
 ops_sound : (ops : RunOps) → AreSoundOps ops → AllByRecursion IsSoundOp (ops_in ops)
 ops_sound (Insertions at text) s = insertions_sound at text s.0 s.1

@@ -9,7 +9,7 @@ use Rattle.ew_model.specs.declared.event.Event.{Event}
 use Rattle.ew_model.specs.Ids.{name_eq, id_eq}
 use Rattle.ew_model.specs.Ancestors.{ids_of, is_held}
 use Rattle.ew_model.specs.Bytes.{four_bytes, name_bytes}
-use Rattle.ew_model.specs.Edits.{chain_of, insertions_at, deletions_at}
+use Rattle.ew_model.specs.Edits.{chain_of, insertions_at, deletions_at, back_deletions_at}
 use Rattle.ew_model.specs.Writable.{agents_of}
 use Rattle.file_words.specs.File.{file_start, with_digest}
 use Rattle.file_words.specs.FileFaults.{Reader, done, stops, ◌>>=◌, byte, number, field, only, read_name, read_names, read_parents, read_end, is_scalar, open_agents}
@@ -31,11 +31,6 @@ ops_count (Insertions at text) = length text
 ops_count (Deletions at count) = count
 ops_count (BackDeletions at count) = count
 ops_count (OneMark label) = 1
-
--- deletions from an index down, so many
-abbrev pub back_deletions_at : ℕ → ℕ → List Op
-back_deletions_at at zero = []
-back_deletions_at at (suc n) = Del at ∷ back_deletions_at (at - 1) n
 
 -- the operations one by one
 abbrev pub ops_in : RunOps → List Op

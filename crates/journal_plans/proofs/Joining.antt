@@ -1,6 +1,7 @@
 -- Batches that are added one after another.
-use Rattle.std.proofs.Common.{◌≡◌, ◌≤◌, ◌+◌, ℕ, zero, suc, List, [], ◌∷◌, ◌++◌, length, take, Option, Result, Ok, Err, refl, sym, ap, subst, ◌∙◌, append_assoc, arith}
-use Rattle.std.proofs.lemmas.List.{length-append}
+use Rattle.std.proofs.Common.{◌+◌, ℕ, ◌≡◌, List, ◌++◌, length, take, Option, Result, Ok, Err, sym, ap, subst, ◌∙◌, append_assoc, arith}
+use Rattle.std.proofs.lemmas.List.{length-append, take-append-le}
+use Rattle.std.proofs.Math.Seq.{take-append-add}
 use Rattle.ew_model.specs.declared.event.Event.{Event}
 use Rattle.ew_outside.specs.declared.fault.Fault.TheVariants as fault_is
 use Rattle.event_journal.specs.Disk.{StaysWithin}
@@ -10,30 +11,18 @@ use Rattle.journal_plans.specs.Adding.{IsKeptAs, HoldsSome, TellsSome, StandsBy,
 use Rattle.journal_plans.specs.declared.stop.Stop.{Stop}
 use Rattle.journal_plans.specs.declared.stop.Stop.TheVariants as stop
 
--- a front of a list is one of a longer list, and a list and a front of what comes then is a front of both
-pub take_front : {X : Type 0} (count : ℕ) (xs ys : List X) → count ≤ length xs → take count (xs ++ ys) ≡ take count xs
-take_front zero xs ys le = refl
-take_front (suc count) [] ys le = absurd (omega (arith, le))
-take_front (suc count) (x ∷ xs) ys le = ap (λ zs. x ∷ zs) (take_front count xs ys (omega (arith, le)))
-
-pub take_behind : {X : Type 0} (count : ℕ) (xs ys : List X) → take (length xs + count) (xs ++ ys) ≡ xs ++ take count ys
-take_behind count [] ys = ap (λ n. take n ys) (omega arith)
-take_behind count (x ∷ xs) ys =
-    let next : suc (length xs) + count ≡ suc (length xs + count) = omega arith in
-    ap (λ n. take n (x ∷ xs ++ ys)) next ∙ ap (λ zs. x ∷ zs) (take_behind count xs ys)
-
 pub front_wider : (most : ℕ) (before added more : List (List Event)) (bytes : List ℕ) → HoldsSome most before added bytes → HoldsSome most before (added ++ more) bytes
 front_wider most before added more bytes (count, few, holds) = (
   count,
   omega (arith, few, length-append added more),
-  subst (λ (bs : List (List Event)). Holds most (before ++ bs) bytes) (sym (take_front count added more few)) holds,
+  subst (λ (bs : List (List Event)). Holds most (before ++ bs) bytes) (sym (take-append-le count added more few)) holds,
 )
 
 pub front_behind : (most : ℕ) (before added more : List (List Event)) (bytes : List ℕ) → HoldsSome most (before ++ added) more bytes → HoldsSome most before (added ++ more) bytes
 front_behind most before added more bytes (count, few, holds) = (
   length added + count,
   omega (arith, few, length-append added more),
-  subst (λ (bs : List (List Event)). Holds most bs bytes) (append_assoc before added (take count more) ∙ ap (λ (bs : List (List Event)). before ++ bs) (sym (take_behind count added more))) holds,
+  subst (λ (bs : List (List Event)). Holds most bs bytes) (append_assoc before added (take count more) ∙ ap (λ (bs : List (List Event)). before ++ bs) (sym (take-append-add added more count))) holds,
 )
 
 pub kept_behind : (journal : JournalSeen) (told : Option (List ℕ)) (may : List ℕ → Type 0) (before added more : List (List Event)) → IsKeptAs journal told may ((before ++ added) ++ more)

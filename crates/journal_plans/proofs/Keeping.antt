@@ -1,14 +1,14 @@
 -- What is known of lines that are kept: of none, of one, and of some before others.
-use Rattle.std.proofs.Common.{◌≡◌, ◌≤◌, inl, inr, ℕ, min, List, [], ◌∷◌, ◌++◌, length, take, drop, Option, Result, Ok, Err, refl, sym, ap, subst, ◌∙◌, append_assoc, append-nil, arith}
+use Rattle.std.proofs.Common.{◌≡◌, ◌≤◌, inl, inr, ℕ, min, List, [], ◌∷◌, ◌++◌, length, drop, Option, Result, Ok, Err, refl, sym, ap, subst, ◌∙◌, append_assoc, append-nil, arith}
 use Rattle.std.specs.Io.KnownBytes.{Appends}
 use Rattle.std.proofs.KnownBytes.{Appends-nil}
-use Rattle.std.proofs.lemmas.List.{drop_all, take_min, take_all}
+use Rattle.std.proofs.lemmas.List.{drop_all, take_min, take_all, take-append-le}
 use Rattle.ew_model.specs.declared.event.Event.{Event}
 use Rattle.ew_model.specs.Limits.{LimitNumbers}
 use Rattle.ew_outside.specs.Outputs.{GrowsByFront}
 use Rattle.ew_outside.specs.Seen.{SinkSeen}
 use Rattle.ew_outside.specs.declared.fault.Fault.TheVariants as fault_is
-use Rattle.ew_outside.proofs.Outputs.{front_of_all}
+use Rattle.ew_outside.proofs.Outputs.{front_of_all, then_front}
 use Rattle.event_journal.specs.Disk.{StaysWithin}
 use Rattle.event_journal.specs.Journal.{JournalSeen, Holds, IsKept}
 use Rattle.event_journal.proofs.Moments.{joined, wider}
@@ -21,8 +21,8 @@ use Rattle.journal_plans.specs.Stops.{KeepCauses}
 use Rattle.journal_plans.specs.declared.stop.Stop.{Stop}
 use Rattle.journal_plans.specs.declared.stop.Stop.TheVariants as stop
 use Rattle.journal_plans.proofs.Adding.{kept_holds, no_moments}
-use Rattle.journal_plans.proofs.Joining.{front_behind, front_wider, take_front}
-use Rattle.journal_plans.proofs.Lines.{batches_joined, grows_then, holds_behind, holds_wider, sends_then, stops_behind, stops_wider, told_joined}
+use Rattle.journal_plans.proofs.Joining.{front_behind, front_wider}
+use Rattle.journal_plans.proofs.Lines.{batches_joined, holds_behind, holds_wider, sends_then, stops_behind, stops_wider, told_joined}
 
 -- ---- the output
 
@@ -40,7 +40,7 @@ sends_none out out' taken flushed = (same_taken out.taken out'.taken taken, inl 
 pub grows_wider : (old new : Option (List ℕ)) (xs ys : List ℕ) → GrowsByFront old new xs → GrowsByFront old new (xs ++ ys)
 grows_wider old new xs ys (n, h) =
     let within : min n (length xs) ≤ length xs = omega arith in
-    (min n (length xs), subst (Appends old new) (sym (take_front (min n (length xs)) xs ys within ∙ take_min n xs)) h)
+    (min n (length xs), subst (Appends old new) (sym (take-append-le (min n (length xs)) xs ys within ∙ take_min n xs)) h)
 
 -- ---- none
 
@@ -205,7 +205,7 @@ then_by limits before xs ys journal may told out mid out' (Err why) first h = st
 
 then_prints : {T : Type 0} (xs ys : List (List Event)) (out mid out' : SinkSeen) (result : Result T Stop) → SendsOn out mid (told_of xs) → PrintsLines ys mid out' result → PrintsLines (xs ++ ys) out out' result
 then_prints xs ys out mid out' (Ok x) first h = subst (SendsOn out out') (sym (told_joined xs ys)) (sends_then out mid out' (told_of xs) (told_of ys) first h)
-then_prints xs ys out mid out' (Err why) first h = subst (GrowsByFront out.taken out'.taken) (sym (told_joined xs ys)) (grows_then out.taken mid.taken out'.taken (told_of xs) (told_of ys) first.0 h)
+then_prints xs ys out mid out' (Err why) first h = subst (GrowsByFront out.taken out'.taken) (sym (told_joined xs ys)) (then_front out.taken mid.taken out'.taken (told_of xs) (told_of ys) first.0 h)
 
 module _ {D : Type 0} (may_leave : D → List ℕ → Type 0) (moment : D → ℕ) (left_since : D → ℕ → List ℕ → Type 0) (limits : LimitNumbers) (xs ys : List (List Event)) where
   -- some lines were kept, and then others

@@ -1,13 +1,14 @@
 -- Lines that are kept one after another.
 use Rattle.std.proofs.Common.{◌≡◌, ◌≤◌, ◌+◌, ◌-◌, inl, inr, ⊎_elim, ℕ, zero, suc, List, [], ◌∷◌, ◌++◌, length, take, Option, refl, sym, ap, subst, ◌∙◌, append_assoc, arith}
-use Rattle.std.specs.Io.KnownBytes.{Appends}
 use Rattle.std.proofs.KnownBytes.{Appends-trans}
 use Rattle.std.proofs.lemmas.Grind.{flat_map-append}
-use Rattle.std.proofs.lemmas.List.{length-append}
+use Rattle.std.proofs.lemmas.List.{length-append, take-append-le}
+use Rattle.std.proofs.Math.Seq.{take-append-add}
 use Rattle.ew_model.specs.declared.event.Event.{Event}
 use Rattle.ew_model.specs.Limits.{LimitNumbers}
 use Rattle.ew_outside.specs.Bytes.{IsFlushed}
 use Rattle.ew_outside.specs.Outputs.{GrowsByFront}
+use Rattle.ew_outside.proofs.Outputs.{then_front}
 use Rattle.ew_outside.specs.Seen.{SinkSeen}
 use Rattle.event_journal.specs.Journal.{Holds}
 use Rattle.peer_definitions.specs.Pieces.{frame_room, pieces}
@@ -15,7 +16,6 @@ use Rattle.command_table.specs.Scripts.{batches_of, told_of}
 use Rattle.command_table.specs.Text.{kept_text}
 use Rattle.journal_plans.specs.Keeping.{HoldsLines, SendsOn, StopsAt}
 use Rattle.journal_plans.specs.declared.stop.Stop.{Stop}
-use Rattle.journal_plans.proofs.Joining.{take_front, take_behind}
 
 pub batches_joined : (limits : LimitNumbers) (xs ys : List (List Event)) → batches_of limits (xs ++ ys) ≡ batches_of limits xs ++ batches_of limits ys
 batches_joined limits xs ys = flat_map-append (pieces (frame_room limits)) xs ys
@@ -36,9 +36,6 @@ sends_then out mid out' xs ys first second = (
       (λ flushed. inr flushed)
       second.1,
 )
-
-pub grows_then : (out mid out' : Option (List ℕ)) (xs ys : List ℕ) → Appends out mid xs → GrowsByFront mid out' ys → GrowsByFront out out' (xs ++ ys)
-grows_then out mid out' xs ys first (n, second) = (length xs + n, subst (Appends out out') (sym (take_behind n xs ys)) (Appends-trans out mid out' xs (take n ys) first second))
 
 -- ---- where it is stopped
 
@@ -67,12 +64,12 @@ module _ (limits : LimitNumbers) (before xs ys : List (List Event)) where
   -- before lines that aren't tried any more
   pub holds_wider : (out out' : SinkSeen) (bytes : List ℕ) → HoldsLines limits xs before out out' bytes → HoldsLines limits (xs ++ ys) before out out' bytes
   holds_wider out out' bytes h =
-      let lines : take h.whole_lines (xs ++ ys) ≡ take h.whole_lines xs = take_front h.whole_lines xs ys h.within in
+      let lines : take h.whole_lines (xs ++ ys) ≡ take h.whole_lines xs = take-append-le h.whole_lines xs ys h.within in
       record {
         count = h.count;
         few = omega (arith, h.few, added);
         holds = subst (λ (bs : List (List Event)). Holds limits.body (before ++ bs) bytes)
-            (sym (ap (take h.count) (batches_joined limits xs ys) ∙ take_front h.count (batches_of limits xs) (batches_of limits ys) h.few)) h.holds;
+            (sym (ap (take h.count) (batches_joined limits xs ys) ∙ take-append-le h.count (batches_of limits xs) (batches_of limits ys) h.few)) h.holds;
         whole_lines = h.whole_lines;
         within = omega (arith, h.within, length-append xs ys);
         stand = omega (arith, h.stand, ap (λ ls. length (batches_of limits ls)) lines);
@@ -83,7 +80,7 @@ module _ (limits : LimitNumbers) (before xs ys : List (List Event)) where
   unfolding holds_wider
   stops_wider told out out' why h =
       let whole = h.front.whole_lines in
-      let lines : take whole (xs ++ ys) ≡ take whole xs = take_front whole xs ys h.front.within in
+      let lines : take whole (xs ++ ys) ≡ take whole xs = take-append-le whole xs ys h.front.within in
       record {
         bytes = h.bytes;
         told_is = h.told_is;
@@ -95,17 +92,17 @@ module _ (limits : LimitNumbers) (before xs ys : List (List Event)) where
 
   -- behind lines that were kept
   text_behind : (n : ℕ) → told_of xs ++ told_of (take n ys) ≡ told_of (take (length xs + n) (xs ++ ys))
-  text_behind n = sym (ap told_of (take_behind n xs ys) ∙ told_joined xs (take n ys))
+  text_behind n = sym (ap told_of (take-append-add xs ys n) ∙ told_joined xs (take n ys))
 
   pub holds_behind : (out mid out' : SinkSeen) (bytes : List ℕ) → SendsOn out mid (told_of xs) → HoldsLines limits ys (before ++ batches_of limits xs) mid out' bytes → HoldsLines limits (xs ++ ys) before out out' bytes
   holds_behind out mid out' bytes first h =
-      let lines : take (length xs + h.whole_lines) (xs ++ ys) ≡ xs ++ take h.whole_lines ys = take_behind h.whole_lines xs ys in
+      let lines : take (length xs + h.whole_lines) (xs ++ ys) ≡ xs ++ take h.whole_lines ys = take-append-add xs ys h.whole_lines in
       record {
         count = length (batches_of limits xs) + h.count;
         few = omega (arith, h.few, added);
         holds = subst (λ (bs : List (List Event)). Holds limits.body bs bytes)
             (append_assoc before (batches_of limits xs) (take h.count (batches_of limits ys))
-            ∙ ap (λ (bs : List (List Event)). before ++ bs) (sym (ap (take (length (batches_of limits xs) + h.count)) (batches_joined limits xs ys) ∙ take_behind h.count (batches_of limits xs) (batches_of limits ys)))) h.holds;
+            ∙ ap (λ (bs : List (List Event)). before ++ bs) (sym (ap (take (length (batches_of limits xs) + h.count)) (batches_joined limits xs ys) ∙ take-append-add (batches_of limits xs) (batches_of limits ys) h.count))) h.holds;
         whole_lines = length xs + h.whole_lines;
         within = omega (arith, h.within, length-append xs ys);
         stand = omega (
@@ -115,14 +112,14 @@ module _ (limits : LimitNumbers) (before xs ys : List (List Event)) where
           ap length (batches_joined limits xs (take h.whole_lines ys)),
           length-append (batches_of limits xs) (batches_of limits (take h.whole_lines ys)),
         );
-        printed = subst (GrowsByFront out.taken out'.taken) (text_behind h.whole_lines) (grows_then out.taken mid.taken out'.taken (told_of xs) (told_of (take h.whole_lines ys)) first.0 h.printed);
+        printed = subst (GrowsByFront out.taken out'.taken) (text_behind h.whole_lines) (then_front out.taken mid.taken out'.taken (told_of xs) (told_of (take h.whole_lines ys)) first.0 h.printed);
       }
 
   pub stops_behind : (told : Option (List ℕ)) (out mid out' : SinkSeen) (why : Stop) → SendsOn out mid (told_of xs) → StopsAt limits ys (before ++ batches_of limits xs) told mid out' why → StopsAt limits (xs ++ ys) before told out out' why
   unfolding holds_behind
   stops_behind told out mid out' why first h =
       let whole = h.front.whole_lines in
-      let one_more : take (length xs + suc whole) (xs ++ ys) ≡ xs ++ take (suc whole) ys = take_behind (suc whole) xs ys in
+      let one_more : take (length xs + suc whole) (xs ++ ys) ≡ xs ++ take (suc whole) ys = take-append-add xs ys (suc whole) in
       let next : suc (length xs + whole) ≡ length xs + suc whole = omega arith in
       record {
         bytes = h.bytes;

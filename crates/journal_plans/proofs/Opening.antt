@@ -1,7 +1,7 @@
 -- A journal that was read is opened as the table says.
-use Rattle.std.proofs.Common.{◌≡◌, ◌≤◌, ◌<◌, ◌∙◌, ℕ, Bool, true, false, nat_lt, if◌then◌else◌, List, [], length, Option, None, Some, Ok, inl, inr, refl, sym, ap, subst, arith}
+use Rattle.std.proofs.Common.{◌≡◌, ◌≤◌, ◌∙◌, ℕ, Bool, if◌then◌else◌, List, [], length, Option, None, Some, Ok, inl, inr, refl, sym, ap, subst, arith}
 use Rattle.std.specs.Prelude.{IfSome}
-use Rattle.std.proofs.lemmas.Bool.Decides.{nat_tests}
+use Rattle.std.proofs.lemmas.Bool.{le-ltb, lt-ltb}
 use Rattle.ew_model.specs.declared.event.Event.{Event}
 use Rattle.ew_model.specs.Limits.{LimitNumbers}
 use Rattle.ew_model.specs.Verdicts.{first_bad}
@@ -22,17 +22,11 @@ use Rattle.journal_plans.specs.Opening.{RefusesOpening}
 use Rattle.journal_plans.proofs.Adding.{kept_holds}
 use Rattle.journal_plans.proofs.Fronts.{too_many_so}
 
-not_above : (most n : ℕ) → n ≤ most → nat_lt most n ≡ false
-not_above most n h = grind (arith, nat_tests)
-
-is_above : (most n : ℕ) → most < n → nat_lt most n ≡ true
-is_above most n h = grind (arith, nat_tests)
-
 -- where it has no more events than it may
 ended_so : (limits : LimitNumbers) (j : Journal) → length (journal_events j.batches) ≤ limits.events → open_journal limits j ≡ ended_journal (journal_events j.batches) j.bad
 ended_so limits j few =
     ap (λ (b : Bool). if b then refused (journal_too_many limits.events) else ended_journal (journal_events j.batches) j.bad)
-    (not_above limits.events (length (journal_events j.batches)) few)
+    (le-ltb limits.events (length (journal_events j.batches)) few)
 
 pub opened_so : (limits : LimitNumbers) (bytes : List ℕ) (j : Journal) (events : List Event) → IsJournal limits bytes j → HoldsEvents limits.body events bytes → length events ≤ limits.events
     → judged_journal events (first_bad events) ≡ open_journal limits j
@@ -49,7 +43,7 @@ bad_so limits offset bytes j is (batches, holds, few) =
 pub many_so : (limits : LimitNumbers) (count : ℕ) (bytes : List ℕ) (j : Journal) → IsJournal limits bytes j → HoldsTooMany limits count bytes → open_journal limits j ≡ refused (journal_too_many limits.events)
 many_so limits count bytes j is many =
     ap (λ (b : Bool). if b then refused (journal_too_many limits.events) else ended_journal (journal_events j.batches) j.bad)
-    (is_above limits.events (length (journal_events j.batches)) (too_many_so limits count bytes j.batches j.bad many is))
+    (lt-ltb limits.events (length (journal_events j.batches)) (too_many_so limits count bytes j.batches j.bad many is))
 
 -- ---- where the disk tells the journal
 

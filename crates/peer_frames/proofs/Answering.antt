@@ -1,5 +1,5 @@
 -- What a reader answers.
-use Rattle.std.proofs.Common.{◌≡◌, ℕ, ◌+◌, ◌-◌, ◌^◌, ◌<◌, List, ◌++◌, length, take, drop, Result, Ok, Err, refl, sym, ap, subst, ◌∙◌, append_assoc, arith}
+use Rattle.std.proofs.Common.{◌≡◌, ℕ, ◌+◌, ◌-◌, ◌^◌, ◌<◌, List, ◌++◌, length, take, drop, Option, Some, IfSome, Result, Ok, Err, refl, sym, ap, subst, ◌∙◌, append_assoc, arith}
 use Rattle.std.specs.Prelude.{OnOk, OnErr}
 use Rattle.ew_model.specs.Limits.{LimitNumbers}
 use Rattle.ew_model.specs.Bytes.{AreBytes}
@@ -11,7 +11,7 @@ use Rattle.peer_definitions.specs.Spelling.{IsBody}
 use Rattle.peer_definitions.specs.Cutting.{head_of, Tells, Finds}
 use Rattle.peer_definitions.specs.Cutting.Head.{Complete}
 use Rattle.peer_definitions.specs.Cutting.Front.{Whole, BadBody}
-use Rattle.peer_frames.specs.Answers.{IsRead}
+use Rattle.peer_frames.specs.Answers.{said, IsRead}
 use Rattle.peer_frames.specs.Reading.{kind_byte, frame_in, Gives}
 use Rattle.peer_frames.proofs.Bodies.{frame_some, frame_back}
 use Rattle.peer_frames.proofs.Cuts.{faults_stay, none_is}
@@ -50,6 +50,10 @@ finds_whole limits bytes kind len body f h is =
 pub finds_bad : (limits : LimitNumbers) (bytes : List ℕ) (kind : Kind) (len : ℕ) (body : List ℕ) → HasBody limits bytes kind len body → ((f : Frame) → IsBody (kind_byte kind) body f → ⊥) → Finds limits bytes BadBody
 finds_bad limits bytes kind len body h bad =
     subst (λ head. Tells head BadBody) (sym h.head) (subst (λ bs. (f : Frame) → IsBody (kind_byte kind) bs f → ⊥) h.cut bad)
+
+-- the frame that a reader answers
+pub found_next : (limits : LimitNumbers) (bytes kept : List ℕ) (f : Frame) (r : Result (Option Frame) FrameFault) (o : Option Frame) → r ≡ Ok o → o ≡ Some f → IfSome (said r kept) (λ front. Finds limits bytes front) → Finds limits bytes (Whole f kept)
+found_next limits bytes kept f r o is some found = subst (λ x. IfSome (said x kept) (λ front. Finds limits bytes front)) (is ∙ ap (λ (x : Option Frame). Ok x) some) found
 
 -- four numbers, written one after the other
 pub four_written : {T E : Type 0} (r : Result T E) (before a b c d first second third now : List ℕ) → first ≡ before ++ a → second ≡ first ++ b → third ≡ second ++ c → OnOk r (now ≡ third ++ d) → OnOk r (now ≡ before ++ (((a ++ b) ++ c) ++ d))

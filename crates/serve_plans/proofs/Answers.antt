@@ -1,13 +1,11 @@
 -- From the answer to one frame to what was spoken.
-use Rattle.std.proofs.Common.{◌≡◌, ℕ, ◌+◌, List, [], ◌∷◌, ◌++◌, length, Option, None, Some, IfSome, Result, Ok, Err, true, false, ◌<◌, refl, sym, ap, subst, ◌∙◌, inl, inr, take, append-nil}
+use Rattle.std.proofs.Common.{◌≡◌, ℕ, ◌+◌, List, [], ◌∷◌, ◌++◌, length, Option, None, Some, Result, Ok, Err, true, false, ◌<◌, refl, sym, ap, subst, ◌∙◌, inl, inr, take, append-nil}
 use Rattle.std.specs.Io.KnownBytes.{Appends}
 use Rattle.std.specs.Result.{IsErr}
 use Rattle.std.proofs.KnownBytes.{Appends-nil}
 use Rattle.ew_model.specs.Kept.{ReplicaState}
 use Rattle.ew_model.specs.Limits.{LimitNumbers}
-use Rattle.peer_frames.specs.declared.fault.FrameFault.{FrameFault}
 use Rattle.peer_definitions.specs.declared.frame.Frame.{Frame}
-use Rattle.peer_frames.specs.Answers.{said}
 use Rattle.peer_definitions.specs.Cutting.{Finds}
 use Rattle.peer_definitions.specs.Cutting.Front.{Whole}
 use Rattle.peer_definitions.specs.Answering.{Answered, answer_to}
@@ -120,12 +118,6 @@ module _ (limits kept : LimitNumbers) (start mid now : ReplicaState) (bytes rest
   broken_next number (Ok o) err h = absurd (ok_is_not o err)
   broken_next number (Err halt) err h = broken_on limits start mid bytes rest out out' flushed flushed' before after s out''
       (broken_one limits mid now rest f tail out' out'' flushed' flushed'' here h)
-
--- the frame that a reader answers
-pub found_next : (limits : LimitNumbers) (bytes kept : List ℕ) (f : Frame) (r : Result (Option Frame) FrameFault) (o : Option Frame) → r ≡ Ok o → o ≡ Some f
-    → IfSome (said r kept) (λ front. Finds limits bytes front)
-    → Finds limits bytes (Whole f kept)
-found_next limits bytes kept f r o is some found = subst (λ x. IfSome (said x kept) (λ front. Finds limits bytes front)) (is ∙ ap (λ (x : Option Frame). Ok x) some) found
 
 -- what was taken is behind what was
 pub answers_grow : (limits : LimitNumbers) (start now : ReplicaState) (bytes rest : List ℕ) (out out' : Option (List ℕ)) (flushed flushed' : Option ℕ)

@@ -13,12 +13,14 @@ use Rattle.peer_definitions.specs.Answering.{answer_to}
 use Rattle.peer_definitions.specs.declared.end.End.{End}
 use Rattle.peer_definitions.specs.declared.end.End.TheVariants as end
 use Rattle.ew_outside.specs.Outputs.{GrowsByFront}
+use Rattle.ew_outside.proofs.Outputs.{then_front}
 use Rattle.command_table.specs.Sessions.{Exchange, exchanged, then_exchanged, bytes_of}
+use Rattle.command_table.proofs.Sessions.{behind, talked_on}
 use Rattle.serve_plans.specs.Serving.{sent_by, StaysOrFlushed, Spoken, Closes, Closed, Broken}
 use Rattle.serve_plans.specs.declared.closing.Closing.{Closing}
 use Rattle.serve_plans.specs.declared.closing.Closing.TheVariants as closing
 use Rattle.serve_plans.proofs.Cutting.{begins_more, begins_append, begins_one}
-use Rattle.serve_plans.proofs.Talks.{behind, talked_on, IsFrontOf}
+use Rattle.serve_plans.proofs.Talks.{IsFrontOf}
 
 -- ---- fronts
 
@@ -34,12 +36,6 @@ taken_front n xs = record { rest = drop n xs; is = sym (take-append-drop n xs) }
 -- a front of a front
 pub front_grows : (a b : Option (List ℕ)) (front whole : List ℕ) → GrowsByFront a b front → IsFrontOf front whole → GrowsByFront a b whole
 front_grows a b front whole g f = appended_front a b (take g.0 front) whole g.1 (front_trans (take g.0 front) front whole (taken_front g.0 front) f)
-
--- all of one piece, and a front of the next
-pub then_front : (a b c : Option (List ℕ)) (first second : List ℕ) → Appends a b first → GrowsByFront b c second → GrowsByFront a c (first ++ second)
-then_front a b c first second all g =
-    appended_front a c (first ++ take g.0 second) (first ++ second) (Appends-trans a b c first (take g.0 second) all g.1)
-    (record { rest = drop g.0 second; is = ap (λ l. first ++ l) (sym (take-append-drop g.0 second)) ∙ sym (append_assoc first (take g.0 second) (drop g.0 second)) })
 
 -- ---- what was spoken
 

@@ -1,40 +1,13 @@
 -- What is answered to frames, and then to more of them.
-use Rattle.std.proofs.Common.{◌≡◌, ℕ, List, [], ◌∷◌, ◌++◌, Option, None, Some, refl, sym, ap, subst, ◌∙◌, append_assoc, append-nil}
+use Rattle.std.proofs.Common.{◌≡◌, ℕ, List, [], ◌∷◌, ◌++◌, Option, None, Some, refl, sym, ap, subst, append_assoc, append-nil}
 use Rattle.ew_model.specs.Kept.{ReplicaState}
 use Rattle.peer_definitions.specs.declared.frame.Frame.{Frame}
 use Rattle.peer_definitions.specs.Answering.{Answered, answer_to}
 use Rattle.peer_definitions.specs.declared.end.End.{End}
 use Rattle.peer_definitions.specs.declared.end.End.TheVariants as end
-use Rattle.command_table.specs.Sessions.{Exchange, exchanged, then_exchanged, bytes_of}
+use Rattle.command_table.specs.Sessions.{Exchange, exchanged, then_exchanged}
+use Rattle.command_table.proofs.Sessions.{behind, talked_on}
 use Rattle.serve_plans.specs.Serving.{sent_by}
-
-none_is : {A : Type 0} (x : A) → Some x ≡ None → ⊥
-none_is x e = absurd cc
-
--- what is exchanged behind frames that didn't end the session
-abbrev pub behind : Exchange → Exchange → Exchange
-behind t more = record { sent = t.sent ++ more.sent; last = more.last; end = more.end; state = more.state }
-
-then_behind : (a : Answered) (e : Option End) (t more : Exchange) → (then_exchanged a e t).end ≡ None
-    → then_exchanged a e (behind t more) ≡ behind (then_exchanged a e t) more
-then_behind a None t more unended = ap (λ s. record { sent = s; last = more.last; end = more.end; state = more.state })
-    (sym (append_assoc (bytes_of a.frames) t.sent more.sent))
-then_behind a (Some e) t more unended = absurd (none_is e unended)
-
-then_open : (a : Answered) (e : Option End) (t : Exchange) → (then_exchanged a e t).end ≡ None → (t.end ≡ None) × ((then_exchanged a e t).state ≡ t.state)
-then_open a None t unended = (unended, refl)
-then_open a (Some e) t unended = absurd (none_is e unended)
-
--- frames that didn't end the session, and then more of them
-pub talked_on : (r : ReplicaState) (frames more : List Frame) → (exchanged r frames).end ≡ None
-    → exchanged r (frames ++ more) ≡ behind (exchanged r frames) (exchanged (exchanged r frames).state more)
-talked_on r [] more unended = refl
-talked_on r (f ∷ frames) more unended =
-    let a = answer_to r f in
-    let t = exchanged a.state frames in
-    let first = then_open a a.end t unended in
-    ap (then_exchanged a a.end) (talked_on a.state frames more first.0) ∙ then_behind a a.end t (exchanged t.state more) unended
-    ∙ ap (λ s. behind (then_exchanged a a.end t) (exchanged s more)) (sym first.1)
 
 then_same : (a : Answered) (e : Option End) (t s : Exchange) (x : End) → (then_exchanged a e t).end ≡ Some x → (t.end ≡ Some x → s ≡ t)
     → then_exchanged a e s ≡ then_exchanged a e t

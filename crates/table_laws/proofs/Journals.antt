@@ -1,9 +1,8 @@
 -- A watch that is done keeps what an edit makes, and an export that is done opens as the journal.
-use Rattle.std.proofs.Common.{◌≡◌, ◌≤◌, ℕ, Bool, true, false, nat_lt, if◌then◌else◌, inl, inr, List, [], ◌∷◌, ◌++◌, length, flat_map, Option, None, Some, refl, sym, ap, ◌∙◌, subst, append_assoc, append-nil, arith}
+use Rattle.std.proofs.Common.{◌≡◌, ℕ, Bool, true, false, nat_lt, if◌then◌else◌, inl, inr, List, [], ◌∷◌, ◌++◌, length, flat_map, Option, None, Some, refl, sym, ap, ◌∙◌, subst, append_assoc, append-nil, arith}
 use Rattle.std.specs.FinMap.{get}
 use Rattle.std.specs.List.{AllByRecursion}
-use Rattle.std.proofs.lemmas.Bool.{cases_lt}
-use Rattle.std.proofs.lemmas.Bool.Decides.{nat_tests}
+use Rattle.std.proofs.lemmas.Bool.{cases_lt, ltb-false}
 use Rattle.std.proofs.lemmas.Grind.{flat_map-append}
 use Rattle.ew_model.specs.declared.event.Event.{Event}
 use Rattle.ew_model.specs.Edits.{Edit, EditRefusal, edit_refusal, events_of_edit}
@@ -135,9 +134,6 @@ journal_sound limits bytes j is =
       | inr long ↦ flat_sound limits.body j.batches (is.long long).1.each
     ]
 
-few_when_not_above : (most n : ℕ) → nat_lt most n ≡ false → n ≤ most
-few_when_not_above most n h = grind (arith, nat_tests)
-
 pub exports_open : ExportsOpen
 exports_open limits files journal bytes input reading name numbers is zero =
     let events = journal_events journal.batches in
@@ -152,7 +148,7 @@ exports_open limits files journal bytes input reading name numbers is zero =
     ∙ ap (λ (bad : Option ℕ). export_reply name missing (ended_journal events bad)) e.0
     ∙ ap (λ (found : Option BadEvent). export_reply name missing (judged_journal events found)) e.1 in
     let t : session_answer (closed_by reply) files ≡ session_answer (closed_by (stores [] name (file2_of events))) files = ap (λ (r : Reply). session_answer (closed_by r) files) reply_is in
-    let one : IsStorable limits events = record { sound = journal_sound limits bytes journal is; few = few_when_not_above limits.events (length events) c.0 } in
+    let one : IsStorable limits events = record { sound = journal_sound limits bytes journal is; few = ltb-false limits.events (length events) c.0 } in
     record {
       was = m.0;
       silent = ap (λ (a : Answer). a.out) t;

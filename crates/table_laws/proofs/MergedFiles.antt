@@ -3,6 +3,7 @@ use Rattle.std.proofs.Common.{◌≡◌, ℕ, ◌<◌, ◌≤◌, ◌^◌, Bool,
 use Rattle.std.specs.List.{list_any}
 use Rattle.std.specs.FinMap.{get, insert, get-insert}
 use Rattle.std.proofs.lemmas.Cmp.{nat_list_cmp_total}
+use Rattle.std.proofs.lemmas.Bool.{le-ltb}
 use Rattle.std.proofs.lemmas.Bool.Decides.{nat_tests}
 use Rattle.ew_model.specs.declared.id.Id.{Id}
 use Rattle.ew_model.specs.declared.event.Event.{Event}
@@ -124,9 +125,6 @@ stored_files false text name bytes files = inr (refl, refl)
 not_above : (n : ℕ) → nat_lt 0 n ≡ false → n ≡ 0
 not_above n h = grind (arith, nat_tests)
 
-pub not_longer : (most n : ℕ) → n ≤ most → nat_lt most n ≡ false
-not_longer most n h = grind (arith, nat_tests)
-
 -- a merge that is done, of two files over a map
 pub record Done (limits : LimitNumbers) (files : Files) (name other : Text) (t : Answer) : Type 0 where
   pub events : List Event
@@ -230,7 +228,7 @@ stored_opens limits files name events numbers good one =
     opened_is name limits (insert files name (file2_of events)) events (record {
       bytes = file2_of events;
       here = stored_here files name (file2_of events);
-      short = not_longer (most_file_bytes limits.events) (length (file2_of events)) (omega (arith, size, one.few));
+      short = le-ltb (most_file_bytes limits.events) (length (file2_of events)) (omega (arith, size, one.few));
       read = read_again limits events numbers good one;
       good = (good_has_no_bad events).0 good;
     })
@@ -261,7 +259,7 @@ opens_new limits files name other t d numbers one two =
     record {
       bytes = file2_of held;
       here = ap (λ (m : Files). get m name) stored ∙ stored_here files name (file2_of held);
-      short = not_longer (most_file_bytes limits.events) (length (file2_of held)) (omega (arith, size, s.1.few));
+      short = le-ltb (most_file_bytes limits.events) (length (file2_of held)) (omega (arith, size, s.1.few));
       read = read_again limits held numbers s.0 s.1;
       good = (good_has_no_bad held).0 s.0;
     })

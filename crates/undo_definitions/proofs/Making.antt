@@ -1,23 +1,23 @@
 -- The events of an undo, one after another: behind each, what stands left of its index is as it is wanted.
-use Rattle.std.proofs.Common.{◌≡◌, ℕ, suc, ◌+◌, ◌<◌, ◌≤◌, Bool, true, false, not, cond, List, [], ◌∷◌, ◌++◌, map, filter, length, insert, remove, take, drop, refl, sym, ap, ◌∙◌, subst, append_assoc, append-nil, length-append, arith}
+use Rattle.std.proofs.Common.{◌≡◌, ℕ, suc, ◌+◌, Bool, true, false, not, cond, List, [], ◌∷◌, ◌++◌, filter, length, insert, remove, drop, refl, sym, ap, ◌∙◌, subst, append_assoc, append-nil, length-append, arith}
 use Rattle.std.specs.List.{cons_option}
-use Rattle.std.proofs.lemmas.Bool.{false≢true, true≢false}
+use Rattle.std.proofs.lemmas.Bool.{false≢true}
 use Rattle.std.proofs.lemmas.List.{length-map, take_at, drop_at}
 use Rattle.ew_model.specs.declared.event.Op.{Op}
 use Rattle.ew_model.specs.declared.event.Op.TheVariants as op
 use Rattle.ew_model.specs.declared.event.Event.{Event}
 use Rattle.ew_model.specs.declared.id.Id.{Id}
-use Rattle.ew_model.specs.Ancestors.{is_held, heads}
+use Rattle.ew_model.specs.Ancestors.{is_held}
 use Rattle.ew_model.specs.Edits.{events_of_ops}
 use Rattle.ew_model.specs.Entries.{Inserted}
 use Rattle.ew_model.specs.TextLaws.{own_change, Fits}
-use Rattle.ew_model.specs.Texts.{text_of}
+use Rattle.ew_model.specs.Texts.{text_chars, text_of}
 use Rattle.ew_model.specs.Verdicts.{IsGood}
 use Rattle.ew_model.proofs.EditEvents.{event_by, HasCome, has_come, chain_goes_on, FewHeads}
 use Rattle.ew_model.proofs.EntryLaws.{not_held_before}
 use Rattle.ew_model.proofs.GoodLaws.{good_laid_out}
 use Rattle.ew_model.proofs.OperationLaws.{laid_last}
-use Rattle.undo_definitions.specs.Wanted.{chars_shown, is_gone}
+use Rattle.undo_definitions.specs.Wanted.{is_gone}
 use Rattle.undo_definitions.specs.Undoing.{change_of}
 use Rattle.undo_definitions.specs.UndoLaws.{Shows, AreShown}
 use Rattle.undo_definitions.proofs.Scripts.{script}
@@ -36,15 +36,15 @@ remove_here front rest x n e =
     λ i. take_at front (x ∷ rest) n e i ++ behind i
 
 -- the text has as many characters as are shown
-pub text_long : (history : List Event) → length (text_of history) ≡ length (chars_shown history)
+pub text_long : (history : List Event) → length (text_of history) ≡ length (text_chars history)
 unfolding text_of
-text_long history = length-map (chars_shown history) (λ (x : Inserted). x.ch)
+text_long history = length-map (text_chars history) (λ (x : Inserted). x.ch)
 
 -- what the events leave: a good history, which shows the front as it was, and behind it one character for each of these
 pub record Made (first : List Event) (later : List Event) (front zs : List Inserted) : Type 0 where
   pub good : IsGood later
   pub chars : List Inserted
-  pub shown : chars_shown later ≡ front ++ chars
+  pub shown : text_chars later ≡ front ++ chars
   pub are : AreShown first zs chars
 
 -- where one more stands at the end of the front
@@ -87,12 +87,12 @@ module _ (first : List Event) (agent : List ℕ) (want : Inserted → Bool) wher
   -- so many characters of the text may be come by
   abbrev Goes : List Inserted → Type 0
   Goes zs = (n : ℕ) (front : List Inserted) (history : List Event) → length front ≡ n → IsGood history → HoldsFirst history
-      → FewHeads history (script (is_gone first) want n zs) → chars_shown history ≡ front ++ filter (λ z. not (is_gone first z)) zs
+      → FewHeads history (script (is_gone first) want n zs) → text_chars history ≡ front ++ filter (λ z. not (is_gone first z)) zs
       → Made first (behind history (script (is_gone first) want n zs)) front (filter want zs)
 
   -- one character, with what is done about it, and those behind it
   along : (z : Inserted) (zs : List Inserted) → Goes zs → (g w : Bool) → is_gone first z ≡ g → (n : ℕ) (front : List Inserted) (history : List Event) → length front ≡ n → IsGood history → HoldsFirst history
-      → FewHeads history (cons_option (change_of n z.ch g w) (script (is_gone first) want (cond w (suc n) n) zs)) → chars_shown history ≡ front ++ cond (not g) (z ∷ filter (λ y. not (is_gone first y)) zs) (filter (λ y. not (is_gone first y)) zs)
+      → FewHeads history (cons_option (change_of n z.ch g w) (script (is_gone first) want (cond w (suc n) n) zs)) → text_chars history ≡ front ++ cond (not g) (z ∷ filter (λ y. not (is_gone first y)) zs) (filter (λ y. not (is_gone first y)) zs)
       → Made first (behind history (cons_option (change_of n z.ch g w) (script (is_gone first) want (cond w (suc n) n) zs))) front (cond w (z ∷ filter want zs) (filter want zs))
   along z zs go false true q n front history long good held few shown =
       let rest = filter (λ y. not (is_gone first y)) zs in
@@ -102,10 +102,10 @@ module _ (first : List Event) (agent : List ℕ) (want : Inserted → Bool) wher
   along z zs go false false q n front history long good held few shown =
       let rest = filter (λ y. not (is_gone first y)) zs in
       let ops = script (is_gone first) want n zs in
-      let size : length (chars_shown history) ≡ length front + length (z ∷ rest) = ap length shown ∙ length-append front (z ∷ rest) in
+      let size : length (text_chars history) ≡ length front + length (z ∷ rest) = ap length shown ∙ length-append front (z ∷ rest) in
       let fit : Fits (length (text_of history)) (own_change (op.Del n)) = omega (arith, text_long history, size, long) in
       let come : HasCome history (event_by history agent (op.Del n)) = has_come history agent (op.Del n) good few fit in
-      let then_shown : chars_shown (history ++ event_by history agent (op.Del n) ∷ []) ≡ front ++ rest =
+      let then_shown : text_chars (history ++ event_by history agent (op.Del n) ∷ []) ≡ front ++ rest =
       taken history agent n good (omega (arith, size, long)) ∙ ap (λ (ys : List Inserted). remove ys n) shown ∙ remove_here front rest z n long in
       subst (λ later. Made first later front (filter want zs)) (behind_first history (op.Del n) ops come)
       (go n front (history ++ event_by history agent (op.Del n) ∷ []) long come.good (holds_more history (event_by history agent (op.Del n)) held) (few_then history (event_by history agent (op.Del n)) ops come) then_shown)
@@ -113,12 +113,12 @@ module _ (first : List Event) (agent : List ℕ) (want : Inserted → Bool) wher
       let rest = filter (λ y. not (is_gone first y)) zs in
       let ops = script (is_gone first) want (suc n) zs in
       let e = event_by history agent (op.Ins n z.ch) in
-      let size : length (chars_shown history) ≡ length front + length rest = ap length shown ∙ length-append front rest in
+      let size : length (text_chars history) ≡ length front + length rest = ap length shown ∙ length-append front rest in
       let fit : Fits (length (text_of history)) (own_change (op.Ins n z.ch)) = omega (arith, text_long history, size, long) in
       let come : HasCome history e = has_come history agent (op.Ins n z.ch) good few fit in
       let put = put_in history agent n z.ch good come (omega (arith, size, long)) in
       let x = put.0 in
-      let then_shown : chars_shown (history ++ e ∷ []) ≡ (front ++ x ∷ []) ++ rest =
+      let then_shown : text_chars (history ++ e ∷ []) ≡ (front ++ x ∷ []) ++ rest =
       put.3 ∙ ap (λ (ys : List Inserted). insert ys n x) shown ∙ insert_here front rest x n long in
       let new : is_held first x.id ≡ false = ap (is_held first) put.1 ∙ held e.id (laid_last [] history e (good_laid_out (history ++ e ∷ []) come.good)) in
       subst (λ later. Made first later front (z ∷ filter want zs)) (behind_first history (op.Ins n z.ch) ops come)
@@ -129,7 +129,7 @@ module _ (first : List Event) (agent : List ℕ) (want : Inserted → Bool) wher
   made_along [] n front history long good held few shown = record {
     good = subst IsGood (sym (no_more history)) good;
     chars = [];
-    shown = ap chars_shown (no_more history) ∙ shown;
+    shown = ap text_chars (no_more history) ∙ shown;
     are = tt;
   }
   made_along (z ∷ zs) n front history long good held few shown =

@@ -1,13 +1,13 @@
 -- The definitions at work, worked out by hand: a types abc.
 use Rattle.std.proofs.Common.{◌≡◌, ℕ, List, [], ◌∷◌, ◌++◌, Some, None, refl}
-use Rattle.ew_model.specs.declared.event.Op.TheVariants.{Ins, Del}
+use Rattle.ew_model.specs.declared.event.Op.TheVariants.{Ins}
 use Rattle.ew_model.specs.declared.event.Event.{Event}
 use Rattle.ew_model.specs.Edits.{events_of_ops}
 use Rattle.ew_model.proofs.Rows.Events.{id, ins, del, abc, delete_beside_insert, twice_deleted}
 use Rattle.ew_model.proofs.Rows.Texts.{opened}
 use Rattle.ew_model.proofs.Rows.Receiving.{program}
 use Rattle.undo_definitions.specs.Wanted.{ids_from, wanted}
-use Rattle.undo_definitions.specs.Undoing.{ops_of_undo, events_of_undo, UndoRefusal, undo_refusal}
+use Rattle.undo_definitions.specs.Undoing.{ops_of_undo, events_of_undo, undo_refusal}
 use Rattle.undo_definitions.specs.Undoing.UndoRefusal.{NoEvent}
 
 -- all that an undo unfolds

@@ -1,13 +1,11 @@
 -- What an event that an agent makes behind all that is held does to the characters that are shown.
-use Rattle.std.proofs.Common.{◌≡◌, ℕ, ◌<◌, ◌≤◌, true, Bool, List, [], ◌∷◌, ◌++◌, map, length, insert, remove, Option, Some, None, option_map, slice_get, refl, sym, ap, ◌∙◌, subst}
+use Rattle.std.proofs.Common.{◌≡◌, ℕ, ◌<◌, ◌≤◌, true, List, [], ◌∷◌, ◌++◌, length, insert, remove, Option, Some, None, option_map, refl, ap, ◌∙◌, subst}
 use Rattle.std.proofs.lemmas.List.{map-append}
-use Rattle.std.specs.List.{position}
 use Rattle.ew_model.specs.declared.id.Id.{Id}
 use Rattle.ew_model.specs.declared.event.Op.{Op}
 use Rattle.ew_model.specs.declared.event.Op.TheVariants as op
 use Rattle.ew_model.specs.declared.event.Event.{Event}
-use Rattle.ew_model.specs.Sets.{Among}
-use Rattle.ew_model.specs.Ids.{id_eq, is_among}
+use Rattle.ew_model.specs.Ids.{is_among}
 use Rattle.ew_model.specs.Ancestors.{ids_of, ancestors, heads}
 use Rattle.ew_model.specs.Paths.{Step}
 use Rattle.ew_model.specs.Entries.{Inserted, Entry, order, visible}
@@ -15,9 +13,9 @@ use Rattle.ew_model.specs.Entries.Entry.{Insertion, Deletion}
 use Rattle.ew_model.specs.Places.{place, new_path}
 use Rattle.ew_model.specs.Tree.{Noted, act_by, all_entries, next_entry, noted_as, tree_on, tree}
 use Rattle.ew_model.specs.Verdicts.{IsGood}
+use Rattle.ew_model.specs.Texts.{text_chars}
 use Rattle.ew_model.proofs.CoverLaws.{held_of}
 use Rattle.ew_model.proofs.EditEvents.{event_by, HasCome}
-use Rattle.ew_model.proofs.EntryLaws.{LaidOut}
 use Rattle.ew_model.proofs.EqualSets.{tree_apart}
 use Rattle.ew_model.proofs.GoodLaws.{good_laid_out}
 use Rattle.ew_model.proofs.HeadsLaw.{all_events}
@@ -30,7 +28,6 @@ use Rattle.ew_model.proofs.PrefixLaws.{ordered_among, visible_among}
 use Rattle.ew_model.proofs.SortingLaws.{all_from, among_sort}
 use Rattle.ew_model.proofs.TextLaws.{distinct_ids, visible-insertion, visible-deletion}
 use Rattle.ew_model.proofs.TreeLaws.{entry_after, tree_on-push}
-use Rattle.undo_definitions.specs.Wanted.{chars_shown}
 
 -- its entry is placed over all entries
 entry_by : (history : List Event) (agent : List ℕ) (o : Op) → IsGood history
@@ -52,8 +49,8 @@ grown_by history e entry is =
     ∙ map-append (λ (n : Noted Id). n.entry) (tree_on 0 history) (record { name = e.id; entry = entry } ∷ [])
 
 -- an insertion puts a new character in at its index
-pub put_in : (history : List Event) (agent : List ℕ) (at ch : ℕ) → IsGood history → HasCome history (event_by history agent (op.Ins at ch)) → at ≤ length (chars_shown history)
-    → (x : Inserted) × (x.id ≡ (event_by history agent (op.Ins at ch)).id) × (x.ch ≡ ch) × (chars_shown (history ++ event_by history agent (op.Ins at ch) ∷ []) ≡ insert (chars_shown history) at x)
+pub put_in : (history : List Event) (agent : List ℕ) (at ch : ℕ) → IsGood history → HasCome history (event_by history agent (op.Ins at ch)) → at ≤ length (text_chars history)
+    → (x : Inserted) × (x.id ≡ (event_by history agent (op.Ins at ch)).id) × (x.ch ≡ ch) × (text_chars (history ++ event_by history agent (op.Ins at ch) ∷ []) ≡ insert (text_chars history) at x)
 unfolding tree place
 put_in history agent at ch good come fits =
     let e = event_by history agent (op.Ins at ch) in
@@ -80,8 +77,8 @@ without_at None xs = xs
 without_at (Some i) xs = remove xs i
 
 -- a deletion takes the character at its index out
-pub taken : (history : List Event) (agent : List ℕ) (at : ℕ) → IsGood history → at < length (chars_shown history)
-    → chars_shown (history ++ event_by history agent (op.Del at) ∷ []) ≡ remove (chars_shown history) at
+pub taken : (history : List Event) (agent : List ℕ) (at : ℕ) → IsGood history → at < length (text_chars history)
+    → text_chars (history ++ event_by history agent (op.Del at) ∷ []) ≡ remove (text_chars history) at
 unfolding tree place
 taken history agent at good fits =
     let e = event_by history agent (op.Del at) in

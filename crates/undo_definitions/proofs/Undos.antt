@@ -1,7 +1,6 @@
 -- The laws of an undo: what it makes, what it leaves, and that a replica keeps what it keeps.
-use Rattle.std.proofs.Common.{◌≡◌, ℕ, ◌+◌, ◌≤◌, nat_lt, Bool, true, false, not, cond, ◌&&◌, ◌⊎◌, inl, inr, ⊎_elim, List, [], ◌∷◌, ◌++◌, map, filter, find, length, Option, Some, None, refl, sym, ap, ◌∙◌, subst, length-append, arith}
-use Rattle.std.specs.List.{AllByRecursion}
-use Rattle.std.proofs.lemmas.Bool.{ltb-false, eqb-true, false≢true, true≢false, false_from_ne_true, and_parts, not-false}
+use Rattle.std.proofs.Common.{◌≡◌, ℕ, ◌+◌, ◌≤◌, Bool, true, false, not, cond, ◌&&◌, ◌⊎◌, inl, inr, ⊎_elim, List, [], ◌∷◌, ◌++◌, map, find, length, Option, Some, None, refl, sym, ap, ◌∙◌, subst, length-append, arith}
+use Rattle.std.proofs.lemmas.Bool.{ltb-false, eqb-true, false≢true, false_from_ne_true, and_parts}
 use Rattle.ew_model.specs.declared.id.Id.{Id}
 use Rattle.ew_model.specs.declared.event.Op.{Op}
 use Rattle.ew_model.specs.declared.event.Event.{Event}
@@ -10,7 +9,7 @@ use Rattle.ew_model.specs.Ids.{id_eq, is_among}
 use Rattle.ew_model.specs.Ancestors.{is_held, heads}
 use Rattle.ew_model.specs.Entries.{Inserted, is_deleted}
 use Rattle.ew_model.specs.Limits.{LimitNumbers}
-use Rattle.ew_model.specs.Texts.{text_of}
+use Rattle.ew_model.specs.Texts.{text_chars, text_of}
 use Rattle.ew_model.specs.Tree.{tree}
 use Rattle.ew_model.specs.Verdicts.{IsGood}
 use Rattle.ew_model.specs.Edits.{events_of_ops}
@@ -21,10 +20,10 @@ use Rattle.ew_model.proofs.ListTests.{found_by}
 use Rattle.ew_model.proofs.SetLaws.{among_filter, filter_among}
 use Rattle.ew_model.proofs.SortingLaws.{all_at}
 use Rattle.ew_model.proofs.VersionLaws.{find_none}
-use Rattle.undo_definitions.specs.Wanted.{chars_in_order, chars_shown, is_gone, left_by_others, is_wanted, wanted, restored, taken_out}
+use Rattle.undo_definitions.specs.Wanted.{chars_in_order, is_gone, left_by_others, is_wanted, wanted, restored, taken_out}
 use Rattle.undo_definitions.specs.Undoing.{ops_of_undo, events_of_undo, UndoRefusal, making_refusal, refusal_behind, undo_refusal}
-use Rattle.undo_definitions.specs.UndoLaws.{LeavesWanted, UndosLeaveWanted, Shows, AreShown, UndosShowWanted, OnlyUndoneGo, UndosLeaveOthersWork, UndosKeep}
-use Rattle.undo_definitions.proofs.Scripts.{script, script_long}
+use Rattle.undo_definitions.specs.UndoLaws.{UndosLeaveWanted, Shows, AreShown, UndosShowWanted, UndosLeaveOthersWork, UndosKeep}
+use Rattle.undo_definitions.proofs.Scripts.{script_long}
 use Rattle.undo_definitions.proofs.Making.{Made, made_along}
 use Rattle.undo_definitions.proofs.Wants.{shown_in_order, script_of, not_deleted_by_others, same_taken_out, same_restored}
 
@@ -87,7 +86,7 @@ pub undo_text : (limits : LimitNumbers) (history : List Event) (agent : List ℕ
     → text_of (history ++ events_of_undo history agent undone) ≡ map (λ z. z.ch) (wanted history undone)
 unfolding text_of
 undo_text limits history agent undone good none =
-    same_letters history (wanted history undone) (chars_shown (history ++ events_of_undo history agent undone)) (undos_show_wanted limits history agent undone good none)
+    same_letters history (wanted history undone) (text_chars (history ++ events_of_undo history agent undone)) (undos_show_wanted limits history agent undone good none)
 
 undo_long : (history : List Event) (undone : List Id) → IsGood history → length (ops_of_undo history undone) ≡ length (taken_out history undone) + length (restored history undone)
 undo_long history undone good =
@@ -146,7 +145,7 @@ wanted_not_undone history undone z m =
     not_true false e = refl
 
 -- what others left shown is wanted
-shown_wanted : (history : List Event) (undone : List Id) (z : Inserted) → Among z (chars_shown history) → is_among undone z.id ≡ false → (is_gone history z ≡ false) × Among z (wanted history undone)
+shown_wanted : (history : List Event) (undone : List Id) (z : Inserted) → Among z (text_chars history) → is_among undone z.id ≡ false → (is_gone history z ≡ false) × Among z (wanted history undone)
 unfolding wanted
 shown_wanted history undone z m other =
     let kept = among_filter (λ y. not (is_gone history y)) (chars_in_order history) z (subst (Among z) (shown_in_order history) m) in
@@ -167,12 +166,12 @@ undos_leave_others_work limits history agent undone good none =
     let held = (is_allowed limits history undone none).held in
     record {
       gone = λ y m.
-          let z = shown_of history (wanted history undone) (chars_shown later) y are m in
+          let z = shown_of history (wanted history undone) (text_chars later) y are m in
           by_gone z.0 y z.1 z.2 held (is_gone history z.0) refl;
       stay = λ z m other.
           let there = shown_wanted history undone z m other in
-          let y = shown_by history (wanted history undone) (chars_shown later) z are there.1 in
-          subst (λ w. Among w (chars_shown later)) (y.2.itself there.0) y.1;
+          let y = shown_by history (wanted history undone) (text_chars later) z are there.1 in
+          subst (λ w. Among w (text_chars later)) (y.2.itself there.0) y.1;
     }
   where
     by_gone : (z y : Inserted) → Among z (wanted history undone) → Shows history z y → ((x : Id) → Among x undone → is_held history x ≡ true) → (b : Bool) → is_gone history z ≡ b → is_among undone y.id ≡ false

@@ -1,8 +1,7 @@
 -- What is wanted, and how it stands to what is shown.
-use Rattle.std.proofs.Common.{◌≡◌, ℕ, ◌+◌, Bool, true, false, not, cond, ◌&&◌, List, [], ◌∷◌, ◌++◌, map, filter, length, Option, Some, None, option_map, slice_get, inl, ⊎_elim, refl, sym, ap, ◌∙◌, subst}
-use Rattle.std.specs.List.{list_any}
+use Rattle.std.proofs.Common.{◌≡◌, Bool, true, false, not, ◌&&◌, List, [], filter, Option, Some, None, option_map, slice_get, refl, sym, ap, ◌∙◌, subst}
 use Rattle.std.specs.List.Sorted.{IsStrictlySortedBy}
-use Rattle.std.proofs.lemmas.Bool.{false≢true, true≢false, false_from_ne_true, and_parts}
+use Rattle.std.proofs.lemmas.Bool.{false≢true, false_from_ne_true}
 use Rattle.std.proofs.lemmas.List.Elements.{filter_agree}
 use Rattle.std.proofs.lemmas.List.Kept.{IsStrictlySortedBy-filter}
 use Rattle.ew_model.specs.declared.id.Id.{Id}
@@ -18,6 +17,7 @@ use Rattle.ew_model.specs.Entries.Entry.{Insertion, Deletion, Mark}
 use Rattle.ew_model.specs.Places.{path_before, new_path, place}
 use Rattle.ew_model.specs.Tree.{Noted, act_by, all_entries, entries_over, next_entry, tree_on, tree}
 use Rattle.ew_model.specs.Verdicts.{IsGood}
+use Rattle.ew_model.specs.Texts.{text_chars}
 use Rattle.ew_model.proofs.ApartLaws.{apart_by_path, apart_filter}
 use Rattle.ew_model.proofs.EntryLaws.{LaidOut}
 use Rattle.ew_model.proofs.EqualSets.{note_of_tree, notes_apart, tree_apart}
@@ -28,14 +28,13 @@ use Rattle.ew_model.proofs.PlaceLaws.{placed_total, ApartByPath, among_insertion
 use Rattle.ew_model.proofs.PrefixLaws.{ordered_among}
 use Rattle.ew_model.proofs.SetLaws.{among_filter, filter_among, among_map, map_among}
 use Rattle.ew_model.proofs.SortingLaws.{among_sort, sorted_unique}
-use Rattle.ew_model.proofs.TreeLaws.{entry_after}
-use Rattle.undo_definitions.specs.Wanted.{chars_in_order, chars_shown, is_gone, left_by_others, is_wanted, wanted, restored, taken_out}
+use Rattle.undo_definitions.specs.Wanted.{chars_in_order, is_gone, left_by_others, is_wanted, wanted, restored, taken_out}
 use Rattle.undo_definitions.specs.Undoing.{ops_of_undo}
 use Rattle.undo_definitions.specs.UndoLaws.{WantedIsLeftByOthers}
 use Rattle.undo_definitions.proofs.Scripts.{script, changes_along}
 
 -- THE ORDER
-pub shown_in_order : (history : List Event) → chars_shown history ≡ filter (λ z. not (is_gone history z)) (chars_in_order history)
+pub shown_in_order : (history : List Event) → text_chars history ≡ filter (λ z. not (is_gone history z)) (chars_in_order history)
 unfolding visible
 shown_in_order history = refl
 

@@ -7,12 +7,12 @@ use Rattle.ew_model.specs.Ids.{is_among}
 use Rattle.ew_model.specs.Ancestors.{ids_of, is_held}
 use Rattle.ew_model.specs.Entries.{Inserted, visible}
 use Rattle.ew_model.specs.Limits.{LimitNumbers}
-use Rattle.ew_model.specs.Texts.{text_of}
+use Rattle.ew_model.specs.Texts.{text_chars, text_of}
 use Rattle.ew_model.specs.Tree.{tree}
 use Rattle.ew_model.specs.Verdicts.{IsGood}
 use Rattle.ew_model.specs.Kept.{IsKept, is_awaited}
 use Rattle.ew_model.specs.Edits.{count_of}
-use Rattle.undo_definitions.specs.Wanted.{ids_from, chars_shown, is_gone, left_by_others, wanted, restored, taken_out, events_of_others}
+use Rattle.undo_definitions.specs.Wanted.{ids_from, is_gone, left_by_others, wanted, restored, taken_out, events_of_others}
 use Rattle.undo_definitions.specs.Undoing.{ops_of_undo, events_of_undo, undo_refusal}
 
 -- What is wanted is what would be shown if the undone events had left nothing and all others what they left.
@@ -49,12 +49,12 @@ AreShown history (z ∷ zs) (y ∷ ys) = Shows history z y × AreShown history z
 -- After an undo each wanted character is shown at its place, by itself or by a new one, and nothing else is shown.
 abbrev pub UndosShowWanted : Type 0
 UndosShowWanted = (limits : LimitNumbers) (history : List Event) (agent : List ℕ) (undone : List Id) → IsGood history
-    → undo_refusal limits history undone ≡ None → AreShown history (wanted history undone) (chars_shown (history ++ events_of_undo history agent undone))
+    → undo_refusal limits history undone ≡ None → AreShown history (wanted history undone) (text_chars (history ++ events_of_undo history agent undone))
 
 -- the later history shows no character of the undone events, and all those of others that the earlier one shows, as they are
 pub record OnlyUndoneGo (earlier later : List Event) (undone : List Id) : Type 0 where
-  pub gone : (z : Inserted) → Among z (chars_shown later) → is_among undone z.id ≡ false
-  pub stay : (z : Inserted) → Among z (chars_shown earlier) → is_among undone z.id ≡ false → Among z (chars_shown later)
+  pub gone : (z : Inserted) → Among z (text_chars later) → is_among undone z.id ≡ false
+  pub stay : (z : Inserted) → Among z (text_chars earlier) → is_among undone z.id ≡ false → Among z (text_chars later)
 
 -- An undo takes out the characters of the undone events, and leaves the others' work.
 abbrev pub UndosLeaveOthersWork : Type 0

@@ -3,7 +3,8 @@ use Rattle.std.specs.Prelude.{ℕ, zero, suc, ◌+◌, Bool, not, ◌&&◌, List
 use Rattle.ew_model.specs.declared.id.Id.{Id}
 use Rattle.ew_model.specs.declared.event.Event.{Event}
 use Rattle.ew_model.specs.Ids.{is_among}
-use Rattle.ew_model.specs.Entries.{Inserted, Entry, is_deleted, order, visible}
+use Rattle.ew_model.specs.Entries.{Inserted, Entry, is_deleted, order}
+use Rattle.ew_model.specs.Texts.{text_chars}
 use Rattle.ew_model.specs.Tree.{Noted, all_entries, tree}
 
 -- the ids of so many events of one agent, from a number on
@@ -14,10 +15,6 @@ ids_from agent first (suc n) = record { agent = agent; seq = first } ∷ ids_fro
 -- all inserted characters of a history, deleted ones too, in the order of the tree
 abbrev pub chars_in_order : List Event → List Inserted
 chars_in_order history = order (all_entries 0 (tree history))
-
--- the characters that its text shows
-abbrev pub chars_shown : List Event → List Inserted
-chars_shown history = visible (all_entries 0 (tree history))
 
 -- an event of the history deletes the character
 abbrev pub is_gone : List Event → Inserted → Bool
@@ -41,7 +38,7 @@ restored history undone = filter (is_gone history) (wanted history undone)
 
 -- the characters that are shown and were inserted by undone events: they have to go
 abbrev pub taken_out : List Event → List Id → List Inserted
-taken_out history undone = filter (λ z. is_among undone z.id) (chars_shown history)
+taken_out history undone = filter (λ z. is_among undone z.id) (text_chars history)
 
 -- the events that aren't undone
 abbrev pub events_of_others : List Id → List Event → List Event

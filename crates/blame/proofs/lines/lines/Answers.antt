@@ -2,9 +2,9 @@ use Rattle.std.proofs.Common.{◌≡◌, ◌<◌, ◌≤◌, ◌-◌, ◌==◌, 
 use Rattle.std.proofs.lemmas.Bool.{eqb-false}
 use Rattle.std.proofs.lemmas.Option.{same_Some}
 use Rattle.ew_model.specs.Ids.{id_eq}
+use Rattle.ew_model.specs.Texts.{text_chars}
 use Rattle.ew_model.proofs.AgentLaws.{within_ids}
 use Rattle.history_definitions.specs.Chains.{next_id}
-use Rattle.undo_definitions.specs.Wanted.{chars_shown}
 use Rattle.blame_definitions.specs.Pieces.{goes_on}
 use Rattle.blame.proofs.Columns.{slice_end}
 use Rattle.blame.proofs.Parts.{all_lines, end_letter, ends_as, goes_on_as, last_text, open_text, opens, shown_long, shown_there}
@@ -25,7 +25,7 @@ pub loop-at-init : goal.loop-at-init
 loop-at-init c =
     let history = c.args.graph.now in
     let there = shown_there history c.args.positions.now 0 c.requires.positions (some_first (length c.args.positions.now) (eqb-false _ _ (sym c.if-is_empty.ensures))) in
-    opens c.args.columns (chars_shown history) c.new-out.result.items there.0 c.id_near-first.result there.1
+    opens c.args.columns (text_chars history) c.new-out.result.items there.0 c.id_near-first.result there.1
     (same_Some c.id_near-first.result there.0.id (sym c.id_near-first.ensures ∙ there.2))
     c.new-out.ensures.items
 
@@ -39,7 +39,7 @@ id_near-id-requires c =
 pub loop-at-preserved : goal.loop-at-preserved
 loop-at-preserved c =
     let history = c.args.graph.now in
-    let whole = chars_shown history in
+    let whole = text_chars history in
     let at = c.loop-at.at in
     let out = c.loop-at.out.items in
     let from = c.loop-at.from in
@@ -64,7 +64,7 @@ loop-at-preserved c =
 pub returns : goal.returns
 returns c =
     let history = c.args.graph.now in
-    let whole = chars_shown history in
+    let whole = text_chars history in
     let at = c.loop-at.at in
     let out = c.loop-at.out.items in
     let from = c.loop-at.from in

@@ -1,6 +1,6 @@
-use Rattle.undo_definitions.specs.Wanted.{chars_shown}
 use Rattle.blame.proofs.Parts.{IsOpen}
 use Rattle.blame.proofs.lines.lines.Given as goal
+use Rattle.ew_model.specs.Texts.{text_chars}
 
 abbrev pub invariant-loop-at : goal.invariant-loop-at
-invariant-loop-at l = IsOpen l.columns (chars_shown l.graph) l.out.items l.from l.at l.first l.last
+invariant-loop-at l = IsOpen l.columns (text_chars l.graph) l.out.items l.from l.at l.first l.last

@@ -1,6 +1,7 @@
 use Rattle.std.proofs.Common.{◌+◌, ◌∙◌, refl, arith}
 use Rattle.serve_plans.proofs.Cutting.{begins_short}
-use Rattle.serve_plans.proofs.Answers.{found_next, next_shorter, spoken_next, closed_next, broken_next}
+use Rattle.peer_frames.proofs.Answering.{found_next}
+use Rattle.serve_plans.proofs.Answers.{next_shorter, spoken_next, closed_next, broken_next}
 use Rattle.serve_plans.proofs.Speaking.{spoken_none}
 use Rattle.serve_plans.proofs.Takes.{leaves_none, leaves_next, leaves_within, within_next, within_takes}
 use Rattle.serve_plans.proofs.answering.answer_frames.Goals as goal
