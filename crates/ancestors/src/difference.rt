@@ -77,6 +77,8 @@ fn put_parents<G: Parentage>(g: &G, lv: u32, sides: &mut Sides, side: Side) -> R
     ensures left { OnOk result ((q : ℕ) → on_left sides.new q ≡ (on_left sides.old q || (has_left side && is_named nat_eq (parents_at (G.parents g.now) lv) q))) }
     ensures right { OnOk result ((q : ℕ) → on_right sides.new q ≡ (on_right sides.old q || (has_right side && is_named nat_eq (parents_at (G.parents g.now) lv) q))) }
 {
-    let parents = g.parents_of(lv);
-    sides.put_all(side, parents.as_slice())
+    match g.only_parent(lv) {
+        Some(parent) => sides.put(side, parent),
+        None => sides.put_all(side, g.parents_of(lv).as_slice()),
+    }
 }

@@ -18,8 +18,10 @@ pub fn put_parents<G: Parentage>(g: &G, lv: u32, pending: &mut BTreeSet<u32>) ->
     ensures all { OnOk result ((q : ℕ) → contains nat_cmp pending.new q ≡ (contains nat_cmp pending.old q || is_named nat_eq (parents_at (G.parents g.now) lv) q)) }
     ensures lower { All (λ p. p < lv) (parents_at (G.parents g.now) lv) }
 {
-    let parents = g.parents_of(lv);
-    put_all(pending, parents.as_slice())
+    match g.only_parent(lv) {
+        Some(parent) => put(pending, parent),
+        None => put_all(pending, g.parents_of(lv).as_slice()),
+    }
 }
 
 /// Puts in positions.
@@ -27,8 +29,16 @@ pub fn put_all(pending: &mut BTreeSet<u32>, positions: &[u32]) -> Result<(), NoM
     ensures { OnOk result ((q : ℕ) → contains nat_cmp pending.new q ≡ (contains nat_cmp pending.old q || is_named nat_eq positions.now q)) }
 {
     for position in positions {
-        pending.insert(*position)?;
+        put(pending, *position)?;
     }
+    Ok(())
+}
+
+/// Puts in a position.
+fn put(pending: &mut BTreeSet<u32>, position: u32) -> Result<(), NoMem>
+    ensures { OnOk result ((q : ℕ) → contains nat_cmp pending.new q ≡ (contains nat_cmp pending.old q || nat_eq q position)) }
+{
+    pending.insert(position)?;
     Ok(())
 }
 

@@ -53,7 +53,7 @@ impl Sides {
     }
 
     /// Puts in a position.
-    fn put(&mut self, side: Side, lv: u32) -> Result<(), NoMem>
+    pub fn put(&mut self, side: Side, lv: u32) -> Result<(), NoMem>
         ensures left { OnOk result ((q : ℕ) → on_left self.new q ≡ (on_left self.old q || (has_left side && nat_eq q lv))) }
         ensures right { OnOk result ((q : ℕ) → on_right self.new q ≡ (on_right self.old q || (has_right side && nat_eq q lv))) }
     {
@@ -101,17 +101,17 @@ impl Sides {
         higher(Some(apart), last(&self.both))
     }
 
-    /// Takes a position out, and tells which of the walks had it.
+    /// Takes the highest position out, and tells which of the walks had it.
     fn take(&mut self, lv: u32) -> Side
-        requires { (on_left self.old lv || on_right self.old lv) ≡ true }
+        requires { IsHighest (on_left self.old) (on_right self.old) lv }
         ensures was_left { has_left result ≡ on_left self.old lv }
         ensures was_right { has_right result ≡ on_right self.old lv }
         ensures left { (q : ℕ) → on_left self.new q ≡ (if nat_eq lv q then false else on_left self.old q) }
         ensures right { (q : ℕ) → on_right self.new q ≡ (if nat_eq lv q then false else on_right self.old q) }
     {
-        let left = self.left.remove(&lv);
-        let right = self.right.remove(&lv);
-        let both = self.both.remove(&lv);
+        let left = take_last(&mut self.left, lv);
+        let right = take_last(&mut self.right, lv);
+        let both = take_last(&mut self.both, lv);
         side_of(left || both, right || both)
     }
 }
@@ -174,5 +174,18 @@ fn higher(a: Option<u32>, b: Option<u32>) -> Option<u32>
         (Some(x), Some(y)) => Some(if x < y { y } else { x }),
         (Some(x), None) => Some(x),
         (None, y) => y,
+    }
+}
+
+/// Takes a position out, where it is the highest that is there. Says whether it was there: no higher one is.
+fn take_last(positions: &mut BTreeSet<u32>, lv: u32) -> bool
+    requires { (q : ℕ) → lv < q → contains nat_cmp positions.old q ≡ false }
+    ensures was { result ≡ contains nat_cmp positions.old lv }
+    ensures left { (q : ℕ) → contains nat_cmp positions.new q ≡ (if nat_eq lv q then false else contains nat_cmp positions.old q) }
+{
+    if positions.last() == Some(&lv) {
+        positions.remove(&lv)
+    } else {
+        false
     }
 }

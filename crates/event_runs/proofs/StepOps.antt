@@ -4,22 +4,18 @@ use Rattle.std.specs.List.{flat_map}
 use Rattle.std.proofs.lemmas.List.{length-drop}
 use Rattle.ew_model.specs.declared.event.Op.{Op}
 use Rattle.ew_model.specs.declared.event.Op.TheVariants.{Ins, Del, Mark}
-use Rattle.ew_model.specs.Edits.{insertions_at, deletions_at}
+use Rattle.ew_model.specs.Edits.{insertions_at, deletions_at, back_deletions_at}
 use Rattle.event_runs.specs.declared.runs.RunKind.{RunKind}
 use Rattle.event_runs.specs.declared.runs.RunKind.TheVariants.{Insertions, Deletions, BackDeletions, Marks}
 use Rattle.event_runs.specs.declared.ops.RunOps.{RunOps}
 use Rattle.event_runs.specs.declared.ops.RunOps.TheVariants as run
 use Rattle.event_runs.specs.BareEvents.{bare}
 use Rattle.event_runs.specs.KeptRuns.{IsNext, op_chars, op_labels}
-use Rattle.event_runs.specs.RunOps.{back_deletions_at, ops_of, IndicesFit, chain_on}
+use Rattle.event_runs.specs.RunOps.{ops_of, IndicesFit, chain_on}
 use Rattle.event_runs.specs.Steps.{kind_of, index_in, chars_in}
-use Rattle.ew_model.proofs.EditTexts.{insertions_long}
+use Rattle.ew_model.proofs.EditTexts.{insertions_long, back_long}
 use Rattle.std.proofs.Math.Seq.{drop-nil}
 use Rattle.std.proofs.lemmas.Option.{same_Some}
-
-pub back_long : (at n : ℕ) → length (back_deletions_at at n) ≡ n
-back_long at zero = refl
-back_long at (suc n) = ap suc (back_long (at - 1) n)
 
 -- the operation at a place
 pub insertion_there : (at : ℕ) (text : List ℕ) (k : ℕ) → k < length text → slice_get (insertions_at at text) k ≡ Some (Ins (at + k) (get_or text k 0))

@@ -1,16 +1,10 @@
 -- Operations that take one step, and their events.
-use Rattle.std.specs.Prelude.{ℕ, zero, suc, ◌+◌, ◌-◌, ◌≤◌, ◌^◌, List, [], ◌∷◌, length}
+use Rattle.std.specs.Prelude.{ℕ, suc, ◌+◌, ◌≤◌, ◌^◌, List, [], ◌∷◌, length}
 use Rattle.ew_model.specs.declared.event.Op.{Op}
-use Rattle.ew_model.specs.declared.event.Op.TheVariants.{Del}
-use Rattle.ew_model.specs.Edits.{insertions_at, deletions_at}
+use Rattle.ew_model.specs.Edits.{insertions_at, deletions_at, back_deletions_at}
 use Rattle.event_runs.specs.declared.ops.RunOps.{RunOps}
 use Rattle.event_runs.specs.declared.ops.RunOps.TheVariants as run
 use Rattle.event_runs.specs.BareEvents.{BareEvent, bare}
-
--- so many deletions from an index down
-abbrev pub back_deletions_at : ℕ → ℕ → List Op
-back_deletions_at at zero = []
-back_deletions_at at (suc n) = Del at ∷ back_deletions_at (at - 1) n
 
 -- the operations one by one
 abbrev pub ops_of : RunOps → List Op

@@ -1,6 +1,6 @@
 //! The events' operations and parents.
 
-ghost use Rattle.std.specs.Prelude.{◌≡◌, ℕ, ◌+◌, ◌-◌, ◌<◌, ◌≤◌, ◌^◌, true, false, List, [], ◌∷◌, ◌++◌, map, length, take, drop, Some, slice_get, IfOk, OnOk, OnErr, IsOkAnd};
+ghost use Rattle.std.specs.Prelude.{◌≡◌, ℕ, ◌+◌, ◌-◌, ◌<◌, ◌≤◌, ◌^◌, true, false, List, [], ◌∷◌, ◌++◌, map, length, take, drop, Some, slice_get, IfSome, IfNone, IfOk, OnOk, OnErr, IsOkAnd};
 ghost use Rattle.ew_model.specs.Positions.{AreParents, IsHistoryOfParents, parents_at};
 ghost use Rattle.ew_model.specs.TextLaws.{own_change};
 ghost use Rattle.event_runs.specs.BareEvents.{BareEvent, bare, ops_in, parents_in};
@@ -230,6 +230,24 @@ impl EventRuns {
         }
     }
 
+    /// The one parent of the event at a position. None where it has none or several.
+    pub fn only_parent_at(&self, lv: u32) -> Option<u32>
+        requires { lv < length self.now }
+        ensures some { IfSome result (λ p. parents_at (parents_in self.now) lv ≡ p ∷ []) }
+        ensures none { IfNone result ((p : ℕ) → parents_at (parents_in self.now) lv ≡ p ∷ [] → ⊥) }
+        ensures lower { IfSome result (λ p. p < lv) }
+    {
+        let _count = self.count;
+        let place = find_run(&self.runs, lv);
+        if self.runs[place].start < lv {
+            return Some(lv - 1);
+        }
+        match self.parents.get(place) {
+            [parent] => Some(*parent),
+            _ => None,
+        }
+    }
+
     /// The operation and the parents of the event at a position: its run is sought once for both. The run at the place `near`,
     /// which is that of the run found last, and the next one are tried first.
     pub fn event_near(&self, lv: u32, near: &mut usize) -> (Op, SmallVec<u32, 16>)
@@ -278,6 +296,10 @@ impl Parentage for EventRuns {
 
     fn parents_of(&self, lv: u32) -> SmallVec<u32, 16> {
         self.parents_at(lv)
+    }
+
+    fn only_parent(&self, lv: u32) -> Option<u32> {
+        self.only_parent_at(lv)
     }
 
     /// The position of the first event in the run of an event.

@@ -1,6 +1,6 @@
 //! A history as its events' parents.
 
-ghost use Rattle.std.specs.Prelude.{◌≡◌, ℕ, ◌<◌, List, length};
+ghost use Rattle.std.specs.Prelude.{◌≡◌, ℕ, ◌<◌, List, [], ◌∷◌, length, IfSome, IfNone};
 ghost use Rattle.ew_model.specs.Positions.{AreParents, IsHistoryOfParents, parents_at};
 ghost use Rattle.frontier.specs.Chains.{IsChain};
 
@@ -21,6 +21,19 @@ pub trait Parentage {
         requires { lv < length (parents self.now) }
         ensures value { result.items ≡ parents_at (parents self.now) lv }
         ensures lower { AreParents lv result.items };
+
+    /// The one parent of the event at a position. None where it has none or several.
+    fn only_parent(&self, lv: u32) -> Option<u32>
+        requires { lv < length (parents self.now) }
+        ensures some { IfSome result (λ p. parents_at (parents self.now) lv ≡ p ∷ []) }
+        ensures none { IfNone result ((p : ℕ) → parents_at (parents self.now) lv ≡ p ∷ [] → ⊥) }
+        ensures lower { IfSome result (λ p. p < lv) }
+    {
+        match self.parents_of(lv).as_slice() {
+            [parent] => Some(*parent),
+            _ => None,
+        }
+    }
 
     /// Where a chain to the event at a position begins, in which each event has exactly the one before it as its
     /// parents: at that event itself, or at an event before it.

@@ -1,11 +1,12 @@
 //! The turn of a walk at a critical cut: what is below is known by the length of its text alone.
 
-ghost use Rattle.std.specs.Prelude.{◌≡◌, ℕ, ◌+◌, ◌<◌, ◌≤◌, ◌^◌, length, true, false, IfOk, OnOk, IfSome, IfNone, IsTrue, ◌↔◌};
+ghost use Rattle.std.specs.Prelude.{◌≡◌, ℕ, ◌+◌, ◌<◌, ◌≤◌, ◌^◌, [], length, true, false, IfOk, OnOk, IfSome, IfNone, IsTrue, ◌↔◌};
 ghost use Rattle.ew_model.specs.declared.event.Op.{Op};
 ghost use Rattle.ew_model.specs.Cuts.{is_critical};
 ghost use Rattle.ew_model.specs.TextLaws.{own_change};
 ghost use Rattle.ew_model.specs.Verdicts.{is_outside};
 ghost use Rattle.ew_model.specs.Walks.{base_at};
+ghost use Rattle.advance_retreat.specs.Standing.{StandsFor};
 ghost use Rattle.transform.specs.Changing.{length_by};
 ghost use Rattle.transform.specs.Reaching.{IsBehind, TurnedTo};
 
@@ -47,9 +48,19 @@ pub fn pass_cut<L: Ledger>(
             return Ok(Turn::Applied(change));
         }
     }
-    *state = State::base(alloc, len)?;
+    begin_over(alloc, state, len)?;
     *line = None;
     apply(graph, state, position, near, steps)
+}
+
+/// Begins the state over a text of so many characters, where no event was applied.
+// Seldom called: kept apart, so that what is done for each event stays short.
+#[inline(never)]
+fn begin_over(alloc: Global, state: &mut State, len: u32) -> Result<(), NoMem>
+    ensures { OnOk result (StandsFor state.new len [] []) }
+{
+    *state = State::base(alloc, len)?;
+    Ok(())
 }
 
 /// Whether there are events behind the one at a position, which all know all events up to it.

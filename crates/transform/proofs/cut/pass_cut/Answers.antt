@@ -18,7 +18,7 @@ changed_length-requires g c =
 
 pub apply-requires-clause-ready : goal.apply-requires-clause-ready
 apply-requires-clause-ready g c =
-    (c.args.position, fresh c.args.graph.now c.args.position c.args.len c.in_ok-state.field-0 (omega (arith, c.requires.within)) c.requires.behind c.requires.long c.in_ok-state.ensures.stands)
+    (c.args.position, fresh c.args.graph.now c.args.position c.args.len c.begin_over.new.state (omega (arith, c.requires.within)) c.requires.behind c.requires.long c.in_ok-begin_over.ensures)
 
 pub returns-in-Some-clause-turned : goal.returns-in-Some-clause-turned
 returns-in-Some-clause-turned g c = λ from low.
@@ -34,4 +34,4 @@ returns-in-Some-clause-turned g c = λ from low.
 
 pub returns-clause-turned : goal.returns-clause-turned
 returns-clause-turned g c = λ from low.
-    turned_at_cut c.args.graph.now from c.args.position c.args.len c.in_ok-state.field-0 c.apply.new.state c.apply.result c.requires.within low c.requires.behind c.requires.long c.in_ok-state.ensures.stands c.apply.ensures.turned
+    turned_at_cut c.args.graph.now from c.args.position c.args.len c.begin_over.new.state c.apply.new.state c.apply.result c.requires.within low c.requires.behind c.requires.long c.in_ok-begin_over.ensures c.apply.ensures.turned

@@ -1,8 +1,7 @@
 use Rattle.std.proofs.Common.{◌∙◌, length, sym, ap, arith}
-use Rattle.ew_model.proofs.EditTexts.{insertions_long, deletions_long}
+use Rattle.ew_model.proofs.EditTexts.{insertions_long, deletions_long, back_long}
 use Rattle.event_runs.specs.declared.ops.RunOps.{RunOps}
 use Rattle.event_runs.specs.RunOps.{ops_of}
-use Rattle.event_runs.proofs.StepOps.{back_long}
 use Rattle.event_runs.proofs.ops.RunOps.count.Goals as goal
 
 pub overflow_cast-result : goal.overflow_cast-result

@@ -1,10 +1,10 @@
 use Rattle.std.proofs.Common.{◌∙◌, ◌<◌, length, slice_get, Some, sym, ap, arith}
 use Rattle.ew_model.specs.declared.event.Op.TheVariants.{Ins, Del}
-use Rattle.ew_model.proofs.EditTexts.{insertions_long, deletions_long}
+use Rattle.ew_model.proofs.EditTexts.{insertions_long, deletions_long, back_long}
 use Rattle.event_runs.specs.declared.ops.RunOps.{RunOps}
 use Rattle.event_runs.specs.RunOps.{ops_of}
 use Rattle.event_runs.specs.Steps.{index_in}
-use Rattle.event_runs.proofs.StepOps.{back_long, insertion_there, deletion_there, back_there, get_any}
+use Rattle.event_runs.proofs.StepOps.{insertion_there, deletion_there, back_there, get_any}
 use Rattle.event_runs.proofs.ops.RunOps.get.Goals as goal
 
 pub bounds-text-place : goal.bounds-text-place

@@ -1,8 +1,7 @@
 use Rattle.std.proofs.Common.{◌+◌, ◌≤◌, ◌^◌, suc, length, ap, subst, arith}
-use Rattle.ew_model.proofs.EditTexts.{insertions_long}
+use Rattle.ew_model.proofs.EditTexts.{insertions_long, back_long}
 use Rattle.event_runs.specs.declared.ops.RunOps.{RunOps}
 use Rattle.event_runs.specs.RunOps.{ops_of, IndicesFit}
-use Rattle.event_runs.proofs.StepOps.{back_long}
 use Rattle.event_runs.proofs.ops.RunOps.index.Goals as goal
 
 pub overflow_add-result : goal.overflow_add-result
