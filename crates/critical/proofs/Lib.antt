@@ -3,6 +3,7 @@ pub mod CutsKept
 pub mod FrontCuts
 pub mod InnerCuts
 pub mod LastHeads
+pub mod OlderCuts
 pub mod Ranges
 pub mod Searching
 pub mod SpanChanges

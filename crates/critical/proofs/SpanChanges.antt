@@ -1,6 +1,7 @@
 -- Spans with a cut more, or with fewer.
-use Rattle.std.proofs.Common.{◌≡◌, ℕ, zero, suc, ◌+◌, ◌-◌, ◌<◌, ◌≤◌, Bool, true, false, cond, ⊎_elim, nat_lt, nat_eq, List, [], ◌∷◌, ◌++◌, length, map, filter, take, slice_get, Some, refl, sym, ap, ◌∙◌, arith, le-ltb, append-nil, append_assoc, length-append, eq-eqb}
+use Rattle.std.proofs.Common.{◌≡◌, ◌⊎◌, ℕ, zero, suc, ◌+◌, ◌-◌, ◌<◌, ◌≤◌, Bool, true, false, cond, ⊎_elim, nat_lt, nat_eq, List, [], ◌∷◌, ◌++◌, length, map, filter, take, slice_get, Some, refl, sym, ap, ◌∙◌, arith, le-ltb, append-nil, append_assoc, length-append, eq-eqb}
 use Rattle.std.specs.List.{range_with_len}
+use Rattle.std.proofs.lemmas.Option.{same_Some}
 use Rattle.std.proofs.lemmas.Bool.{eqb-true, eqb-false, ltb-true, ltb-false, ne_eqb}
 use Rattle.std.proofs.lemmas.List.{map-append}
 use Rattle.std.proofs.lemmas.List.Elements.{filter-append}
@@ -197,29 +198,43 @@ count_block a (suc n) m rest =
     let all = span_count (range_with_len (a + 1) (suc n) ++ m ∷ rest) in
     ap (λ b. cond b all (suc all)) (eq-eqb (a + 1) (suc a) next) ∙ count_block (a + 1) n m rest ∙ ap (λ k. cond (nat_eq m (suc k)) (span_count (m ∷ rest)) (suc (span_count (m ∷ rest)))) e
 
-abbrev one_or_two : Bool → ℕ
-one_or_two b = cond b 1 2
+abbrev or_more : ℕ → Bool → ℕ
+or_more m c = cond c m (suc m)
+
+pub counted_more : (spans : List CutSpan) (low n : ℕ) (rest : List ℕ) → RiseFrom low spans → EndBelow n spans
+    → span_count (cuts_in spans ++ n ∷ rest) ≡ cond (ends_before spans n) (length spans - 1) (length spans) + span_count (n ∷ rest)
+counted_more [] low n rest r b = omega arith
+counted_more (s ∷ []) low n rest r b =
+    let top : suc (s.first + (s.last - s.first)) ≡ suc s.last = omega (arith, r.1) in
+    ap span_count (append_assoc (block s) [] (n ∷ rest)) ∙ count_block s.first (s.last - s.first) n rest ∙ ap (λ k. or_more (span_count (n ∷ rest)) (nat_eq n k)) top ∙ at (nat_eq (suc s.last) n) refl
+  where
+    at : (b : Bool) → nat_eq (suc s.last) n ≡ b → or_more (span_count (n ∷ rest)) (nat_eq n (suc s.last)) ≡ cond b (1 - 1) 1 + span_count (n ∷ rest)
+    at true e =
+        let same = eqb-true (suc s.last) n e in
+        let none : span_count (n ∷ rest) ≡ 1 - 1 + span_count (n ∷ rest) = omega arith in ap (or_more (span_count (n ∷ rest))) (eq-eqb n (suc s.last) (sym same)) ∙ none
+    at false e =
+        let other = eqb-false (suc s.last) n e in
+        let one : suc (span_count (n ∷ rest)) ≡ 1 + span_count (n ∷ rest) = omega arith in ap (or_more (span_count (n ∷ rest))) (ne_eqb n (suc s.last) (λ q. other (sym q))) ∙ one
+counted_more (s ∷ t ∷ spans) low n rest r b =
+    let all = cuts_in (t ∷ spans) ++ n ∷ rest in
+    let later = range_with_len (t.first + 1) (t.last - t.first) ++ cuts_in spans in
+    let ih = counted_more (t ∷ spans) (suc (suc s.last)) n rest r.2 b.1 in
+    let gap : nat_eq t.first (suc (s.first + (s.last - s.first))) ≡ false = ne_eqb t.first (suc (s.first + (s.last - s.first))) (λ q. omega (arith, q, r.1, r.2.0)) in
+    ap span_count (append_assoc (block s) (cuts_in (t ∷ spans)) (n ∷ rest)) ∙ count_block s.first (s.last - s.first) t.first (later ++ n ∷ rest)
+    ∙ ap (λ c. cond c (span_count all) (suc (span_count all))) gap ∙ ap suc ih ∙ at (ends_before (t ∷ spans) n) (length spans) (span_count (n ∷ rest))
+  where
+    at : (b : Bool) (k m : ℕ) → suc (cond b (suc k - 1) (suc k) + m) ≡ cond b (suc (suc k) - 1) (suc (suc k)) + m
+    at true k m = omega arith
+    at false k m = omega arith
 
 pub counted : (spans : List CutSpan) (low n : ℕ) → RiseFrom low spans → EndBelow n spans → span_count (cuts_in spans ++ n ∷ []) ≡ cond (ends_before spans n) (length spans) (suc (length spans))
-counted [] low n r b = refl
-counted (s ∷ []) low n r b =
-    let top : suc (s.first + (s.last - s.first)) ≡ suc s.last = omega (arith, r.1) in
-    ap span_count (append_assoc (block s) [] (n ∷ [])) ∙ count_block s.first (s.last - s.first) n [] ∙ ap (λ k. one_or_two (nat_eq n k)) top ∙ at (nat_eq (suc s.last) n) refl
+counted spans low n r b = counted_more spans low n [] r b ∙ at spans (ends_before spans n) refl
   where
-    at : (b : Bool) → nat_eq (suc s.last) n ≡ b → one_or_two (nat_eq n (suc s.last)) ≡ one_or_two b
-    at true e = let same = eqb-true (suc s.last) n e in ap one_or_two (eq-eqb n (suc s.last) (sym same))
-    at false e = let other = eqb-false (suc s.last) n e in ap one_or_two (ne_eqb n (suc s.last) (λ q. other (sym q)))
-counted (s ∷ t ∷ spans) low n r b =
-    let rest = cuts_in (t ∷ spans) ++ n ∷ [] in
-    let later = range_with_len (t.first + 1) (t.last - t.first) ++ cuts_in spans in
-    let ih = counted (t ∷ spans) (suc (suc s.last)) n r.2 b.1 in
-    let gap : nat_eq t.first (suc (s.first + (s.last - s.first))) ≡ false = ne_eqb t.first (suc (s.first + (s.last - s.first))) (λ q. omega (arith, q, r.1, r.2.0)) in
-    ap span_count (append_assoc (block s) (cuts_in (t ∷ spans)) (n ∷ [])) ∙ count_block s.first (s.last - s.first) t.first (later ++ n ∷ [])
-    ∙ ap (λ c. cond c (span_count rest) (suc (span_count rest))) gap ∙ ap suc ih ∙ at (ends_before (t ∷ spans) n) (length spans)
-  where
-    at : (b : Bool) (k : ℕ) → suc (cond b (suc k) (suc (suc k))) ≡ cond b (suc (suc k)) (suc (suc (suc k)))
-    at true k = refl
-    at false k = refl
+    at : (ss : List CutSpan) (c : Bool) → ends_before ss n ≡ c → cond c (length ss - 1) (length ss) + 1 ≡ cond c (length ss) (suc (length ss))
+    at [] true e = let no : ⊥ = cc in absurd no
+    at [] false e = omega arith
+    at (s ∷ ss) true e = omega arith
+    at (s ∷ ss) false e = omega arith
 
 -- there are at most half as many spans as numbers
 pub few_spans : (spans : List CutSpan) (low n : ℕ) → RiseFrom low spans → EndBelow n spans → low ≤ suc n → low + length spans + length spans ≤ suc n
@@ -247,7 +262,7 @@ rise_range a (suc n) ys high r = (
   rise_range (a + 1) n ys (λ y m. let up = high y m in omega (arith, up)) r,
 )
 
-cuts_rise : (spans : List CutSpan) (low : ℕ) → RiseFrom low spans → Rise (cuts_in spans)
+pub cuts_rise : (spans : List CutSpan) (low : ℕ) → RiseFrom low spans → Rise (cuts_in spans)
 cuts_rise [] low r = tt
 cuts_rise (s ∷ spans) low r =
     rise_range s.first (suc (s.last - s.first)) (cuts_in spans)
@@ -261,7 +276,7 @@ none_below (y ∷ xs) x end h l =
     let first = h.0 in
     λ i. cond (le-ltb y end (omega (arith, first, l)) i) (y ∷ filter (λ k. nat_lt k end) xs) (none_below xs x end h.1 l i)
 
-front_below : (xs : List ℕ) (end : ℕ) → Rise xs → take (length (filter (λ k. nat_lt k end) xs)) xs ≡ filter (λ k. nat_lt k end) xs
+pub front_below : (xs : List ℕ) (end : ℕ) → Rise xs → take (length (filter (λ k. nat_lt k end) xs)) xs ≡ filter (λ k. nat_lt k end) xs
 front_below [] end r = refl
 front_below (x ∷ xs) end r = at (nat_lt x end) refl (front_below xs end r.1)
   where
@@ -276,3 +291,28 @@ first_cuts spans end r = front_below (cuts_in spans) end (cuts_rise spans 0 r)
 pub last_more : (spans : List CutSpan) (s : CutSpan) → cuts_in (spans ++ s ∷ []) ≡ cuts_in spans ++ block s
 last_more [] s = append-nil (block s)
 last_more (x ∷ spans) s = ap (λ ks. block x ++ ks) (last_more spans s) ∙ sym (append_assoc (block x) (cuts_in spans) (block s))
+
+-- where shortened spans end
+pub ends_shortened : (spans : List CutSpan) (limit n place : ℕ) (s : CutSpan) → length spans ≡ suc place → slice_get spans place ≡ Some s → 0 < limit
+    → (last : ℕ) → (last ≤ s.last) → (last < limit) → ((last ≡ s.last) ⊎ (suc last ≡ limit)) → ends_before (shortened spans limit) n ≡ nat_eq (suc last) n
+ends_shortened [] limit n place s long e some last l h c = absurd (omega (arith, long))
+ends_shortened (x ∷ []) limit n (suc place) s long e some last l h c = absurd (omega (arith, long))
+ends_shortened (x ∷ []) limit n zero s long e some last l h c = at (nat_lt x.last limit) refl
+  where
+    same : x.last ≡ s.last
+    same = ap (λ (y : CutSpan). y.last) (same_Some x s e)
+
+    at : (b : Bool) → nat_lt x.last limit ≡ b → ends_before (cond b x (record { first = x.first; last = limit - 1 }) ∷ []) n ≡ nat_eq (suc last) n
+    at true t = let low = ltb-true x.last limit t in let is : x.last ≡ last = ⊎_elim (λ q. omega (arith, q, same)) (λ q. omega (arith, q, same, low, l)) c in ap (λ k. nat_eq (suc k) n) is
+    at false t = let high = ltb-false x.last limit t in let is : limit - 1 ≡ last = ⊎_elim (λ q. omega (arith, q, same, high, h)) (λ q. omega (arith, q)) c in ap (λ k. nat_eq (suc k) n) is
+ends_shortened (x ∷ t ∷ spans) limit n zero s long e some last l h c = absurd (omega (arith, long))
+ends_shortened (x ∷ t ∷ spans) limit n (suc place) s long e some last l h c = behind spans (ends_shortened (t ∷ spans) limit n place s (omega (arith, long)) e some last l h c)
+  where
+    behind : (later : List CutSpan) → ends_before (shortened (t ∷ later) limit) n ≡ nat_eq (suc last) n → ends_before (x ∷ shortened (t ∷ later) limit) n ≡ nat_eq (suc last) n
+    behind [] q = q
+    behind (u ∷ later) q = q
+
+pub long_shortened : (spans : List CutSpan) (limit : ℕ) → length (shortened spans limit) ≡ length spans
+long_shortened [] limit = refl
+long_shortened (s ∷ []) limit = refl
+long_shortened (s ∷ t ∷ spans) limit = ap suc (long_shortened (t ∷ spans) limit)

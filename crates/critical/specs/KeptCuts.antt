@@ -1,8 +1,9 @@
 -- What is kept of the critical cuts of a history.
-use Rattle.std.specs.Prelude.{◌≡◌, ℕ, ◌+◌, ◌-◌, List, [], ◌∷◌, ◌++◌, map, filter, take, length, nat_lt}
+use Rattle.std.specs.Prelude.{◌≡◌, ℕ, ◌+◌, ◌-◌, ◌^◌, ◌≤◌, List, [], ◌∷◌, ◌++◌, map, filter, take, length, nat_lt}
 use Rattle.std.specs.List.{range_with_len}
 use Rattle.ew_model.specs.Positions.{frontier_of, cuts_at}
 use Rattle.critical.specs.declared.spans.CutSpan.{CutSpan}
+use Rattle.critical.specs.Older.{SpanList}
 use Rattle.critical.specs.Spans.{RiseFrom, EndBelow}
 
 -- critical cuts, the heads of the events below each, and how many events there are
@@ -48,8 +49,12 @@ with_first kept n = record { cuts = take n kept.cuts; heads = take n kept.heads;
 abbrev pub with_below : KeptCuts → ℕ → KeptCuts
 with_below kept end = with_first kept (length (filter (λ k. nat_lt k end) kept.cuts))
 
--- the spans rise up to below the count, and each has heads
-pub record AreKept (spans : List CutSpan) (heads : List (List ℕ)) (count : ℕ) : Type 0 where
-  pub rising : RiseFrom 0 spans
+-- the spans rise from the limit up to below the count, each has heads, and so it is with the older ones
+pub record AreKept (older : SpanList) (limit : ℕ) (spans : List CutSpan) (heads : List (List ℕ)) (count : ℕ) : Type 0 where
+  pub rising : RiseFrom limit spans
   pub below : EndBelow count spans
   pub alike : length heads ≡ length spans
+  pub within : limit ≤ count
+  pub older_rising : RiseFrom 0 older.spans
+  pub older_ends : EndBelow (2 ^ 32 - 1) older.spans
+  pub older_alike : length older.heads ≡ length older.spans

@@ -1,4 +1,5 @@
 pub mod CutRuns
 pub mod KeptCuts
+pub mod Older
 pub mod Searches
 pub mod Spans

@@ -2,6 +2,7 @@
 #![tactic(auto)]
 
 pub mod list;
+mod older;
 mod spans;
 
 pub use list::Cuts;

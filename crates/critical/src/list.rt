@@ -1,17 +1,20 @@
 //! The list of the critical cuts.
 
-ghost use Rattle.std.specs.Prelude.{◌≡◌, ◌≢◌, ℕ, suc, ◌+◌, ◌-◌, ◌<◌, ◌≤◌, ◌^◌, Bool, true, List, [], ◌∷◌, ◌++◌, filter, take, length, nat_lt, IfOk, IsOkAnd, OnOk, OnErr};
+ghost use Rattle.std.specs.Prelude.{◌≡◌, ◌≢◌, ℕ, suc, ◌+◌, ◌-◌, ◌<◌, ◌≤◌, ◌^◌, Bool, true, List, [], ◌∷◌, ◌++◌, filter, take, drop, length, nat_eq, nat_lt, IfOk, IsOkAnd, OnOk, OnErr};
+ghost use Rattle.ew_model.specs.Graph.{is_named};
 ghost use Rattle.ew_model.specs.Sets.{Among};
 ghost use Rattle.ew_model.specs.CutChange.{stays_behind};
 ghost use Rattle.ew_model.specs.Positions.{AreParents, IsHistoryOfParents, frontier_of, is_reduced_at, is_cut_at, latest_cut_at, cuts_at};
 ghost use Rattle.ew_model.specs.PositionCuts.{past_parents};
 ghost use Rattle.critical.specs.CutRuns.{cut_runs};
 ghost use Rattle.critical.specs.KeptCuts.{kept_for, chain_parents, with_chain, with_count, with_whole, with_below};
-ghost use Rattle.critical.specs.Searches.{TellsHeads};
+ghost use Rattle.critical.specs.Searches.{TellsHeads, IsGreatestTo};
+ghost use Rattle.critical.specs.Spans.{cuts_in, RiseFrom};
 
+use crate::older::Older;
 use crate::spans::{
-    CutSpan, add_cut, add_cuts, copy_heads, ends_before, find_span_near, greatest_to, has_heads,
-    keep_below, list_span,
+    CutSpan, add_cut, add_cuts, copy_heads, find_span_near, first_of, greatest_to, has_heads,
+    keep_below, list_spans, runs_before, runs_below,
 };
 use ew_model::NoMem;
 use frontier::Frontier;
@@ -23,7 +26,11 @@ use std::marker::Model;
 /// events, which is a critical cut too, stands by itself. Contracts see the lists and that number.
 #[derive(Drop)]
 pub struct Cuts {
-    /// The critical cuts below the number of the events, rising, as spans of neighbours.
+    /// The spans of the critical cuts below the limit. A copy of the list holds the same.
+    older: Older,
+    /// The older cuts from here on aren't critical any more.
+    limit: u32,
+    /// The critical cuts from the limit on, and below the number of the events, rising, as spans of neighbours.
     spans: Vec<CutSpan>,
     /// For each span the heads of the events below its first cut. Below a further one the cut before it is the only head.
     heads: Vec<SmallVec<u32, 4>>,
@@ -33,13 +40,13 @@ pub struct Cuts {
 impl Model for Cuts {
     ghost use Rattle.std.specs.Prelude.{map};
     ghost use Rattle.critical.specs.KeptCuts.{KeptCuts, AreKept};
-    ghost use Rattle.critical.specs.Spans.{cuts_in, heads_in};
+    ghost use Rattle.critical.specs.Older.{all_cuts, all_heads};
 
     ghost Value = { KeptCuts };
 
-    ghost view = { λ c. record { cuts = cuts_in c.spans.items; heads = heads_in c.spans.items (map (λ v. v.items) c.heads.items); count = c.count } };
+    ghost view = { λ c. record { cuts = all_cuts c.older c.limit c.spans.items; heads = all_heads c.older c.limit c.spans.items (map (λ v. v.items) c.heads.items); count = c.count } };
 
-    ghost invariant = { λ c. AreKept c.spans.items (map (λ v. v.items) c.heads.items) c.count };
+    ghost invariant = { λ c. AreKept c.older c.limit c.spans.items (map (λ v. v.items) c.heads.items) c.count };
 }
 
 impl Cuts {
@@ -48,6 +55,8 @@ impl Cuts {
         ensures { IsOkAnd result (λ c. c ≡ kept_for []) }
     {
         Ok(Cuts {
+            older: Older::none(),
+            limit: 0,
             spans: Vec::new(alloc),
             heads: Vec::new(alloc),
             count: 0,
@@ -132,6 +141,7 @@ impl Cuts {
         ensures { (history : List (List ℕ)) → IsHistoryOfParents history → self.old ≡ kept_for history → is_cut_at history cut ≡ true → self.new ≡ kept_for (take cut history) }
     {
         keep_below(&mut self.spans, &mut self.heads, cut);
+        self.limit = self.limit.min(cut);
         self.count = cut;
     }
 
@@ -143,7 +153,7 @@ impl Cuts {
         ensures count { self.new.count ≡ self.old.count + 1 }
     {
         let past = past_last(parents, self.count);
-        let same = has_heads(&self.spans, &self.heads, past, parents);
+        let same = self.has_heads(past, parents);
         let end = end_of_kept(past, same);
         self.keep_cuts_below(end);
     }
@@ -187,7 +197,20 @@ impl Cuts {
         ensures { self.new ≡ with_below self.old end }
     {
         keep_below(&mut self.spans, &mut self.heads, end);
+        self.limit = self.limit.min(end);
         self.count += 1;
+    }
+
+    /// Whether these are the heads below the cut, if that is critical and isn't the number of the events.
+    fn has_heads(&self, cut: u32, positions: &[u32]) -> bool
+        requires { cut + 1 < 2 ^ 32 }
+        ensures { TellsHeads self.now.cuts self.now.heads cut positions.now result }
+    {
+        if cut < self.limit {
+            has_heads(self.older.spans(), self.older.heads(), cut, positions)
+        } else {
+            has_heads(&self.spans, &self.heads, cut, positions)
+        }
     }
 
     /// The greatest critical cut that is at most this.
@@ -197,7 +220,22 @@ impl Cuts {
         if at_most >= self.count {
             self.count
         } else {
-            greatest_to(&self.spans, at_most)
+            self.greatest_to(at_most)
+        }
+    }
+
+    /// The greatest critical cut but for the number of the events that is at most this, or 0.
+    fn greatest_to(&self, at_most: u32) -> u32
+        requires { at_most + 1 < 2 ^ 32 }
+        ensures { IsGreatestTo self.now.cuts at_most result }
+    {
+        let greatest = greatest_to(&self.spans, at_most);
+        if greatest > 0 {
+            return greatest;
+        }
+        match self.limit.checked_sub(1) {
+            Some(last) => greatest_to(self.older.spans(), at_most.min(last)),
+            None => greatest,
         }
     }
 
@@ -217,12 +255,24 @@ impl Cuts {
         if k >= self.count {
             return k == self.count;
         }
-        match find_span_near(&self.spans, k, *near) {
+        match find_span_near(self.spans_for(k), k, *near) {
             Some(place) => {
                 *near = place;
                 true
             }
             None => false,
+        }
+    }
+
+    /// Those of the spans in which a number stands, if it is one of the cuts.
+    fn spans_for(&self, k: u32) -> &[CutSpan]
+        ensures rising { RiseFrom 0 result.now }
+        ensures named { is_named nat_eq (cuts_in result.now) k ≡ is_named nat_eq self.now.cuts k }
+    {
+        if k < self.limit {
+            self.older.spans()
+        } else {
+            self.spans.as_slice()
         }
     }
 
@@ -232,9 +282,9 @@ impl Cuts {
     {
         let count = self.count;
         let mut cuts = Vec::new(*self.spans.allocator());
-        for span in &self.spans {
-            list_span(&mut cuts, *span)?;
-        }
+        list_spans(&mut cuts, self.older.spans())?;
+        leave_below(&mut cuts, self.limit);
+        list_spans(&mut cuts, &self.spans)?;
         cuts.push(count)?;
         Ok(cuts)
     }
@@ -244,27 +294,66 @@ impl Cuts {
         ensures { (history : List (List ℕ)) → self.now ≡ kept_for history → result ≡ cut_runs history }
     {
         let count = self.count;
-        let spans = self.spans.len() as u32;
-        if ends_before(&self.spans, count) {
-            spans
-        } else {
-            spans + 1
-        }
+        let next = first_of(&self.spans, count);
+        runs_below(self.older.spans(), self.limit, next) + runs_before(&self.spans, count)
     }
 
-    /// A second one of the same cuts.
-    pub fn copy(&self) -> Result<Cuts, NoMem>
-        ensures { IfOk result (λ c. c ≡ self.now) }
+    /// A second one of the same cuts. It costs by what was taken in since the last copy, and not by how many cuts there are, where no
+    /// other copy is left.
+    pub fn copy(&mut self) -> Result<Cuts, NoMem>
+        ensures copy { IfOk result (λ c. c ≡ self.old) }
+        ensures same { self.new ≡ self.old }
     {
+        self.settle()?;
         let alloc = *self.spans.allocator();
-        let spans = Vec::from_slice(alloc, &self.spans)?;
-        let heads = copy_heads(alloc, &self.heads)?;
         Ok(Cuts {
-            spans,
-            heads,
+            older: self.older.share()?,
+            limit: self.limit,
+            spans: Vec::from_slice(alloc, &self.spans)?,
+            heads: copy_heads(alloc, &self.heads)?,
             count: self.count,
         })
     }
+
+    /// Moves all spans but the last one to the older ones, unless a copy holds these too.
+    fn settle(&mut self) -> Result<(), NoMem>
+        ensures { self.new ≡ self.old }
+    {
+        let count = self.spans.len();
+        if count < 2 {
+            return Ok(());
+        }
+        let alloc = *self.spans.allocator();
+        let others = count - 1;
+        if self.older.take_in(
+            alloc,
+            self.limit,
+            &self.spans[..others],
+            &self.heads[..others],
+        )? {
+            self.limit = self.spans[others].first;
+            leave_last(&mut self.spans);
+            leave_last(&mut self.heads);
+        }
+        Ok(())
+    }
+}
+
+/// Leaves the numbers below a limit.
+fn leave_below(numbers: &mut Vec<u32>, limit: u32)
+    ensures { numbers.new.items ≡ filter (λ k. nat_lt k limit) numbers.old.items }
+{
+    numbers.retain(|k| *k < limit);
+}
+
+/// Leaves the last one alone.
+fn leave_last<T: Drop>(items: &mut Vec<T>)
+    requires { 0 < length items.old.items }
+    ensures { items.new.items ≡ drop (length items.old.items - 1) items.old.items }
+{
+    let others = items.len() - 1;
+    items.rotate_left(others);
+    items.truncate(1);
 }
 
 /// The number that the cuts that stay are below: all that are below `past`, and that one too if `same` holds.

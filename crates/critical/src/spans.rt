@@ -6,6 +6,7 @@ ghost use Rattle.std.specs.Cmp.Lexicographic.{pointwise};
 ghost use Rattle.ew_model.specs.Sets.{Among};
 ghost use Rattle.critical.specs.KeptCuts.{chain_parents};
 ghost use Rattle.critical.specs.Searches.{TellsHeads, IsGreatestTo};
+ghost use Rattle.critical.specs.CutRuns.{span_count};
 ghost use Rattle.critical.specs.Spans.{cuts_in, heads_in, RiseFrom, EndBelow, ends_before, with_last, shortened, IsHeldAt};
 
 use ew_model::NoMem;
@@ -245,6 +246,18 @@ fn shorten_last(spans: &mut Vec<CutSpan>, end: u32)
     }
 }
 
+/// Puts the cuts of all spans behind the numbers.
+pub fn list_spans(numbers: &mut Vec<u32>, spans: &[CutSpan]) -> Result<(), NoMem>
+    requires rising { RiseFrom 0 spans.now }
+    requires ends { EndBelow (2 ^ 32 - 1) spans.now }
+    ensures { OnOk result (numbers.new.items ≡ numbers.old.items ++ cuts_in spans.now) }
+{
+    for span in spans {
+        list_span(numbers, *span)?;
+    }
+    Ok(())
+}
+
 /// Puts the cuts of a span behind the numbers.
 pub fn list_span(numbers: &mut Vec<u32>, span: CutSpan) -> Result<(), NoMem>
     requires room { span.last + 1 < 2 ^ 32 }
@@ -255,6 +268,48 @@ pub fn list_span(numbers: &mut Vec<u32>, span: CutSpan) -> Result<(), NoMem>
         numbers.push(k)?;
     }
     Ok(())
+}
+
+/// The first cut of the spans, or the number behind them.
+pub fn first_of(spans: &[CutSpan], end: u32) -> u32
+    ensures first { (rest : List ℕ) × (cuts_in spans.now ++ end ∷ [] ≡ result ∷ rest) }
+    ensures high { (low : ℕ) → RiseFrom low spans.now → low ≤ end → low ≤ result }
+{
+    match spans.first() {
+        Some(span) => span.first,
+        None => end,
+    }
+}
+
+/// How many runs of neighbours the cuts below a limit make, but for one that goes on with the number behind them.
+pub fn runs_below(spans: &[CutSpan], limit: u32, next: u32) -> u32
+    requires rising { RiseFrom 0 spans.now }
+    requires order { limit ≤ next }
+    ensures runs { (rest : List ℕ) → result + span_count (next ∷ rest) ≡ span_count (filter (λ k. nat_lt k limit) (cuts_in spans.now) ++ next ∷ rest) }
+    ensures few { result + result ≤ limit + 1 }
+{
+    let kept = count_below(spans, limit);
+    let runs = kept as u32;
+    if kept > 0 && spans[kept - 1].last.min(limit - 1) == next - 1 {
+        runs - 1
+    } else {
+        runs
+    }
+}
+
+/// How many runs of neighbours the cuts of the spans and the number behind them make.
+pub fn runs_before(spans: &[CutSpan], end: u32) -> u32
+    requires rising { RiseFrom 0 spans.now }
+    requires ends { EndBelow end spans.now }
+    ensures runs { result ≡ span_count (cuts_in spans.now ++ end ∷ []) }
+    ensures few { (low : ℕ) → RiseFrom low spans.now → low ≤ end → low + result + result ≤ end + 3 }
+{
+    let count = spans.len() as u32;
+    if ends_before(spans, end) {
+        count
+    } else {
+        count + 1
+    }
 }
 
 /// A second one of the same lists of heads.

@@ -21,7 +21,7 @@ use Rattle.agent_ids.specs.IdRuns.{id_with, ids_from, last_in}
 use Rattle.critical.specs.KeptCuts.{KeptCuts, kept_for, chain_parents}
 use Rattle.critical.proofs.Chains as cuts
 use Rattle.event_runs.specs.BareEvents.{BareEvent, bare}
-use Rattle.event_runs.specs.RunOps.{back_deletions_at, chain_on}
+use Rattle.event_runs.specs.RunOps.{chain_on}
 use Rattle.frontier.specs.Heads.{heads_after}
 use Rattle.event_graph.specs.GoingOn.{chain_behind}
 use Rattle.event_graph.specs.Keeping.{IsAdmitted, bare_events, IsKeptOf}
@@ -70,10 +70,6 @@ others_along (suc n) history last good end some = sym (heads_along n history las
 pub insertions_sound : (at : ℕ) (text : List ℕ) → at + length text ≤ 2 ^ 32 → AllByRecursion IsScalar text → AllByRecursion IsSoundOp (insertions_at at text)
 insertions_sound at [] fit can = tt
 insertions_sound at (ch ∷ text) fit can = ((omega (arith, fit), can.0), insertions_sound (at + 1) text (omega (arith, fit)) can.1)
-
-pub back_sound : (at n : ℕ) → at < 2 ^ 32 → AllByRecursion IsSoundOp (back_deletions_at at n)
-back_sound at zero small = tt
-back_sound at (suc n) small = (small, back_sound (at - 1) n (omega (arith, small)))
 
 -- the last id of a history
 pub last_of : (history : List Event) (x : Id) → last_in (ids_of history) ≡ Some x → last_id history ≡ Some x

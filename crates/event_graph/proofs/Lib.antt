@@ -15,6 +15,7 @@ pub mod IdRows
 pub mod Lists
 pub mod Counted
 pub mod Kept
+pub mod KnownByCuts
 pub mod Soundness
 pub mod RowLaws
 pub mod Summing

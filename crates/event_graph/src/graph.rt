@@ -1,6 +1,6 @@
 //! The graph.
 
-ghost use Rattle.std.specs.Prelude.{◌≡◌, ℕ, ◌+◌, ◌-◌, ◌<◌, ◌≤◌, ◌^◌, List, [], ◌∷◌, ◌++◌, map, length, true, Some, slice_get, position, find, not, option_map, IfOk, IfSome, IsOkAnd, IsTrue, OnOk, OnErr};
+ghost use Rattle.std.specs.Prelude.{◌≡◌, ℕ, ◌+◌, ◌-◌, ◌<◌, ◌≤◌, ◌^◌, List, [], ◌∷◌, ◌++◌, map, length, true, Some, slice_get, position, find, not, false, option_map, IfOk, IfSome, IsOkAnd, IsTrue, OnOk, OnErr};
 ghost use Rattle.std.specs.List.{All};
 ghost use Rattle.std.specs.Option.{option_copied};
 ghost use Rattle.ew_model.specs.declared.id.Id.{Id};
@@ -10,7 +10,7 @@ ghost use Rattle.ew_model.specs.Answers.{ruling_of};
 ghost use Rattle.ew_model.specs.Cuts.{is_critical, latest_cut};
 ghost use Rattle.ew_model.specs.Edits.{count_of};
 ghost use Rattle.ew_model.specs.Ids.{id_eq, is_among, ids_ascend};
-ghost use Rattle.ew_model.specs.Positions.{parents_at, known_alone, positions_in, parent_positions};
+ghost use Rattle.ew_model.specs.Positions.{parents_at, is_known_at, is_reduced_at, known_alone, positions_in, parent_positions};
 ghost use Rattle.ew_model.specs.Sets.{Among};
 ghost use Rattle.ew_model.specs.Sound.{AreSound};
 ghost use Rattle.ew_model.specs.TextLaws.{own_change};
@@ -372,7 +372,23 @@ impl Graph {
         if self.are_heads(positions) {
             return Ok(true);
         }
+        if self.are_cut_apart(positions) {
+            return Ok(false);
+        }
         is_reduced(self.alloc, self, positions)
+    }
+
+    /// True only where a critical cut stands between the first of these positions and the last one: then the last one has the first
+    /// among its ancestors.
+    fn are_cut_apart(&self, positions: &[u32]) -> bool
+        requires { All (λ p. p < length self.now) positions.now }
+        ensures { IsTrue result → is_reduced_at (parent_positions self.now) positions.now ≡ false }
+    {
+        let _count = self.count();
+        match (positions.first(), positions.last()) {
+            (Some(first), Some(last)) => *first < *last && *first < self.latest_cut(*last),
+            _ => false,
+        }
     }
 
     /// True only where all of the positions are those of heads. It answers nothing of the others: they are looked at more closely.
@@ -432,9 +448,25 @@ impl Graph {
     {
         let _count = self.count();
         match self.find(id) {
-            Some(position) => contains(self.alloc, self, positions, position),
+            Some(position) => self.knows_at(positions, position),
             None => Ok(false),
         }
+    }
+
+    /// Whether the event at a position is one of these, or an ancestor of one. An event behind a critical cut has all events below it
+    /// among its ancestors, so the way back ends there.
+    fn knows_at(&self, positions: &[u32], position: u32) -> Result<bool, NoMem>
+        requires positions { All (λ p. p < length self.now) positions.now }
+        requires position { position < length self.now }
+        ensures { IfOk result (λ b. b ≡ is_known_at (parent_positions self.now) positions.now position) }
+    {
+        let _count = self.count();
+        if let Some(last) = positions.last() {
+            if position < self.latest_cut(*last) {
+                return Ok(true);
+            }
+        }
+        contains(self.alloc, self, positions, position)
     }
 
     /// Puts an event behind the others that was judged good.
@@ -558,6 +590,10 @@ impl Parentage for Graph {
         self.events.parents_at(lv)
     }
 
+    fn only_parent(&self, lv: u32) -> Option<u32> {
+        self.events.only_parent_at(lv)
+    }
+
     fn chain_start(&self, lv: u32) -> u32 {
         self.events.chain_start(lv)
     }
@@ -608,9 +644,11 @@ impl Graph {
         }
     }
 
-    /// Holds on to where the graph stands, so that it can come back.
-    pub fn hold(&self) -> Result<Hold, NoMem>
-        ensures { IfOk result (λ h. h ≡ hold_of self.now) }
+    /// Holds on to where the graph stands, so that it can come back. The graph stays what it is. But for the heads it costs by what came
+    /// since the last hold, where none is left, and not by how many events and critical cuts there are.
+    pub fn hold(&mut self) -> Result<Hold, NoMem>
+        ensures hold { IfOk result (λ h. h ≡ hold_of self.new) }
+        ensures same { self.new ≡ self.old }
     {
         Ok(Hold {
             count: self.events.count(),

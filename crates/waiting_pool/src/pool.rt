@@ -214,6 +214,18 @@ impl Pool {
         )
     }
 
+    /// Where no event waits, the graph's events up to now are of no matter: what waits from now on is asked about later ones.
+    pub fn catch_up(&mut self, graph: &Graph)
+        requires { IsBehind graph.now self.old }
+        ensures events { events_of self.new ≡ events_of self.old }
+        ensures limit { self.new.limit ≡ self.old.limit }
+        ensures behind { IsBehind graph.now self.new }
+    {
+        if self.len() == 0 {
+            self.seen = graph.count();
+        }
+    }
+
     /// Takes out the earliest of the waiting events whose parents are all held. The graph is that of the last call, which may
     /// have grown since. Where memory is short the events stay, and the call may be made again.
     pub fn take_ready(&mut self, graph: &Graph) -> Result<Option<Event>, NoMem>

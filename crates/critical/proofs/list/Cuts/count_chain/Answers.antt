@@ -8,6 +8,10 @@ invariant_of-self c = record {
   rising = c.self.invariant.rising;
   below = end_higher c.self.inside.spans.items c.self.inside.count (c.self.inside.count + c.args.count) (omega arith) c.self.invariant.below;
   alike = c.self.invariant.alike;
+  within = let low = c.self.invariant.within in omega (arith, low);
+  older_rising = c.self.invariant.older_rising;
+  older_ends = c.self.invariant.older_ends;
+  older_alike = c.self.invariant.older_alike;
 }
 
 pub returns : goal.returns

@@ -23,21 +23,21 @@ pub returns-then-k-self : goal.returns-then-k-self
 returns-then-k-self c history stands =
     at_end history c.args.k c.self.inside.count (ap (λ (v : KeptCuts). v.count) (c.self.view_is ∙ stands)) c.if-k-self.true
 
-named : (history : List (List ℕ)) (kept : KeptCuts) (spans inside : List CutSpan) (k n : ℕ) (r : Option ℕ) → kept ≡ kept_for history → n ≡ kept.count → k < n → spans ≡ inside → cuts_in inside ≡ kept.cuts
+named : (history : List (List ℕ)) (kept : KeptCuts) (spans : List CutSpan) (k n : ℕ) (r : Option ℕ) → kept ≡ kept_for history → n ≡ kept.count → k < n → is_named nat_eq (cuts_in spans) k ≡ is_named nat_eq kept.cuts k
     → IfSome r (λ place. IsHeldAt spans place k) → IfNone r (Among k (cuts_in spans) → ⊥) → is_some r ≡ is_cut_at history k
-named history kept spans inside k n r stands count low same cuts some none =
+named history kept spans k n r stands count low same some none =
     let all : n ≡ length history = count ∙ ap (λ (v : KeptCuts). v.count) stands in
-    found_tells spans k r some none ∙ ap (λ (ss : List CutSpan). is_named nat_eq (cuts_in ss) k) same ∙ ap (λ (ks : List ℕ). is_named nat_eq ks k) (cuts ∙ ap (λ (v : KeptCuts). v.cuts) stands)
+    found_tells spans k r some none ∙ same ∙ ap (λ (v : KeptCuts). is_named nat_eq v.cuts k) stands
     ∙ named_cut history k (λ e. omega (arith, e, all, low))
 
 pub returns-in-Some : goal.returns-in-Some
 returns-in-Some c history stands =
     sym (ap is_some c.in-Some.is)
-    ∙ named history c.args.self.now c.deref.result.now c.self.inside.spans.items c.args.k c.self.inside.count c.find_span_near.result stands (ap (λ (v : KeptCuts). v.count) c.self.view_is) c.if-k-self.false
-    c.deref.ensures.value (ap (λ (v : KeptCuts). v.cuts) c.self.view_is) c.find_span_near.ensures.some c.find_span_near.ensures.none
+    ∙ named history c.args.self.now c.spans_for.result.now c.args.k c.self.inside.count c.find_span_near.result stands (ap (λ (v : KeptCuts). v.count) c.self.view_is) c.if-k-self.false
+    c.spans_for.ensures.named c.find_span_near.ensures.some c.find_span_near.ensures.none
 
 pub returns-in-None : goal.returns-in-None
 returns-in-None c history stands =
     sym (ap is_some c.in-None.is)
-    ∙ named history c.args.self.now c.deref.result.now c.self.inside.spans.items c.args.k c.self.inside.count c.find_span_near.result stands (ap (λ (v : KeptCuts). v.count) c.self.view_is) c.if-k-self.false
-    c.deref.ensures.value (ap (λ (v : KeptCuts). v.cuts) c.self.view_is) c.find_span_near.ensures.some c.find_span_near.ensures.none
+    ∙ named history c.args.self.now c.spans_for.result.now c.args.k c.self.inside.count c.find_span_near.result stands (ap (λ (v : KeptCuts). v.count) c.self.view_is) c.if-k-self.false
+    c.spans_for.ensures.named c.find_span_near.ensures.some c.find_span_near.ensures.none

@@ -5,9 +5,9 @@ use Rattle.std.proofs.lemmas.List.Elements.{recursion_from_All}
 use Rattle.ew_model.specs.Sound.{IsSoundOp}
 use Rattle.event_runs.specs.declared.ops.RunOps.{RunOps}
 use Rattle.event_runs.specs.RunOps.{IndicesFit, ops_of}
-use Rattle.event_graph.proofs.Chains.{insertions_sound, back_sound}
+use Rattle.event_graph.proofs.Chains.{insertions_sound}
 use Rattle.event_graph.proofs.facts.RunOpsFacts.facts.Goals as goal
-use Rattle.ew_model.proofs.EditTexts.{deletions_sound}
+use Rattle.ew_model.proofs.EditTexts.{deletions_sound, back_sound}
 
 pub returns-in-Insertions : goal.returns-in-Insertions
 returns-in-Insertions c = λ fit.

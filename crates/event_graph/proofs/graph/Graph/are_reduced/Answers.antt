@@ -1,4 +1,5 @@
-use Rattle.std.proofs.Common.{◌≡◌, ◌∙◌, Bool, ℕ, List, IfOk, refl, sym, ap, subst}
+use Rattle.std.proofs.Common.{◌≡◌, ◌∙◌, ◌<◌, All, Bool, ℕ, List, IfOk, refl, sym, ap, subst}
+use Rattle.std.proofs.lemmas.List.{length-map}
 use Rattle.ew_model.specs.declared.id.Id.{Id}
 use Rattle.ew_model.specs.declared.event.Event.{Event}
 use Rattle.ew_model.specs.Sets.{Among}
@@ -26,6 +27,14 @@ returns-then-are_heads c =
     let now = c.args.self.now in
     let ids = c.args.parents.now in
     sym (all_heads_reduced now ids (λ p m. c.are_heads.ensures c.if-are_heads.true p (subst (Among p) (sym c.requires) m)) c.count-count.ensures.admitted)
+
+pub are_cut_apart-requires : goal.are_cut_apart-requires
+are_cut_apart-requires c =
+    let now = c.args.self.now in
+    subst (λ n. All (λ p. p < n) c.args.positions.now) (length-map now (λ (e : Event). positions_in now e.parents)) (positions_there now c.args.parents.now c.args.positions.now c.requires)
+
+pub returns-then-are_cut_apart : goal.returns-then-are_cut_apart
+returns-then-are_cut_apart c = sym (c.are_cut_apart.ensures c.if-are_cut_apart.true) ∙ same c.args.self.now c.args.parents.now c.args.positions.now c.count-count.ensures.admitted c.requires
 
 pub returns : goal.returns
 returns c = subst (λ (x : Bool). IfOk c.is_reduced.result (λ b. b ≡ x)) (same c.args.self.now c.args.parents.now c.args.positions.now c.count-count.ensures.admitted c.requires) c.is_reduced.ensures

@@ -6,7 +6,7 @@ use Rattle.event_graph.proofs.Grown.{told}
 use Rattle.event_graph.proofs.Tails.{cut_back}
 use Rattle.event_graph.proofs.graph.Graph.drop_tail.Goals as goal
 
-back : (c : goal.After-drop-self-inside-3) → IsKeptOf (take c.args.hold.count c.args.self.now) c.truncate.new.self c.truncate-2.new.self c.hold.inside.heads c.hold.inside.cuts
+back : (c : goal.After-drop-self-inside-4) → IsKeptOf (take c.args.hold.count c.args.self.now) c.truncate.new.self c.truncate-2.new.self c.hold.inside.heads c.hold.inside.cuts
 back c =
     let now = c.args.self.now in
     let inside = c.self.inside in
