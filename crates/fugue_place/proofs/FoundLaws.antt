@@ -1,104 +1,27 @@
 -- Children found by their nodes.
-use Rattle.std.proofs.Common.{◌≡◌, ℕ, ◌+◌, ◌-◌, ◌<◌, ◌≤◌, Bool, true, false, cond, ⊎_elim, List, [], ◌∷◌, ◌++◌, length, take, get_or, slice_get, Option, Some, None, Result, Ok, Err, refl, sym, ap, ◌∙◌, subst, arith, length-append}
+use Rattle.std.proofs.Common.{◌≡◌, ℕ, ◌+◌, ◌-◌, ◌<◌, ◌≤◌, Bool, true, false, cond, ⊎_elim, List, [], ◌∷◌, ◌++◌, length, take, slice_get, Option, Some, None, refl, sym, ap, ◌∙◌, subst, arith, length-append}
 use Rattle.std.specs.BTreeMap.{BTreeMap, get, is_at}
-use Rattle.std.specs.List.Sorted.{IsNonDecreasingBy, IsPartitionPoint, IsSearchInRange, IsBinarySearchResult}
-use Rattle.std.specs.List.{HoldsAt}
 use Rattle.std.specs.Option.{option_map_or, IfSome, IfNone}
-use Rattle.std.specs.Result.{result_ok}
-use Rattle.std.specs.Ordering.{ordering_index, is_eq, is_lt}
-use Rattle.std.specs.declared.cmp.Ordering.{Ordering}
-use Rattle.std.specs.declared.cmp.Ordering.TheVariants.{Less, Equal, Greater}
+use Rattle.std.specs.Ordering.{is_eq, is_lt}
+use Rattle.std.specs.declared.cmp.Ordering.TheVariants.{Less}
 use Rattle.std.proofs.lemmas.Bool.{false≢true, false_from_ne_true, cases_lt}
-use Rattle.std.proofs.lemmas.Cmp.{nat_cmp_total}
 use Rattle.std.proofs.lemmas.List.{take-append-le}
-use Rattle.std.proofs.lemmas.List.Sorted.{IsNonDecreasingBy-from_all_adjacent}
-use Rattle.std.proofs.lemmas.Option.{none-some, same_Some, slice_get_within, slice_get-get_or, slice_get_cases, get_or_from_slice_get}
+use Rattle.std.proofs.lemmas.Option.{none-some, same_Some, slice_get_within}
 use Rattle.std.proofs.Math.Seq.{take-length}
 use Rattle.ew_model.specs.declared.node.Node.{Node}
-use Rattle.ew_model.specs.declared.node.Node.TheVariants.{Root, Base, Event}
 use Rattle.ew_model.proofs.ListPlaces.{get-take_within}
 use Rattle.ew_model.proofs.GapLaws.{eq_from}
 use Rattle.ew_model.proofs.OperationLaws.{got}
 use Rattle.ew_model.proofs.VersionLaws.{any_from, found_by}
 use Rattle.fugue_place.specs.declared.child.Attached.{Attached}
-use Rattle.fugue_place.specs.declared.children.Member.{Member}
 use Rattle.fugue_place.specs.declared.places.Places.{Places}
 use Rattle.fugue_place.specs.Attachments.{node_eq, is_attached}
-use Rattle.fugue_place.specs.Members.{child_of, children_of}
 use Rattle.fugue_place.specs.Places.{HasNodeAt, AreRising, is_above_newest, ArePlaces}
 use Rattle.fugue_place.specs.Spots.{node_cmp}
 use Rattle.fugue_place.proofs.LineLaws.{is_less}
 use Rattle.fugue_place.proofs.ListLaws.{place_of, place_more, place_new, place_cases}
-use Rattle.fugue_place.proofs.MemberLaws.{child_there, member_there}
 use Rattle.fugue_place.proofs.NodeLaws.{node_same, node_itself}
 use Rattle.fugue_place.proofs.SpotLaws.{node_exact, node_tied}
-
--- THE ORDER OF NODES
-node_trans : (u v w : Node) → node_cmp u v ≡ Less → node_cmp v w ≡ Less → node_cmp u w ≡ Less
-node_trans u Root Root e f = let no : ⊥ = cc in absurd no
-node_trans u (Base j) Root e f = let no : ⊥ = cc in absurd no
-node_trans u (Event j) Root e f = let no : ⊥ = cc in absurd no
-node_trans Root v (Base k) e f = refl
-node_trans Root v (Event k) e f = refl
-node_trans (Base i) Root (Base k) e f = let no : ⊥ = cc in absurd no
-node_trans (Base i) (Base j) (Base k) e f = nat_cmp_total.trans i j k e f
-node_trans (Base i) (Event j) (Base k) e f = let no : ⊥ = cc in absurd no
-node_trans (Base i) v (Event k) e f = refl
-node_trans (Event i) Root w e f = let no : ⊥ = cc in absurd no
-node_trans (Event i) (Base j) w e f = let no : ⊥ = cc in absurd no
-node_trans (Event i) (Event j) (Base k) e f = let no : ⊥ = cc in absurd no
-node_trans (Event i) (Event j) (Event k) e f = nat_cmp_total.trans i j k e f
-
-at_most : (o : Ordering) → ordering_index o ≤ 2
-at_most Less = omega arith
-at_most Equal = omega arith
-at_most Greater = omega arith
-
--- of two nodes that rise, the second stands no lower to a third
-no_lower : (u v w : Node) → node_cmp u v ≡ Less → ordering_index (node_cmp u w) ≤ ordering_index (node_cmp v w)
-no_lower u v w e = at (node_cmp v w) refl
-  where
-    at : (o : Ordering) → node_cmp v w ≡ o → ordering_index (node_cmp u w) ≤ ordering_index (node_cmp v w)
-    at Less f = let low : ordering_index (node_cmp u w) ≡ 0 = ap ordering_index (node_trans u v w e f) in omega arith
-    at Equal f = let low : ordering_index (node_cmp u w) ≡ 0 = ap ordering_index (ap (node_cmp u) (sym (node_exact v w f)) ∙ e) in omega arith
-    at Greater f = let high : ordering_index (node_cmp v w) ≡ 2 = ap ordering_index f in let most = at_most (node_cmp u w) in omega arith
-
--- CHILDREN THAT RISE
-module _ (names : List (List ℕ)) (members : List Member) (v : Node) where
-  rising_by : AreRising (children_of names members) → IsNonDecreasingBy (λ (m : Member). ordering_index (node_cmp (Event m.event) v)) members
-  rising_by rise =
-      IsNonDecreasingBy-from_all_adjacent (λ (m : Member). ordering_index (node_cmp (Event m.event) v)) members (λ k d lt.
-      no_lower (Event (get_or members k d).event) (Event (get_or members (k + 1) d).event) v
-      (rise k (child_of names (get_or members k d)) (child_of names (get_or members (k + 1) d)) (child_there names members k (get_or members k d) (slice_get-get_or members k d (omega arith)))
-      (child_there names members (k + 1) (get_or members (k + 1) d) (slice_get-get_or members (k + 1) d lt))))
-
-  -- a search by halving ends at the node
-  halved_some : (k : ℕ) → k < length members → HoldsAt (λ (m : Member). node_cmp (Event m.event) v ≡ Equal) members k → HasNodeAt (children_of names members) v k
-  halved_some k lt equal =
-      ⊎_elim
-      (λ found. (child_of names found.0, child_there names members k found.0 found.2, node_exact (Event found.0.event) v (ap (λ (m : Member). node_cmp (Event m.event) v) (sym found.3) ∙ equal found.0)))
-      (λ past. let high = past.0 in absurd (omega arith))
-      (slice_get_cases members k).1
-
-  -- or no child has it
-  halved_none : (i : ℕ) → IsPartitionPoint (λ (m : Member). node_cmp (Event m.event) v ≡ Less) (λ (m : Member). node_cmp (Event m.event) v ≡ Greater) members i → is_attached (children_of names members) v ≡ false
-  halved_none i parted = false_from_ne_true (is_attached (children_of names members) v) (λ e.
-      let found = found_by (λ (a : Attached). node_eq a.node v) (children_of names members) e in
-      let place = place_of (children_of names members) found.0 found.1 in
-      let kept = member_there names members place.0 found.0 place.1 in
-      let lt : place.0 < length members = slice_get_within members place.0 kept.0 kept.1 in
-      let here : get_or members place.0 kept.0 ≡ kept.0 = get_or_from_slice_get members place.0 kept.0 kept.0 kept.1 in
-      let is : Event kept.0.event ≡ v = ap (λ (a : Attached). a.node) kept.2 ∙ node_same found.0.node v found.2 in
-      let equal : node_cmp (Event kept.0.event) v ≡ Equal = ap (λ (u : Node). node_cmp u v) is ∙ node_tied v in
-      ⊎_elim
-      (λ low. let less : node_cmp (Event kept.0.event) v ≡ Less = ap (λ (m : Member). node_cmp (Event m.event) v) (sym here) ∙ parted.0 place.0 kept.0 (omega arith) low in let no : ⊥ = cc in absurd no)
-      (λ high. let greater : node_cmp (Event kept.0.event) v ≡ Greater = ap (λ (m : Member). node_cmp (Event m.event) v) (sym here) ∙ parted.1 place.0 kept.0 high lt in let no : ⊥ = cc in absurd no)
-      (cases_lt place.0 i))
-
-  pub halved : AreRising (children_of names members) → (found : Result ℕ ℕ) → IsSearchInRange found (length members) → IsBinarySearchResult (λ (m : Member). node_cmp (Event m.event) v) members found
-      → IfSome (result_ok found) (HasNodeAt (children_of names members) v) × IfNone (result_ok found) (is_attached (children_of names members) v ≡ false)
-  halved rise (Ok k) lt equal = (halved_some k lt equal, tt)
-  halved rise (Err i) le parted = (tt, halved_none i (parted (rising_by rise)))
 
 -- CHILDREN BY THEIR NODES
 -- the child at a place is attached

@@ -75,3 +75,6 @@ module _ (children : List Attached) (all : AreAttached [] children) (a : Attache
     heir_right =
         let last = newest_last children a.parent newest in
         new_only children all Right outer outermost a (length children - 1) last.0 last.1 last.2 (none_follows last.0 last.1 last.2 (outer (length children - 1)) refl) on_right
+
+    pub none_behind : outer (length children - 1) ≡ None
+    none_behind = let last = newest_last children a.parent newest in none_follows last.0 last.1 last.2 (outer (length children - 1)) refl

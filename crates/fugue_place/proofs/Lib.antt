@@ -3,6 +3,7 @@ pub mod CmpLaws
 pub mod DescentLaws
 pub mod EndLaws
 pub mod FoundLaws
+pub mod HalvingLaws
 pub mod HeirLaws
 pub mod IndexLaws
 pub mod KeptLaws
@@ -10,12 +11,12 @@ pub mod KnownLaws
 pub mod LeaderLaws
 pub mod LineLaws
 pub mod ListLaws
-pub mod MemberLaws
 pub mod NeighbourLaws
 pub mod NodeLaws
 pub mod OutwardLaws
 pub mod PathLaws
 pub mod PlaceLaws
+pub mod RunLaws
 pub mod SpotLaws
 pub mod TableLaws
 pub mod TreeLaws

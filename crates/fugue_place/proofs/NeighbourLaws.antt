@@ -59,6 +59,13 @@ module _ (attached : List Attached) (v : Node) (s : Side) where
       let found = found_by (is_child v s) attached e in
       false≢true (sym (none_there (line_of v s) none found.0 found.1) ∙ and_from (is_child v s found.0) true found.2 refl))
 
+  -- where there is none, none has a lower id
+  pub none_lower : (x : Id) → list_any (is_in_line (line_of v s)) (take (length attached) attached) ≡ false → list_any (is_in_line (lower_line v s x)) (take (length attached) attached) ≡ false
+  none_lower x none = false_from_ne_true (list_any (is_in_line (lower_line v s x)) (take (length attached) attached)) (λ e.
+      let found = found_by (is_in_line (lower_line v s x)) (take (length attached) attached) e in
+      let child = (and_parts (is_child v s found.0) (id_lt found.0.id x) found.2).0 in
+      false≢true (sym (none_passes (is_in_line (line_of v s)) (take (length attached) attached) found.0 none found.1) ∙ and_from (is_child v s found.0) true child refl))
+
 -- WHAT THEY TELL OF THE TREE
 module _ (attached : List Attached) (all : AreAttached [] attached) (v : Node) (s : Side) (x : Id) (there : is_there attached v ≡ true) (unused : has_id attached x ≡ false) where
   -- the new child's path

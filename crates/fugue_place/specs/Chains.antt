@@ -90,6 +90,13 @@ pub record HasRows (c : Chains) : Type 0 where
   pub numbers : c.count ≤ vec_capacity c.numbers
   pub ends : c.count ≤ vec_capacity c.ends
 
+-- a row for one more fits into each table, were there one for each place
+pub record HasFreeRows (c : Chains) : Type 0 where
+  pub outer : c.count < vec_capacity c.outer
+  pub inner : c.count < vec_capacity c.inner
+  pub numbers : c.count < vec_capacity c.numbers
+  pub ends : c.count < vec_capacity c.ends
+
 -- one more fits, and has a number: behind another it takes a row of each table
 pub record HasRoom (c : Chains) (behind : Option ℕ) : Type 0 where
   pub few : c.count + 1 < 2 ^ 32

@@ -1,7 +1,7 @@
 //! Where the subtrees of children end on one side.
 
-ghost use Rattle.std.specs.Prelude.{◌≡◌, ℕ, ◌<◌, ◌+◌, ◌^◌, length, set, None, Some, IfSome, IfNone, OnOk};
-ghost use Rattle.fugue_place.specs.Chains.{follower, entry_at, IsChains, IsEndOf, IsLedBy, AreAligned, IsSame, TellsSame, HasRoom, HasRows, IsLone, KeepsLinks, IsOuterRenumbered, IsInnerRenumbered};
+ghost use Rattle.std.specs.Prelude.{◌≡◌, ℕ, ◌<◌, ◌+◌, ◌-◌, ◌^◌, length, set, None, Some, IfSome, IfNone, OnOk, IsTrue};
+ghost use Rattle.fugue_place.specs.Chains.{follower, entry_at, IsChains, IsEndOf, IsLedBy, AreAligned, IsSame, TellsSame, HasFreeRows, HasRoom, HasRows, IsLone, KeepsLinks, IsOuterRenumbered, IsInnerRenumbered};
 
 use ew_model::NoMem;
 use std::alloc::Global;
@@ -50,14 +50,10 @@ impl Chains {
         if self.count >= MOST as usize {
             return Err(NoMem);
         }
-        if behind.is_none() {
+        if behind.is_none() || self.has_room() {
             return Ok(());
         }
-        let more = self.count + 1 - self.outer.len();
-        self.outer.reserve(more)?;
-        self.inner.reserve(more)?;
-        self.numbers.reserve(more)?;
-        self.ends.reserve(more)
+        self.grow()
     }
 
     /// What follows this one.
@@ -98,6 +94,54 @@ impl Chains {
 }
 
 impl Chains {
+    /// Adds the next one behind the newest, which nothing follows.
+    pub fn add_behind_newest(&mut self)
+        requires chains { IsChains self.old }
+        requires some { 0 < self.old.count }
+        requires room { HasRoom self.old (Some (self.old.count - 1)) }
+        requires last { follower self.old.outer.items (self.old.count - 1) ≡ None }
+        ensures chains { IsChains self.new }
+        ensures count { self.new.count ≡ self.old.count + 1 }
+        ensures led { IsLedBy self.old.count (follower self.old.outer.items) (Some (self.old.count - 1)) (follower self.new.outer.items) }
+    {
+        if self.outer.len() < self.count {
+            self.add(Some(self.count - 1));
+        } else {
+            let new = self.count as u32;
+            self.count += 1;
+            self.put_alone();
+            self.inner[new as usize] = new - 1;
+            self.lengthen(new - 1, new);
+        }
+    }
+
+    /// Whether a row for one more fits into each table.
+    fn has_room(&self) -> bool
+        ensures { IsTrue result → HasFreeRows self.now }
+    {
+        let count = self.count;
+        count < self.outer.capacity()
+            && count < self.inner.capacity()
+            && count < self.numbers.capacity()
+            && count < self.ends.capacity()
+    }
+
+    /// Makes room for the rows of all and of one more.
+    // Seldom called: kept apart, so that what is done for each character stays short.
+    #[inline(never)]
+    fn grow(&mut self) -> Result<(), NoMem>
+        requires chains { IsChains self.old }
+        requires few { self.old.count < 2 ^ 32 }
+        ensures same { IsSame self.old self.new }
+        ensures room { OnOk result (HasFreeRows self.new) }
+    {
+        let more = self.count + 1 - self.outer.len();
+        self.outer.reserve(more)?;
+        self.inner.reserve(more)?;
+        self.numbers.reserve(more)?;
+        self.ends.reserve(more)
+    }
+
     /// Gives a row to each that has none: it is alone.
     fn fill(&mut self)
         requires aligned { AreAligned self.old }

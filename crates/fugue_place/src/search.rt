@@ -45,6 +45,14 @@ pub fn place_of_new(
     if is_newest(children, parent) {
         return beside(parent, side);
     }
+    let all = Line {
+        parent,
+        side,
+        below: None,
+    };
+    let Some(lowest) = outermost_child(children, spots, places, &all, Side::Left) else {
+        return beside(parent, side);
+    };
     let lower = Line {
         parent,
         side,
@@ -54,16 +62,8 @@ pub fn place_of_new(
         let last = outermost_node(children, right, k, Side::Right);
         return Place::After(last);
     }
-    let all = Line {
-        parent,
-        side,
-        below: None,
-    };
-    if let Some(k) = outermost_child(children, spots, places, &all, Side::Left) {
-        let first = outermost_node(children, left, k, Side::Left);
-        return Place::Before(first);
-    }
-    beside(parent, side)
+    let first = outermost_node(children, left, lowest, Side::Left);
+    Place::Before(first)
 }
 
 /// The place right beside a node on the side.

@@ -130,9 +130,9 @@ impl Siblings {
         let agent = self.children.reserve(&child.id.agent)?;
         self.right.reserve(Some(newest))?;
         self.places.add(&self.children, &child)?;
-        self.children.push_reserved(child, agent);
+        self.children.push_heir(child, agent);
         self.left.add(None);
-        self.right.add(Some(newest));
+        self.right.add_behind_newest();
         Ok(())
     }
 
