@@ -1,3 +1,4 @@
+pub mod ChainLaws
 pub mod RestingRights
 pub mod RightCounts
 pub mod RightKeeping

@@ -1,5 +1,6 @@
 -- How the counts of right children change with one node, and with a new child.
-use Rattle.std.proofs.Common.{◌≡◌, ℕ, ◌+◌, ◌≤◌, ◌^◌, Bool, true, false, ◌&&◌, ◌||◌, ◌⊎◌, inl, inr, Option, Some, None, List, [], ◌∷◌, ◌++◌, nat_eq, nat_lt, if◌then◌else◌, refl, sym, ap, ◌∙◌, subst, arith}
+use mathlib.Core.Bool.{beq}
+use Rattle.std.proofs.Common.{◌≡◌, ℕ, ◌+◌, ◌<◌, ◌≤◌, ◌^◌, Bool, true, false, ◌&&◌, ◌||◌, ◌⊎◌, inl, inr, Option, Some, None, List, [], ◌∷◌, ◌++◌, nat_eq, nat_lt, if◌then◌else◌, refl, sym, ap, ◌∙◌, subst, arith}
 use Rattle.std.specs.List.{list_any}
 use Rattle.std.proofs.lemmas.Bool.{false≢true, eqb-true, eq-eqb}
 use Rattle.ew_model.specs.declared.node.Node.{Node}
@@ -12,6 +13,7 @@ use Rattle.fugue_place.specs.Attachments.{node_eq, is_attached, is_there, AreAtt
 use Rattle.fugue_place.specs.Neighbours.{is_child, side_eq}
 use Rattle.fugue_place.proofs.NodeLaws.{node_same, node_itself}
 use Rattle.right_children.specs.Rights.{one_if, Counted, parent_of, known_right, right_parent, AreRights, Shifts, MayShift}
+use Rattle.right_children.specs.Rows.{MayStep}
 use Rattle.right_children.proofs.RightCounts.{count_moved, count_unmoved, count_same, count_has, count-cons, any_counted, not_there}
 use Rattle.ew_model.proofs.ListTests.{count-append}
 
@@ -211,3 +213,10 @@ module _ (before after : Node → Bool) (attached : List Attached) (old c d : Co
 -- some are known where one is
 pub known_child : (known : Node → Bool) (attached : List Attached) (v : Node) → nat_lt 0 (known_right known attached v) ≡ list_any (λ (a : Attached). is_child v right a && known a.node) attached
 known_child known attached v = any_counted (tells known v) attached
+
+-- a count that may change so may take the step
+pub may_step : (n : ℕ) (was is : Bool) → beq was is ≡ false → (one_if was ≤ n) × (n + one_if is < 2 ^ 32) → MayStep n is
+may_step n true true e may = absurd (false≢true (sym e))
+may_step n false false e may = absurd (false≢true (sym e))
+may_step n true false e may = (λ f. may.0, λ f. absurd (false≢true f))
+may_step n false true e may = (λ f. absurd (false≢true (sym f)), λ f. may.1)

@@ -1,2 +1,4 @@
+pub mod Chains
+pub mod Parents
 pub mod Rights
 pub mod Rows

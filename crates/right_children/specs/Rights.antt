@@ -10,6 +10,7 @@ use Rattle.fugue_place.specs.Neighbours.{is_child, side_eq}
 use Rattle.fugue_place.specs.Spots.{node_cmp}
 use Rattle.fugue_place.specs.Attachments.{is_there, AreAttached}
 use Rattle.right_children.specs.declared.rights.Rights.{Rights}
+use Rattle.right_children.specs.Parents.{parent_at}
 use Rattle.right_children.specs.Rows.{kept_at, row_at}
 
 -- what one counts that is so or isn't
@@ -48,11 +49,11 @@ or_none o = unwrap_or o 0
 abbrev pub count_in : Rights → Node → ℕ
 count_in r Root = or_none (get node_cmp r.counts Root)
 count_in r (Base i) = or_none (get node_cmp r.counts (Base i))
-count_in r (Event n) = (row_at r.rows n).inserted
+count_in r (Event n) = row_at r.rows n
 
 -- what the tables tell
 abbrev pub counted : Rights → Counted
-counted r = record { parent_at = λ n. (row_at r.rows n).parent; count = count_in r }
+counted r = record { parent_at = parent_at r.parents; count = count_in r }
 
 -- a count is kept of the node
 abbrev pub HasCount : Rights → Node → Type 0

@@ -1,26 +1,21 @@
--- What is kept of the nodes of events, by the events' positions.
+-- How many right children of the nodes of events are known, by the events' positions.
 use Rattle.std.specs.Prelude.{◌≡◌, ℕ, ◌+◌, ◌-◌, ◌^◌, ◌<◌, Bool, true, false, List, slice_get, Option, None, IsSome, nat_lt, if◌then◌else◌, unwrap_or}
 use Rattle.std.specs.BTreeMap.{get}
 use Rattle.std.specs.Option.{option_or}
 use Rattle.std.specs.Ordering.{nat_cmp}
-use Rattle.right_children.specs.declared.rows.Row.{Row}
 use Rattle.right_children.specs.declared.rows.Rows.{Rows}
 
--- of a node that is no right child, and has none that is inserted
-abbrev pub empty : Row
-empty = record { parent = None; inserted = 0 }
-
 -- the row of a position among rows in line, which begin at a position
-abbrev pub in_line : ℕ → List Row → ℕ → Option Row
+abbrev pub in_line : ℕ → List ℕ → ℕ → Option ℕ
 in_line first line n = if nat_lt n first then None else slice_get line (n - first)
 
 -- the row that is kept of a position: in line, else elsewhere
-abbrev pub kept_at : Rows → ℕ → Option Row
+abbrev pub kept_at : Rows → ℕ → Option ℕ
 kept_at r n = option_or (in_line r.first r.line.items n) (get nat_cmp r.others n)
 
--- the row of a position, which is empty where none is kept
-abbrev pub row_at : Rows → ℕ → Row
-row_at r n = unwrap_or (kept_at r n) empty
+-- the row of a position, which is 0 where none is kept
+abbrev pub row_at : Rows → ℕ → ℕ
+row_at r n = unwrap_or (kept_at r n) 0
 
 -- no row changes, and none that is kept goes
 pub record KeepsRows (old new : Rows) : Type 0 where

@@ -12,6 +12,8 @@
 //! | 1.6 | 3.2 | 7.3 | 6.3 | 5.4 |
 #![tactic(auto)]
 
+mod chains;
+mod parents;
 mod rights;
 mod rows;
 

@@ -1,15 +1,18 @@
 //! How many right children of each node are known.
 
-ghost use Rattle.std.specs.Prelude.{◌≡◌, ◌<◌, ◌≤◌, ◌^◌, ℕ, List, Bool, None, Some, OnOk, OnErr, IsSome, false, nat_eq, nat_lt, if◌then◌else◌};
+ghost use Rattle.std.specs.Prelude.{◌≡◌, ◌+◌, ◌-◌, ◌<◌, ◌≤◌, ◌^◌, ℕ, List, Bool, None, Some, OnOk, OnErr, IsSome, false, nat_eq, nat_lt, if◌then◌else◌};
 ghost use Rattle.std.specs.BTreeMap.{get, is_at};
 ghost use Rattle.ew_model.specs.declared.node.Node.{Node as Nodes};
+ghost use Rattle.ew_model.specs.declared.node.Node.TheVariants as nodes;
 ghost use Rattle.fugue_place.specs.declared.child.Attached.{Attached};
 ghost use Rattle.fugue_place.specs.declared.child.Side.TheVariants.{Right as right};
 ghost use Rattle.fugue_place.specs.Neighbours.{side_eq};
 ghost use Rattle.fugue_place.specs.Spots.{node_cmp};
+ghost use Rattle.right_children.specs.Chains.{AreLinked};
 ghost use Rattle.right_children.specs.Rows.{stepped, MayStep};
-ghost use Rattle.right_children.specs.Rights.{parent_of, or_none, counted, AreRights, HasCount, IsWhole, Shifts, ShiftEach, MayShift, Resets, HangWithin, none_known};
+ghost use Rattle.right_children.specs.Rights.{or_none, counted, AreRights, HasCount, IsWhole, Shifts, ShiftEach, MayShift, Resets, HangWithin, none_known};
 
+use crate::parents::Parents;
 use crate::rows::{Rows, stepped};
 use ew_model::NoMem;
 use ew_model::node::Node;
@@ -20,7 +23,8 @@ use std::collections::BTreeMap;
 /// The parents of right children, and how many of a node's right children are known.
 #[derive(Drop)]
 pub struct Rights {
-    /// Both for the nodes of events.
+    parents: Parents,
+    /// How many for the nodes of events.
     rows: Rows,
     /// How many for the root and for base characters. Each parent of a right child has a row, or a count here.
     counts: BTreeMap<Node, u32>,
@@ -33,6 +37,7 @@ impl Rights {
         ensures counts { (v : Nodes) → (counted result).count v ≡ 0 }
     {
         Rights {
+            parents: Parents::new(alloc),
             rows: Rows::new(alloc),
             counts: BTreeMap::new(alloc),
         }
@@ -54,10 +59,10 @@ impl Rights {
         ensures counts { (v : Nodes) → (counted self.new).count v ≡ (counted self.old).count v }
     {
         match side {
-            Side::Left => self.rows.note(position, None),
+            Side::Left => self.parents.note(position, None),
             Side::Right => {
                 self.begin(parent)?;
-                self.rows.note(position, Some(parent))
+                self.parents.note(position, Some(parent))
             }
         }
     }
@@ -72,9 +77,47 @@ impl Rights {
         if was == is {
             return;
         }
-        let Some(parent) = self.parent(node) else {
+        let Node::Event(position) = node else {
             return;
         };
+        let (parent, _) = self.parents.find(position);
+        if let Some(parent) = parent {
+            self.shift_under(position, parent, was, is);
+        }
+    }
+
+    /// The same for the node of the event at a position, where those up to another are each a right child of the one before.
+    /// Answers up to where those behind it are.
+    fn shift_next(&mut self, position: u32, linked: u32, was: bool, is: bool) -> u32
+        requires whole { IsWhole self.old }
+        requires may { MayShift (counted self.old) (nodes.Event position) was is }
+        requires linked { AreLinked (counted self.old).parent_at position linked }
+        ensures whole { IsWhole self.new }
+        ensures shifts { Shifts (counted self.old) (counted self.new) (nodes.Event position) was is }
+        ensures linked { AreLinked (counted self.new).parent_at (position + 1) result }
+    {
+        if position < linked {
+            self.shift_under(position, Node::Event(position - 1), was, is);
+            return linked;
+        }
+        let (parent, next) = self.parents.find(position);
+        if let Some(parent) = parent {
+            self.shift_under(position, parent, was, is);
+        }
+        next
+    }
+
+    /// The same for the node of the event at a position, where it is a right child of this node.
+    fn shift_under(&mut self, position: u32, parent: Node, was: bool, is: bool)
+        requires whole { IsWhole self.old }
+        requires may { MayShift (counted self.old) (nodes.Event position) was is }
+        requires parent { (counted self.old).parent_at position ≡ Some parent }
+        ensures whole { IsWhole self.new }
+        ensures shifts { Shifts (counted self.old) (counted self.new) (nodes.Event position) was is }
+    {
+        if was == is {
+            return;
+        }
         self.shift_count(parent, is);
     }
 
@@ -87,8 +130,9 @@ impl Rights {
         ensures rights { (old new : Nodes → Bool) (attached : List Attached) → AreRights old attached (counted self.old) → ShiftEach old new attached from to was is
             → AreRights new attached (counted self.new) }
     {
+        let mut linked = 0;
         for position in from..to {
-            self.shift(Node::Event(position), was, is);
+            linked = self.shift_next(position, linked, was, is);
         }
     }
 
@@ -99,30 +143,40 @@ impl Rights {
         ensures whole { IsWhole self.new }
         ensures rights { (known : Nodes → Bool) (attached : List Attached) → AreRights known attached (counted self.old) → HangWithin from to attached → AreRights none_known attached (counted self.new) }
     {
+        let mut linked = 0;
         for position in from..to {
-            self.reset(Node::Event(position));
+            linked = self.reset_next(position, linked);
         }
     }
 
-    /// The parent of a right child has no known right child any more.
-    fn reset(&mut self, node: Node)
-        requires { IsWhole self.old }
+    /// The parent of a right child has no known right child any more: of the node of the event at a position, where those up to
+    /// another are each a right child of the one before. Answers up to where those behind it are.
+    fn reset_next(&mut self, position: u32, linked: u32) -> u32
+        requires whole { IsWhole self.old }
+        requires linked { AreLinked (counted self.old).parent_at position linked }
         ensures whole { IsWhole self.new }
-        ensures resets { Resets (counted self.old) (counted self.new) node }
+        ensures resets { Resets (counted self.old) (counted self.new) (nodes.Event position) }
+        ensures linked { AreLinked (counted self.new).parent_at (position + 1) result }
     {
-        if let Some(parent) = self.parent(node) {
-            self.reset_count(parent);
+        if position < linked {
+            self.reset_under(position, Node::Event(position - 1));
+            return linked;
         }
+        let (parent, next) = self.parents.find(position);
+        if let Some(parent) = parent {
+            self.reset_under(position, parent);
+        }
+        next
     }
 
-    /// The parent of a right child.
-    fn parent(&self, node: Node) -> Option<Node>
-        ensures { result ≡ parent_of (counted self.now) node }
+    /// The same for the node of the event at a position, where it is a right child of this node.
+    fn reset_under(&mut self, position: u32, parent: Node)
+        requires whole { IsWhole self.old }
+        requires parent { (counted self.old).parent_at position ≡ Some parent }
+        ensures whole { IsWhole self.new }
+        ensures resets { Resets (counted self.old) (counted self.new) (nodes.Event position) }
     {
-        match node {
-            Node::Event(position) => self.rows.at(position).parent,
-            Node::Root | Node::Base(_) => None,
-        }
+        self.reset_count(parent);
     }
 
     /// How many right children of a node are known.
@@ -130,7 +184,7 @@ impl Rights {
         ensures { result ≡ (counted self.now).count node }
     {
         match node {
-            Node::Event(position) => self.rows.at(position).inserted,
+            Node::Event(position) => self.rows.at(position),
             Node::Root | Node::Base(_) => count_at(&self.counts, node),
         }
     }
@@ -157,7 +211,7 @@ impl Rights {
         ensures counts { (v : Nodes) → (counted self.new).count v ≡ (if is_at (node_cmp node) v then stepped ((counted self.old).count node) is else (counted self.old).count v) }
     {
         match node {
-            Node::Event(position) => self.rows.shift_inserted(position, is),
+            Node::Event(position) => self.rows.shift(position, is),
             Node::Root | Node::Base(_) => {
                 let count = stepped(count_at(&self.counts, node), is);
                 set_count(&mut self.counts, node, count);
@@ -173,7 +227,7 @@ impl Rights {
         ensures counts { (v : Nodes) → (counted self.new).count v ≡ (if is_at (node_cmp node) v then 0 else (counted self.old).count v) }
     {
         match node {
-            Node::Event(position) => self.rows.reset_inserted(position),
+            Node::Event(position) => self.rows.reset(position),
             Node::Root | Node::Base(_) => set_count(&mut self.counts, node, 0),
         }
     }

@@ -1,45 +1,26 @@
-//! What is kept of the nodes of events, by the events' positions.
+//! How many right children of the nodes of events are known, by the events' positions.
 
 ghost use Rattle.std.specs.Prelude.{◌≡◌, ◌+◌, ◌-◌, ◌≤◌, ℕ, true, None, Some, IsSome, OnOk, OnErr, length, nat_eq, unwrap_or, if◌then◌else◌};
 ghost use Rattle.std.specs.Ordering.{nat_cmp};
 ghost use Rattle.std.specs.BTreeMap.{get};
-ghost use Rattle.right_children.specs.Rows.{empty, in_line, kept_at, row_at, stepped, KeepsRows, MayStep};
+ghost use Rattle.right_children.specs.Rows.{in_line, kept_at, row_at, stepped, KeepsRows, MayStep};
 
 use ew_model::NoMem;
-use ew_model::node::Node;
 use std::alloc::Global;
 use std::collections::BTreeMap;
 
 /// The most positions without a row that the line goes on over at once.
 const LONGEST_GAP: usize = 1 << 20;
 
-/// The parent of a node that is a right child, and how many right children of the node are inserted in what is prepared.
-#[derive(Clone, Copy)]
-pub struct Row {
-    pub parent: Option<Node>,
-    pub inserted: u32,
-}
-
-impl Row {
-    /// Of a node that is no right child, and has none that is inserted.
-    fn empty() -> Row
-        ensures { result ≡ empty }
-    {
-        Row {
-            parent: None,
-            inserted: 0,
-        }
-    }
-}
-
-/// Rows by position. Those from some position on stand in line, one for each position, so that a row is found by its place.
+/// A row by position: how many right children of the event's node are known. Those from some position on stand in line, one for
+/// each position, so that a row is found by its place.
 #[derive(Drop)]
 pub struct Rows {
     /// The position of the first in line.
     first: u32,
-    line: Vec<Row>,
+    line: Vec<u32>,
     /// Those of positions before the line, or far behind it.
-    others: BTreeMap<u32, Row>,
+    others: BTreeMap<u32, u32>,
 }
 
 impl Rows {
@@ -54,15 +35,15 @@ impl Rows {
         }
     }
 
-    /// The row of a position, which is empty where none is kept.
-    pub fn at(&self, position: u32) -> Row
+    /// The row of a position, which is 0 where none is kept.
+    pub fn at(&self, position: u32) -> u32
         ensures { result ≡ row_at self.now position }
     {
-        self.get(position).unwrap_or(Row::empty())
+        self.get(position).unwrap_or(0)
     }
 
     /// The row that is kept of a position.
-    fn get(&self, position: u32) -> Option<Row>
+    fn get(&self, position: u32) -> Option<u32>
         ensures { result ≡ kept_at self.now position }
     {
         match in_line(self.first, &self.line, position) {
@@ -71,59 +52,31 @@ impl Rows {
         }
     }
 
-    /// Gives a position that has a row another.
-    fn put(&mut self, position: u32, row: Row)
-        requires { IsSome (kept_at self.old position) }
-        ensures { (n : ℕ) → kept_at self.new n ≡ (if nat_eq position n then Some row else kept_at self.old n) }
+    /// Notes that one more right child of the node of a position that has a row is known, or one fewer.
+    pub fn shift(&mut self, position: u32, is: bool)
+        requires has { IsSome (kept_at self.old position) }
+        requires may { MayStep (row_at self.old position) is }
+        ensures { (n : ℕ) → kept_at self.new n ≡ (if nat_eq position n then Some (stepped (row_at self.old position) is) else kept_at self.old n) }
     {
         if in_line(self.first, &self.line, position).is_some() {
-            self.line[(position - self.first) as usize] = row;
+            let place = (position - self.first) as usize;
+            self.line[place] = stepped(self.line[place], is);
         } else {
+            let row = stepped(self.elsewhere(position), is);
             replace(&mut self.others, position, row);
         }
     }
 
-    /// Notes that one more right child of the node of a position that has a row is inserted, or one fewer.
-    pub fn shift_inserted(&mut self, position: u32, is: bool)
-        requires has { IsSome (kept_at self.old position) }
-        requires may { MayStep (row_at self.old position).inserted is }
-        ensures { (n : ℕ) → kept_at self.new n ≡ (if nat_eq position n then Some (record (row_at self.old position) { inserted = stepped (row_at self.old position).inserted is }) else kept_at self.old n) }
+    /// Notes that no right child of the node of a position that has a row is known.
+    pub fn reset(&mut self, position: u32)
+        requires { IsSome (kept_at self.old position) }
+        ensures { (n : ℕ) → kept_at self.new n ≡ (if nat_eq position n then Some 0 else kept_at self.old n) }
     {
         if in_line(self.first, &self.line, position).is_some() {
-            let place = (position - self.first) as usize;
-            let row = self.line[place];
-            let inserted = stepped(row.inserted, is);
-            self.line[place] = Row { inserted, ..row };
+            self.line[(position - self.first) as usize] = 0;
         } else {
-            let row = self.elsewhere(position);
-            let inserted = stepped(row.inserted, is);
-            replace(&mut self.others, position, Row { inserted, ..row });
+            replace(&mut self.others, position, 0);
         }
-    }
-
-    /// Notes that no right child of the node of a position that has a row is inserted.
-    pub fn reset_inserted(&mut self, position: u32)
-        requires { IsSome (kept_at self.old position) }
-        ensures { (n : ℕ) → kept_at self.new n ≡ (if nat_eq position n then Some (record (row_at self.old position) { inserted = 0 }) else kept_at self.old n) }
-    {
-        let row = self.at(position);
-        self.put(position, Row { inserted: 0, ..row });
-    }
-
-    /// Notes the parent of the node of a position, or that it is no right child.
-    pub fn note(&mut self, position: u32, parent: Option<Node>) -> Result<(), NoMem>
-        ensures ok { OnOk result ((n : ℕ) → row_at self.new n ≡ (if nat_eq position n then record (row_at self.old n) { parent = parent } else row_at self.old n)) }
-        ensures err { OnErr result ((n : ℕ) → row_at self.new n ≡ row_at self.old n) }
-        ensures kept { (n : ℕ) → IsSome (kept_at self.old n) → IsSome (kept_at self.new n) }
-    {
-        if self.is_next(position) {
-            let row = self.elsewhere(position);
-            return self.push_row(position, Row { parent, ..row });
-        }
-        self.begin(position)?;
-        let row = self.at(position);
-        self.put(position, Row { parent, ..row });
-        Ok(())
     }
 
     /// Sees to it that a position has a row.
@@ -133,6 +86,9 @@ impl Rows {
     {
         if in_line(self.first, &self.line, position).is_some() {
             return Ok(());
+        }
+        if self.is_next(position) {
+            return self.push(position);
         }
         self.begin_out_of_line(position)
     }
@@ -154,7 +110,7 @@ impl Rows {
         if self.is_near(position) {
             self.lengthen(position)
         } else {
-            keep(&mut self.others, position, Row::empty())
+            keep(&mut self.others, position, 0)
         }
     }
 
@@ -202,7 +158,7 @@ impl Rows {
     }
 
     /// Lengthens the line by one position, with its row.
-    fn push_row(&mut self, position: u32, row: Row) -> Result<(), NoMem>
+    fn push_row(&mut self, position: u32, row: u32) -> Result<(), NoMem>
         requires { position ≡ self.old.first + length self.old.line.items }
         ensures ok { OnOk result ((n : ℕ) → kept_at self.new n ≡ (if nat_eq position n then Some row else kept_at self.old n)) }
         ensures err { OnErr result ((n : ℕ) → kept_at self.new n ≡ kept_at self.old n) }
@@ -213,11 +169,11 @@ impl Rows {
         Ok(())
     }
 
-    /// The row of a position out of line, which is empty where none is kept.
-    fn elsewhere(&self, position: u32) -> Row
-        ensures { result ≡ unwrap_or (get nat_cmp self.now.others position) empty }
+    /// The row of a position out of line, which is 0 where none is kept.
+    fn elsewhere(&self, position: u32) -> u32
+        ensures { result ≡ unwrap_or (get nat_cmp self.now.others position) 0 }
     {
-        other(&self.others, position).unwrap_or(Row::empty())
+        other(&self.others, position).unwrap_or(0)
     }
 }
 
@@ -230,7 +186,7 @@ pub fn stepped(count: u32, more: bool) -> u32
 }
 
 /// The row of a position among rows in line, which begin at a position.
-fn in_line(first: u32, line: &[Row], position: u32) -> Option<Row>
+fn in_line(first: u32, line: &[u32], position: u32) -> Option<u32>
     ensures { result ≡ in_line first line.now position }
 {
     if position < first {
@@ -239,14 +195,14 @@ fn in_line(first: u32, line: &[Row], position: u32) -> Option<Row>
     line.get((position - first) as usize).copied()
 }
 
-fn other(others: &BTreeMap<u32, Row>, position: u32) -> Option<Row>
+fn other(others: &BTreeMap<u32, u32>, position: u32) -> Option<u32>
     ensures { result ≡ get nat_cmp others.now position }
 {
     others.get(&position).copied()
 }
 
 /// Keeps the row of a position, which may have one.
-fn keep(others: &mut BTreeMap<u32, Row>, position: u32, row: Row) -> Result<(), NoMem>
+fn keep(others: &mut BTreeMap<u32, u32>, position: u32, row: u32) -> Result<(), NoMem>
     ensures ok { OnOk result ((k : ℕ) → get nat_cmp others.new k ≡ (if nat_eq position k then Some row else get nat_cmp others.old k)) }
     ensures err { OnErr result ((k : ℕ) → get nat_cmp others.new k ≡ get nat_cmp others.old k) }
     ensures absent { OnErr result (get nat_cmp others.old position ≡ None) }
@@ -258,7 +214,7 @@ fn keep(others: &mut BTreeMap<u32, Row>, position: u32, row: Row) -> Result<(), 
 }
 
 /// Gives a position that has a row another.
-fn replace(others: &mut BTreeMap<u32, Row>, position: u32, row: Row)
+fn replace(others: &mut BTreeMap<u32, u32>, position: u32, row: u32)
     requires { IsSome (get nat_cmp others.old position) }
     ensures { (k : ℕ) → get nat_cmp others.new k ≡ (if nat_eq position k then Some row else get nat_cmp others.old k) }
 {

@@ -4,12 +4,13 @@ use Rattle.right_children.proofs.RestingRights.{AreReset, none_reset, next_reset
 use Rattle.right_children.proofs.rights.Rights.rest.Goals as goal
 
 pub loop-position-init : goal.loop-position-init
-loop-position-init c = record { whole = c.requires.whole; reset = none_reset (counted c.args.self.now) c.args.from }
+loop-position-init c = record { whole = c.requires.whole; linked = λ n low high. absurd (omega (arith, high)); reset = none_reset (counted c.args.self.now) c.args.from }
 
 pub loop-position-preserved : goal.loop-position-preserved
 loop-position-preserved c = record {
-  whole = c.reset.ensures.whole;
-  reset = next_reset (counted c.args.self.now) (counted c.loop-position.self) (counted c.reset.new.self) c.args.from c.loop-position.position c.loop-position.invariant.reset c.reset.ensures.resets;
+  whole = c.reset_next-linked.ensures.whole;
+  linked = c.reset_next-linked.ensures.linked;
+  reset = next_reset (counted c.args.self.now) (counted c.loop-position.self) (counted c.reset_next-linked.new.self) c.args.from c.loop-position.position c.loop-position.invariant.reset c.reset_next-linked.ensures.resets;
 }
 
 pub returns-clause-rights : goal.returns-clause-rights

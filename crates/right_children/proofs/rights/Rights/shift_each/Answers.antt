@@ -7,21 +7,23 @@ use Rattle.right_children.proofs.rights.Rights.shift_each.Goals as goal
 pub loop-position-init : goal.loop-position-init
 loop-position-init c = record {
   whole = c.requires.whole;
+  linked = λ n low high. absurd (omega (arith, high));
   rights = λ old new attached rights h.
       subst (λ (known : Node → Bool). AreRights known attached (counted c.args.self.now)) (sym (before_all old new attached c.args.from c.args.to c.args.was c.args.is h)) rights;
 }
 
-pub shift-requires-clause-may : goal.shift-requires-clause-may
-shift-requires-clause-may c =
+pub shift_next-linked-requires-clause-may : goal.shift_next-linked-requires-clause-may
+shift_next-linked-requires-clause-may c =
     let m = c.requires.may in
     may_next m.0 m.1 m.2 c.args.from c.args.to c.args.was c.args.is m.4 c.loop-position.position c.loop-position.auto.position c.loop-position-test.true (counted c.loop-position.self) (c.loop-position.invariant.rights m.0 m.1 m.2 m.3 m.4)
 
 pub loop-position-preserved : goal.loop-position-preserved
 loop-position-preserved c = record {
-  whole = c.shift.ensures.whole;
+  whole = c.shift_next-linked.ensures.whole;
+  linked = c.shift_next-linked.ensures.linked;
   rights = λ old new attached rights h.
       kept_next old new attached c.args.from c.args.to c.args.was c.args.is h c.loop-position.position c.loop-position.auto.position c.loop-position-test.true (counted c.loop-position.self) (c.loop-position.invariant.rights old new attached rights h)
-      (counted c.shift.new.self) c.shift.ensures.shifts;
+      (counted c.shift_next-linked.new.self) c.shift_next-linked.ensures.shifts;
 }
 
 pub returns-clause-rights : goal.returns-clause-rights
