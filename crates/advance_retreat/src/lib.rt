@@ -4,15 +4,17 @@
 //! It stands for a base, the events applied over it and what is prepared of them, by the characters in order with their states,
 //! and the tree of their nodes.
 //!
-//! Where all applied events are taken out of what is prepared at once, one way over the runs does it. Without that a run makes so many
-//! percent more instructions, for histories of 10,000 events. In the first four columns every event's change is printed; in the last a
-//! file with one of two long branches takes in the other.
+//! Events at neighbouring positions move in one go where they inserted the characters of one run, or deleted characters of one run
+//! one after another, forwards or backwards. Any other event moves alone. Where all applied events are taken out of what is prepared
+//! at once, one way over the runs does it.
 //!
-//! | two authors apart | two at one place | ten authors | forty authors | two branches |
-//! |---|---|---|---|---|
-//! | 0.0 | -0.1 | 0.7 | 0.7 | 5.0 |
+//! What two of these buy: how many percent more instructions a run makes without each of them, for histories of 10,000 events. In the
+//! first four columns every event's change is printed; in the last a file with one of two long branches takes in the other.
 //!
-//! With 100,000 events in two branches it is 6.2.
+//! | Without | two authors apart | two at one place | ten authors | forty authors | two branches |
+//! |---|---|---|---|---|---|
+//! | deletions in one go | 1.2 | 5.7 | 10.5 | 11.0 | 0.0 |
+//! | one way over all runs | 0.0 | -0.1 | 0.3 | 0.2 | 1.9 |
 #![tactic(auto)]
 
 mod fault;

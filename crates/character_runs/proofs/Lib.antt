@@ -25,6 +25,7 @@ pub mod KnownChanges
 pub mod KnownNodes
 pub mod KnownRuns
 pub mod Lasts
+pub mod Late
 pub mod Lists
 pub mod LooseCuts
 pub mod LooseEnds

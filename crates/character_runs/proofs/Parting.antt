@@ -1,5 +1,5 @@
 -- Characters that begin and end runs.
-use Rattle.std.proofs.Common.{◌≡◌, ℕ, zero, suc, ◌+◌, ◌<◌, ◌≤◌, Bool, true, false, nat_lt, List, Some, Result, Ok, Err, OnOk, Contains, refl, sym, ap, ◌∙◌, subst, arith}
+use Rattle.std.proofs.Common.{◌≡◌, ℕ, zero, suc, ◌+◌, ◌<◌, ◌≤◌, Bool, true, false, nat_lt, List, Some, Contains, refl, sym, ap, ◌∙◌, subst, arith}
 use Rattle.ew_model.specs.declared.node.Node.{Node}
 use Rattle.walker_record.specs.Stretches.{Stretch, node_on}
 use Rattle.order_tree.specs.Pairs.{IsRising, runs}
@@ -10,10 +10,6 @@ use Rattle.character_runs.proofs.PartedRuns.{same_run}
 use Rattle.character_runs.proofs.Places.{one_label, on_on, same_steps}
 use Rattle.character_runs.proofs.RunChars.{node_on_none}
 use Rattle.character_runs.proofs.RunsAt.{stands_too}
-
-pub on_ok : {T E : Type 0} (r : Result T E) (P : Type 0) → P → OnOk r P
-on_ok (Ok x) P p = p
-on_ok (Err e) P p = tt
 
 module _ (ps : List (ℕ × Stretch)) (t : Labels) (laid : AreLabelled ps t) where
   has_label : (v : Node) (own : ℕ) → Stands ps own 0 v → label_of t v ≡ Some own

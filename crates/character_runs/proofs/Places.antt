@@ -1,8 +1,9 @@
 -- Each character stands at one place.
-use Rattle.std.proofs.Common.{◌≡◌, ℕ, ◌+◌, ◌-◌, ◌≤◌, ◌⊎◌, Bool, true, false, List, Some, nat_le, refl, sym, ap, ◌∙◌, arith, inl, inr}
+use Rattle.std.proofs.Common.{◌≡◌, ℕ, ◌+◌, ◌-◌, ◌≤◌, ◌<◌, ◌⊎◌, Bool, true, false, List, Some, None, nat_le, refl, sym, ap, ◌∙◌, arith, inl, inr}
 use Rattle.std.proofs.lemmas.Bool.{leb-true}
 use Rattle.ew_model.specs.declared.node.Node.{Node}
 use Rattle.ew_model.specs.declared.node.Node.TheVariants.{Root, Base, Event}
+use Rattle.ew_model.proofs.Outcomes.{none_by}
 use Rattle.walker_record.specs.Stretches.{Stretch, node_on}
 use Rattle.character_runs.specs.declared.labels.Labels.{Labels}
 use Rattle.character_runs.specs.Labelled.{label_of}
@@ -86,6 +87,10 @@ module _ (ps : List (ℕ × Stretch)) (t : Labels) (laid : AreLabelled ps t) whe
           some_same label own (sym first ∙ ap (label_of t) (sym same) ∙ other)
 
 -- what is labelled stays so by equal labels
+-- a node behind the first of a run has no label
+pub unlabelled : (ps : List (ℕ × Stretch)) (t : Labels) (label n : ℕ) (v : Node) → AreLabelled ps t → Stands ps label n v → 0 < n → label_of t v ≡ None
+unlabelled ps t label n v laid s some = none_by (label_of t v) (λ l e. let z = laid.apart v l label n e s in omega (arith, z, some))
+
 pub laid_same : (ps : List (ℕ × Stretch)) (t u : Labels) → ((v : Node) → label_of u v ≡ label_of t v) → AreLabelled ps t → AreLabelled ps u
 laid_same ps t u same laid = record {
   known = λ label r held some. same r.from ∙ laid.known label r held some;

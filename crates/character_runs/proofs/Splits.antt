@@ -18,7 +18,7 @@ use Rattle.character_runs.proofs.PartedRuns.{Parted, parted, same_run}
 use Rattle.character_runs.proofs.CutPairs.{cut_is, moves_cut}
 use Rattle.character_runs.proofs.CutRuns.{cut_laid, cut_begins, alike, set_own, set_other, run_is}
 use Rattle.character_runs.proofs.CutChars.{cut_chars}
-use Rattle.ew_model.proofs.Outcomes.{none_by}
+use Rattle.character_runs.proofs.Places.{unlabelled}
 
 pub runs-append : (xs ys : List (ℕ × Stretch)) → runs (xs ++ ys) ≡ runs xs ++ runs ys
 runs-append [] ys = refl
@@ -121,18 +121,17 @@ module _ (G : Ghosts Stretch) (chars : (s : Stretch) → G.chars s ≡ chars_of 
       cut_begins ps qs t u label own n v run laid rising s.held some s.inside s.node
       (moves_cut ps label run qs own (first_part run n) (second_part run n) rising s.held parts) sets short
 
--- a label that was given to a node inside a run, and taken away
-module _ (ps : List (ℕ × Stretch)) (t m u : Labels) (label own n : ℕ) (v : Node) (laid : AreLabelled ps t) (s : Stands ps label n v) (some : 0 < n)
-    (one : Sets t m v (Some own)) (two : Sets m u v None) where
-  pub taken_same : (w : Node) → label_of u w ≡ label_of t w
-  taken_same w = by (alike v w)
-    where
-      sets : Sets t u v None
-      sets = sets_twice t m u v (Some own) None one two
+-- a label that was given to a node that had none, and taken away
+pub taken_bare : (t m u : Labels) (v : Node) (own : ℕ) → label_of t v ≡ None → Sets t m v (Some own) → Sets m u v None → (w : Node) → label_of u w ≡ label_of t w
+taken_bare t m u v own bare one two w = by (alike v w)
+  where
+    sets : Sets t u v None
+    sets = sets_twice t m u v (Some own) None one two
 
-      bare : label_of t v ≡ None
-      bare = none_by (label_of t v) (λ l e. let z = laid.apart v l label n e s in omega (arith, z, some))
+    by : (v ≡ w) ⊎ (node_eq v w ≡ false) → label_of u w ≡ label_of t w
+    by (inl e) = ap (label_of u) (sym e) ∙ set_own t u v None sets ∙ sym bare ∙ ap (label_of t) e
+    by (inr e) = set_other t u v None sets w e
 
-      by : (v ≡ w) ⊎ (node_eq v w ≡ false) → label_of u w ≡ label_of t w
-      by (inl e) = ap (label_of u) (sym e) ∙ set_own t u v None sets ∙ sym bare ∙ ap (label_of t) e
-      by (inr e) = set_other t u v None sets w e
+-- the node stands inside a run
+pub taken_same : (ps : List (ℕ × Stretch)) (t m u : Labels) (label own n : ℕ) (v : Node) → AreLabelled ps t → Stands ps label n v → 0 < n → Sets t m v (Some own) → Sets m u v None → (w : Node) → label_of u w ≡ label_of t w
+taken_same ps t m u label own n v laid s some = taken_bare t m u v own (unlabelled ps t label n v laid s some)

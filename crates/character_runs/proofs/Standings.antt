@@ -5,7 +5,8 @@ use Rattle.ew_model.specs.declared.node.Node.{Node}
 use Rattle.ew_model.specs.declared.node.Node.TheVariants.{Root, Base, Event}
 use Rattle.walker_record.specs.Stretches.{Stretch, node_on}
 use Rattle.character_runs.specs.declared.labels.Labels.{Labels}
-use Rattle.character_runs.specs.Labelled.{label_of, is_up_to, IsLast}
+use Rattle.character_runs.specs.Kept.{is_up_to}
+use Rattle.character_runs.specs.Labelled.{label_of, IsLast}
 use Rattle.character_runs.specs.Laid.{Stands, AreLabelled, IsOffset}
 use Rattle.order_tree.specs.Pairs.{IsRising}
 use Rattle.character_runs.proofs.PartedRuns.{same_run}

@@ -14,7 +14,7 @@ use Rattle.character_runs.specs.declared.cursor.Struck.{Struck}
 use Rattle.character_runs.specs.declared.labels.Labels.{Labels}
 use Rattle.character_runs.specs.Cursors.{StandsBehind, IsCursor, GaveEnd, last_of, shorter, struck_with, struck_long, with_end}
 use Rattle.character_runs.specs.States.{changed_at, changed as after_change}
-use Rattle.character_runs.specs.Labelled.{GoesOver}
+use Rattle.character_runs.specs.Labelled.{label_of, GoesOver}
 use Rattle.character_runs.specs.Laid.{Stands, AreLabelled, record_of, records_of, chars_in}
 use Rattle.character_runs.proofs.Moves.{is_first, is_second}
 use Rattle.character_runs.proofs.PartedRuns.{Parted, parted}
@@ -23,7 +23,7 @@ use Rattle.character_runs.proofs.ChangedRuns.{changed_laid}
 use Rattle.character_runs.proofs.CutPairs.{cut_is}
 use Rattle.character_runs.proofs.KnownRuns.{held_label}
 use Rattle.character_runs.proofs.AlteredChars.{same_long}
-use Rattle.character_runs.proofs.Places.{one_label, not_root_on, on_on, same_steps}
+use Rattle.character_runs.proofs.Places.{one_label, not_root_on, on_on, same_steps, unlabelled}
 use Rattle.character_runs.proofs.CutChars.{parts_records}
 use Rattle.character_runs.proofs.CharPlaces.{none_in, none_of}
 use Rattle.character_runs.proofs.Replaced.{none_changed}
@@ -278,6 +278,11 @@ module _ (ps : List (ℕ × Stretch)) (t : Labels) (c : Cursor) (s : Struck) (v 
 
   pub shifted_root : v ≡ Root → ⊥
   shifted_root e = not_root_on c.run.from (c.run.len - 1) (laid.rooted c.label c.run cursor.held) (sym node ∙ e)
+
+  pub shifted_bare : label_of t v ≡ None
+  shifted_bare =
+      subst (λ (w : Node). label_of t w ≡ None) (sym node)
+      (unlabelled ps t c.label (c.run.len - 1) (last_of c.run) laid (record { run = c.run; held = cursor.held; inside = omega (arith, long); node = refl }) (omega (arith, long)))
 
   -- the same where the runs aren't told of the cursor's own, nor of those behind it
   module _ (ts : List (ℕ × Stretch)) (is : ps ≡ with_end ts c.label c.run (Some s)) where

@@ -1,5 +1,5 @@
 -- A run whose first character is deleted, and goes over to the deleted ones ahead of it.
-use Rattle.std.proofs.Common.{◌≡◌, ℕ, suc, ◌+◌, ◌-◌, ◌<◌, ◌≤◌, Bool, true, false, ◌&&◌, List, [], ◌∷◌, ◌++◌, length, map, Contains, nat_lt, if◌then◌else◌, sym, ap, ◌∙◌, subst, arith, append_assoc, append-nil}
+use Rattle.std.proofs.Common.{◌≡◌, ℕ, suc, ◌+◌, ◌-◌, ◌<◌, ◌≤◌, Bool, true, false, ◌&&◌, List, [], ◌∷◌, ◌++◌, length, map, Contains, nat_lt, None, if◌then◌else◌, refl, sym, ap, ◌∙◌, subst, arith, append_assoc, append-nil}
 use Rattle.std.proofs.lemmas.Bool.{lt-ltb}
 use Rattle.std.proofs.lemmas.List.{length-map, map-append}
 use Rattle.std.proofs.lemmas.List.Elements.{All-contains, Contains-append_left, Contains-append_right}
@@ -14,7 +14,7 @@ use Rattle.character_runs.specs.declared.cursor.Struck.{Struck}
 use Rattle.character_runs.specs.declared.labels.Labels.{Labels}
 use Rattle.character_runs.specs.Cursors.{StandsAhead, struck_with}
 use Rattle.character_runs.specs.States.{is_inserted, is_visible, knows, changed_at, changed as after_change}
-use Rattle.character_runs.specs.Labelled.{GoesOver}
+use Rattle.character_runs.specs.Labelled.{label_of, GoesOver}
 use Rattle.character_runs.specs.Laid.{Stands, AreLabelled, record_of, records_of, chars_in}
 use Rattle.character_runs.specs.Loose.{begins_in, ends_in, loose_behind, loose_in}
 use Rattle.character_runs.specs.Replacing.{Replaces, Recounted}
@@ -27,7 +27,7 @@ use Rattle.character_runs.proofs.KnownRuns.{held_label}
 use Rattle.character_runs.proofs.KnownNodes.{known_there}
 use Rattle.character_runs.proofs.AlteredChars.{altered_long, long_total}
 use Rattle.character_runs.proofs.GivenEnds.{two_total}
-use Rattle.character_runs.proofs.Places.{one_label, not_root_on, on_on, same_steps}
+use Rattle.character_runs.proofs.Places.{one_label, not_root_on, on_on, same_steps, unlabelled}
 use Rattle.character_runs.proofs.CutChars.{parts_records}
 use Rattle.character_runs.proofs.CharPlaces.{none_in, none_of}
 use Rattle.character_runs.proofs.Replaced.{none_changed, count_replaced, count_there}
@@ -102,6 +102,9 @@ module _ (ps : List (ℕ × Stretch)) (t : Labels) (label : ℕ) (run : Stretch)
   -- THE LABELS
   pub firsts_root : node_on v 1 ≡ Root → ⊥
   firsts_root e = not_root_on v 1 (laid.rooted label run held) e
+
+  pub firsts_bare : label_of t (node_on v 1) ≡ None
+  firsts_bare = unlabelled ps t label 1 (node_on v 1) laid (record { run = run; held = held; inside = long; node = refl }) (omega arith)
 
   pub firsts_labelled : (u : Labels) → GoesOver t u v (node_on v 1) label → AreLabelled qs u
   firsts_labelled u goes = firsts_laid ps t u label s.label run s.run laid rising held struck_held apart long ahead.some on.from goes

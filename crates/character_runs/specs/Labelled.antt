@@ -1,27 +1,13 @@
 -- Nodes with labels.
-use Rattle.std.specs.Prelude.{◌≡◌, ℕ, ◌≤◌, Option, Some, None, IsSome, nat_le, Bool, true, false, if◌then◌else◌}
-use Rattle.std.specs.Ordering.{nat_cmp}
-use Rattle.std.specs.BTreeMap.{get}
+use Rattle.std.specs.Prelude.{◌≡◌, ℕ, Option, Some, None, IsSome, true, if◌then◌else◌}
 use Rattle.ew_model.specs.declared.node.Node.{Node}
-use Rattle.ew_model.specs.declared.node.Node.TheVariants.{Root, Base, Event}
 use Rattle.fugue_place.specs.Attachments.{node_eq}
+use Rattle.character_runs.specs.Kept.{kept_label, label_by, is_up_to}
 use Rattle.character_runs.specs.declared.labels.Labels.{Labels}
 
 -- the label of a node
 abbrev pub label_of : Labels → Node → Option ℕ
-label_of t Root = None
-label_of t (Base i) = get nat_cmp t.base i
-label_of t (Event i) = get nat_cmp t.events i
-
--- the first node is one of those up to the second: both of the base or both of events
-abbrev pub is_up_to : Node → Node → Bool
-is_up_to Root v = false
-is_up_to (Base i) Root = false
-is_up_to (Base i) (Base j) = nat_le i j
-is_up_to (Base i) (Event j) = false
-is_up_to (Event i) Root = false
-is_up_to (Event i) (Base j) = false
-is_up_to (Event i) (Event j) = nat_le i j
+label_of t = label_by t.late (kept_label t.kept)
 
 -- the label is that of the last node up to this one
 pub record IsLast (t : Labels) (v : Node) (label : ℕ) : Type 0 where
@@ -37,10 +23,3 @@ Sets old new v label = (w : Node) → label_of new w ≡ (if node_eq v w then la
 -- the label of each node after the first of these two was left without one, whether it had one or not, and the second got this one, whatever the first had had
 abbrev pub GoesOver : Labels → Labels → Node → Node → ℕ → Type 0
 GoesOver old new from to label = (w : Node) → label_of new w ≡ (if node_eq from w then None else (if node_eq to w then Some label else label_of old w))
-
--- the label is that of the last number up to this one that has one
-pub record IsLastIn (kept : ℕ → Option ℕ) (n label : ℕ) : Type 0 where
-  pub number : ℕ
-  pub before : number ≤ n
-  pub has : kept number ≡ Some label
-  pub last : (k : ℕ) → k ≤ n → IsSome (kept k) → k ≤ number

@@ -1,6 +1,7 @@
 pub mod Cursors
 pub mod Entering
 pub mod EventPositions
+pub mod Kept
 pub mod Labelled
 pub mod Laid
 pub mod Loose

@@ -83,11 +83,12 @@ impl Child {
         ensures sets { OnOk result (Sets labels.old labels.new (nodes.Event self.now.position) (Some label)) }
         ensures same { OnErr result ((v : Nodes) → label_of labels.new v ≡ label_of labels.old v) }
     {
-        labels.insert(self.node(), label)?;
+        let node = self.node();
+        labels.insert(node, label)?;
         match self.attach(siblings) {
             Ok(()) => Ok(()),
             Err(e) => {
-                labels.remove(self.node());
+                labels.remove(node);
                 Err(e)
             }
         }

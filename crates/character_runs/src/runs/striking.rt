@@ -126,9 +126,10 @@ fn struck_first(run: &Record) -> Record
     }
 }
 
-/// Gives the first node of a run this label, and takes that of another run's away.
+/// Gives the first node of a run, which has no label, this one, and takes that of another run's away.
 fn shift_label(labels: &mut Labels, from: &Record, to: &Record, label: u64) -> Result<(), NoMem>
-    requires { to.now.from ≡ nodes.Root → ⊥ }
+    requires some { to.now.from ≡ nodes.Root → ⊥ }
+    requires bare { label_of labels.old to.now.from ≡ None }
     ensures ok { OnOk result (GoesOver labels.old labels.new from.now.from to.now.from label) }
     ensures err { OnErr result ((v : Nodes) → label_of labels.new v ≡ label_of labels.old v) }
 {

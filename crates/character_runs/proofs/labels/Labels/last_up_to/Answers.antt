@@ -1,13 +1,11 @@
-use Rattle.std.proofs.Common.{IfSome, sym, subst}
-use Rattle.ew_model.specs.declared.node.Node.{Node}
-use Rattle.character_runs.specs.Labelled.{IsLast}
-use Rattle.character_runs.proofs.Lasts.{some_base, some_event}
+use Rattle.std.proofs.Common.{Option, subst}
+use Rattle.character_runs.specs.declared.kept.Tag.{Tag}
+use Rattle.character_runs.specs.Kept.{kept_label, AreLastOf}
+use Rattle.character_runs.specs.Labelled.{label_of}
 use Rattle.character_runs.proofs.labels.Labels.last_up_to.Goals as goal
 
-pub returns-in-Base-clause-some : goal.returns-in-Base-clause-some
-returns-in-Base-clause-some c =
-    subst (λ (v : Node). IfSome c.last_in.result (IsLast c.args.self.now v)) (sym c.in-Base.is) (some_base c.args.self.now c.in-Base.i c.last_in.result c.last_in.ensures.some)
-
-pub returns-in-Event-clause-some : goal.returns-in-Event-clause-some
-returns-in-Event-clause-some c =
-    subst (λ (v : Node). IfSome c.last_in-in-Event.result (IsLast c.args.self.now v)) (sym c.in-Event.is) (some_event c.args.self.now c.in-Event.i c.last_in-in-Event.result c.last_in-in-Event.ensures.some)
+pub returns-in-Some-clause-some : goal.returns-in-Some-clause-some
+returns-in-Some-clause-some c =
+    let all = c.later.ensures (kept_label c.args.self.now.kept) c.last_up_to-kept.ensures c.args.self.now.apart in
+    let last = subst (λ (o : Option Tag). AreLastOf (label_of c.args.self.now) c.args.node o) c.in-Some.is all in
+    record { node = c.in-Some.last.node; before = last.before; has = last.here; last = last.last }

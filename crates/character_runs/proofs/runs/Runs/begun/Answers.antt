@@ -1,9 +1,13 @@
 use Rattle.std.proofs.Common.{◌≡◌, ℕ, [], ◌∷◌, List, ap, ◌∙◌, subst, sym}
+use Rattle.ew_model.specs.declared.node.Node.TheVariants.{Base}
 use Rattle.walker_record.specs.Stretches.{Stretch}
 use Rattle.order_tree.specs.Pairs.{inserted}
 use Rattle.character_runs.specs.Laid.{AreLabelled, chars_in}
 use Rattle.character_runs.proofs.BaseRuns.{base_run, run_chars, one_run, not_root}
 use Rattle.character_runs.proofs.runs.Runs.begun.Goals as goal
+
+pub insert-requires-clause-bare : goal.insert-requires-clause-bare
+insert-requires-clause-bare g c = c.requires.unlabelled (Base 0)
 
 pub returns-clause-laid : goal.returns-clause-laid
 returns-clause-laid g c =

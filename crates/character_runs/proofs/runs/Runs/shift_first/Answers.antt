@@ -4,17 +4,23 @@ use Rattle.walker_record.specs.Stretches.{Stretch, node_on, joined_of, first_par
 use Rattle.order_tree.specs.Pairs.{labels, changed, runs, IsRising}
 use Rattle.character_runs.specs.Cursors.{struck_with}
 use Rattle.character_runs.specs.States.{is_inserted, knows}
-use Rattle.character_runs.specs.Labelled.{GoesOver}
+use Rattle.character_runs.specs.Labelled.{label_of, GoesOver}
 use Rattle.character_runs.specs.Laid.{AreLabelled, chars_in}
 use Rattle.character_runs.specs.Loose.{loose_in}
 use Rattle.character_runs.specs.Replacing.{Replaces, Recounted}
 use Rattle.character_runs.proofs.AlteredChars.{sums_fit}
 use Rattle.character_runs.proofs.Places.{laid_same}
-use Rattle.character_runs.proofs.StruckFirsts.{firsts_root, firsts_labelled, firsts_held, firsts_ahead, mid_long, firsts_replaced, firsts_chars, firsts_long, firsts_recounted, firsts_was, firsts_is, firsts_loose, firsts_told}
+use Rattle.character_runs.proofs.StruckFirsts.{firsts_root, firsts_bare, firsts_labelled, firsts_held, firsts_ahead, mid_long, firsts_replaced, firsts_chars, firsts_long, firsts_recounted, firsts_was, firsts_is, firsts_loose, firsts_told}
 use Rattle.character_runs.proofs.runs.Runs.shift_first.Goals as goal
 
-pub shift_label-requires : goal.shift_label-requires
-shift_label-requires g c =
+pub shift_label-requires-clause-bare : goal.shift_label-requires-clause-bare
+shift_label-requires-clause-bare g c =
+    let rest_is : c.split-first.result.1.from ≡ node_on c.args.found.run.from 1 = ap (λ (r : Stretch). r.from) c.split-first.ensures.second in
+    ap (label_of c.args.self.now.labels) rest_is
+    ∙ firsts_bare c.args.self.now.tree.pairs c.args.self.now.labels c.args.found.label c.args.found.run c.args.struck c.requires.laid c.facts.ensures.rising c.requires.ahead
+
+pub shift_label-requires-clause-some : goal.shift_label-requires-clause-some
+shift_label-requires-clause-some g c =
     let rest_is : c.split-first.result.1.from ≡ node_on c.args.found.run.from 1 = ap (λ (r : Stretch). r.from) c.split-first.ensures.second in
     λ e. firsts_root c.args.self.now.tree.pairs c.args.self.now.labels c.args.found.label c.args.found.run c.args.struck c.requires.laid c.facts.ensures.rising c.requires.ahead (sym rest_is ∙ e)
 

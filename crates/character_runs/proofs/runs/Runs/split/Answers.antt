@@ -4,12 +4,16 @@ use Rattle.order_tree.specs.Pairs.{Tree, runs, lower, greater}
 use Rattle.character_runs.specs.Laid.{AreLabelled, BeginsRun}
 use Rattle.walker_record.specs.StretchLaws.{length-chars_of}
 use Rattle.character_runs.proofs.PartedRuns.{same_run}
-use Rattle.character_runs.proofs.Places.{not_root_on, laid_same}
+use Rattle.character_runs.proofs.Places.{not_root_on, laid_same, unlabelled}
 use Rattle.character_runs.proofs.Splits.{split_laid, split_chars, split_first, split_begins, taken_same, split_cut, parts}
 use Rattle.character_runs.proofs.runs.Runs.split.Goals as goal
 
-pub insert-requires : goal.insert-requires
-insert-requires g c e =
+pub insert-requires-clause-bare : goal.insert-requires-clause-bare
+insert-requires-clause-bare g c =
+    unlabelled c.args.self.now.tree.pairs c.args.self.now.labels c.args.spot.label c.args.spot.offset c.args.node c.requires.laid c.requires.stands c.requires.inside
+
+pub insert-requires-clause-some : goal.insert-requires-clause-some
+insert-requires-clause-some g c e =
     let s = c.requires.stands in
     not_root_on s.run.from c.args.spot.offset (c.requires.laid.rooted c.args.spot.label s.run s.held) (s.node ∙ e)
 
