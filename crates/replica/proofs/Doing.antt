@@ -13,8 +13,8 @@ use Rattle.ew_model.specs.Operations.{changed_by, changed_by_all}
 use Rattle.ew_model.specs.TextLaws.{own_change, Fits, AllFit}
 use Rattle.ew_model.specs.Texts.{text_of}
 use Rattle.ew_model.specs.Verdicts.{IsGood, is_outside}
-use Rattle.ew_model.proofs.EditEvents.{FewHeads, MayDo, inside, ops_done}
-use Rattle.ew_model.proofs.EditLaws.{ops_long}
+use Rattle.ew_model.proofs.EditEvents.{MayDo, inside, ops_done}
+use Rattle.ew_model.proofs.EditLaws.{ops_long, few_by}
 use Rattle.replica.specs.declared.fault.EditFault.{EditFault}
 use Rattle.replica.specs.declared.fault.EditFault.TheVariants as fault
 use Rattle.replica.specs.Answers.{refusal_of}
@@ -89,10 +89,6 @@ none_to_make false true d x y h = let no : ⊥ = cc in absurd no
 none_to_make false false true x y h = let no : ⊥ = cc in absurd no
 none_to_make false false false x y h = inr (refl, refl)
 
-few_heads : (held : List Event) (ops : List Op) → (length ops ≡ 0) ⊎ (length (heads held) ≤ 16) → FewHeads held ops
-few_heads held [] h = tt
-few_heads held (o ∷ ops) h = ⊎_elim (λ e. absurd (omega (arith, e))) (λ few. few) h
-
 -- operations that aren't refused may be done, and there is room for their events
 pub record AreAllowed (limits : LimitNumbers) (held : List Event) (ops : List Op) : Type 0 where
   pub may : MayDo held ops
@@ -106,7 +102,7 @@ are_allowed limits held ops good none =
     record {
       may = record {
         good = good;
-        few = few_heads held ops (⊎_elim (λ e. inl (eqb-true size 0 e)) (λ k. inr (ltb-false 16 (length (heads held)) k.0)) to_make);
+        few = few_by held ops (⊎_elim (λ e. inl (eqb-true size 0 e)) (λ k. inr (ltb-false 16 (length (heads held)) k.0)) to_make);
         fit = all_fit (text_of held) ops parts.0;
       };
       room = λ few. ⊎_elim (λ e. let none_made = eqb-true size 0 e in omega (arith, none_made, few)) (λ k. ltb-false limits.events (length held + size) k.1) to_make;

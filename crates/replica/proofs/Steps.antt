@@ -4,7 +4,7 @@ use Rattle.std.proofs.lemmas.List.{drop_more}
 use Rattle.ew_model.specs.declared.id.Id.{Id}
 use Rattle.ew_model.specs.declared.event.Event.{Event}
 use Rattle.ew_model.specs.declared.verdict.Refusal.{Refusal}
-use Rattle.ew_model.specs.Arrival.{Desk, Answer, Judgement, is_ready, without_ready, at_the_pool, judgement_of, judge_coming, judge_ready, next_judgement}
+use Rattle.ew_model.specs.Arrival.{Desk, Answer, Judgement, is_ready, without_ready, judgement_of, judge_coming, judge_ready, next_judgement}
 use Rattle.ew_model.specs.Limits.{LimitNumbers}
 use Rattle.ew_model.specs.Verdicts.{Ruling, first_row, later_rows, verdict}
 use Rattle.ew_model.specs.Verdicts.Ruling.{Repeat, Clash, SelfParent, TooManyParents, ParentsUnsorted, Unknown, PoolFull, NotReduced, Skipped, GraphFull, OutOfRange, Good}

@@ -56,7 +56,10 @@ fn settle(graph: &mut Graph, pool: &mut Pool, e: &Event, answer: Answer) -> Resu
 {
     match answer {
         Answer::Held => graph.admit(e)?,
-        Answer::Waits => return wait(pool, e),
+        Answer::Waits => {
+            pool.catch_up(graph);
+            return wait(pool, e);
+        }
         Answer::Repeat | Answer::Refused(_) => {}
     }
     Ok(answer)

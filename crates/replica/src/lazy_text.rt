@@ -1,13 +1,14 @@
 //! A text that is made when it is asked for.
 
-ghost use Rattle.std.specs.Prelude.{◌≡◌, [], ◌++◌, length, None, Some, IfSome, IfOk, OnOk, OnErr, encode_utf8_all};
+ghost use Rattle.std.specs.Prelude.{◌≡◌, [], ◌++◌, drop, length, take, None, Some, IfSome, IfOk, OnOk, OnErr, encode_utf8_all};
 ghost use Rattle.ew_model.specs.Operations.{changed_by_all};
 ghost use Rattle.ew_model.specs.TextLaws.{AllFit};
+ghost use Rattle.rope.specs.Extents.{extent, IsIndexBehind};
 ghost use Rattle.rope.specs.Lengths.{AllStayShort};
 
 use ew_model::NoMem;
 use ew_model::text_op::TextOp;
-use rope::Rope;
+use rope::{Measure, Rope};
 use std::alloc::Global;
 use std::marker::Model;
 
@@ -134,6 +135,51 @@ impl LazyText {
                 *len = after;
                 *grown = true;
                 Ok(())
+            }
+        }
+    }
+
+    /// How much of a measure the characters below an index take, or all where there are fewer. Memory is needed only where the text isn't
+    /// made yet.
+    pub fn extent_before(&self, alloc: Global, measure: Measure, at: u32) -> Result<u64, NoMem>
+        ensures { IfOk result (λ much. much ≡ extent measure (take at self.now.characters)) }
+    {
+        match &self.form {
+            Form::Made(rope) => Ok(rope.extent_before(measure, at)),
+            Form::Told { ops, .. } => {
+                let rope = made(alloc, ops)?;
+                Ok(rope.extent_before(measure, at))
+            }
+        }
+    }
+
+    /// The index before which the characters take just so much of a measure. Memory is needed only where the text isn't made yet.
+    pub fn index_behind(
+        &self,
+        alloc: Global,
+        measure: Measure,
+        much: u64,
+    ) -> Result<Option<u32>, NoMem>
+        ensures { IfOk result (λ at. IsIndexBehind measure self.now.characters much at) }
+    {
+        match &self.form {
+            Form::Made(rope) => Ok(rope.index_behind(measure, much)),
+            Form::Told { ops, .. } => {
+                let rope = made(alloc, ops)?;
+                Ok(rope.index_behind(measure, much))
+            }
+        }
+    }
+
+    /// Writes so many characters from an index on, or as many as there are, behind the bytes, in UTF-8.
+    pub fn write_range(&self, from: u32, n: u32, to: &mut Vec<u8>) -> Result<(), NoMem>
+        ensures { OnOk result (to.new.items ≡ to.old.items ++ encode_utf8_all (take n (drop from self.now.characters))) }
+    {
+        match &self.form {
+            Form::Made(rope) => rope.write_range(from, n, to),
+            Form::Told { ops, .. } => {
+                let rope = made(*to.allocator(), ops)?;
+                rope.write_range(from, n, to)
             }
         }
     }

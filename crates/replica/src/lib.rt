@@ -28,5 +28,6 @@ mod took;
 
 pub use fault::{EditFault, LoadFault, VersionFault};
 pub use loading::Loading;
+pub use rope::Measure;
 pub use state::Replica;
 pub use took::{Stopped, Took};

@@ -23,6 +23,7 @@ ghost use Rattle.ew_model.specs.TouchLaws.{NoneOutOfRange};
 ghost use Rattle.ew_model.specs.Touches.{touches};
 ghost use Rattle.ew_model.specs.Verdicts.{first_bad, first_unknown};
 ghost use Rattle.event_graph.specs.Subgraphs.{events_at};
+ghost use Rattle.rope.specs.Extents.{extent, IsIndexBehind};
 ghost use Rattle.replica.specs.Answers.{EditsBy, Loads, refusal_of};
 ghost use Rattle.replica.specs.Appending.{CanAppend, chain_from};
 ghost use Rattle.replica.specs.Desks.{desk_of_replica, IsBegun};
@@ -62,6 +63,7 @@ use ew_model::limits::{Limits, MOST_PARENTS};
 use ew_model::name::Name;
 use ew_model::steps::Steps;
 use ew_model::text_op::TextOp;
+use rope::Measure;
 use std::alloc::Global;
 use std::marker::Model;
 use std::sync::ledger::Ledger;
@@ -322,6 +324,31 @@ impl Replica {
         let mut bytes = Vec::new(self.alloc);
         self.text.write_to(&mut bytes)?;
         Ok(bytes)
+    }
+
+    /// So many characters of the text from an index on, or as many as there are, in UTF-8.
+    pub fn text_range(&self, from: u32, n: u32) -> Result<Vec<u8>, NoMem>
+        ensures { IfOk result (λ v. v.items ≡ encode_utf8_all (take n (drop from (text_of self.now.held)))) }
+    {
+        let mut bytes = Vec::new(self.alloc);
+        self.text.write_range(from, n, &mut bytes)?;
+        Ok(bytes)
+    }
+
+    /// How many code units of UTF-16, or bytes of UTF-8, the characters below an index take; all of them where there are fewer. Memory is
+    /// needed only where the text isn't made yet.
+    pub fn extent_before(&self, measure: Measure, at: u32) -> Result<u64, NoMem>
+        ensures { IfOk result (λ much. much ≡ extent measure (take at (text_of self.now.held))) }
+    {
+        self.text.extent_before(self.alloc, measure, at)
+    }
+
+    /// The index before which the characters take just so many code units of UTF-16, or bytes of UTF-8. There is none within a
+    /// character, nor behind the end. Memory is needed only where the text isn't made yet.
+    pub fn index_behind(&self, measure: Measure, much: u64) -> Result<Option<u32>, NoMem>
+        ensures { IfOk result (λ at. IsIndexBehind measure (text_of self.now.held) much at) }
+    {
+        self.text.index_behind(self.alloc, measure, much)
     }
 
     /// The text of a version, in UTF-8, or the first of its ids, in the order given, that isn't held. The steps taken are at

@@ -1,15 +1,18 @@
 -- Lists of branches: their characters, and one of them changed.
-use Rattle.std.proofs.Common.{◌≡◌, ℕ, zero, suc, ◌+◌, ◌-◌, ◌*◌, ◌^◌, ◌<◌, ◌≤◌, List, [], ◌∷◌, ◌++◌, length, take, drop, insert, remove, slice_set, slice_index_or, slice_get, Option, Some, None, arith, refl, sym, ap, ◌∙◌, subst, append_assoc, append-nil, length-append, take-append-drop, length-take-le, take_at, drop_at}
+use Rattle.std.proofs.Common.{◌≡◌, ℕ, zero, suc, ◌+◌, ◌-◌, ◌*◌, ◌^◌, ◌<◌, ◌≤◌, List, [], ◌∷◌, ◌++◌, length, take, drop, insert, remove, slice_set, slice_index_or, slice_get, Option, Some, None, is_some, false, arith, refl, sym, ap, ◌∙◌, subst, append_assoc, append-nil, length-append, take-append-drop, length-take-le, take_at, drop_at}
+use Rattle.std.proofs.lemmas.Bool.{false≢true}
 use Rattle.std.proofs.lemmas.List.{take_more}
 use Rattle.std.proofs.lemmas.List.Concat.{flat_map-append}
 use Rattle.std.proofs.lemmas.List.Sums.{sum_by-cons, sum_by-append}
 use Rattle.std.proofs.Math.Nat.{pow-succ'}
+use Rattle.rope.specs.Counts.{wide_chars, utf8_bytes}
 use Rattle.rope.specs.Nodes.{Seen, all_chars, all_leaves}
 use Rattle.rope.specs.Shape.{IsSound, AllBelow, least}
 use Rattle.rope.specs.Rights.{chars_of_right, IsLike, with_right}
 use Rattle.rope.specs.Typed.{with_more}
 use Rattle.rope.specs.Deletions.{without}
 use Rattle.rope.proofs.DeletionRuns.{without_inside}
+use Rattle.rope.proofs.ExtentLaws.{wide-append, bytes-append}
 use Rattle.rope.proofs.TypedRuns.{more_inside}
 
 -- it, as a list of branches
@@ -286,3 +289,52 @@ pub get_put : (ks : List Seen) (k : ℕ) (w e : Seen) → k < length ks → slic
 get_put [] k w e lt = absurd (omega arith)
 get_put (x ∷ xs) zero w e lt = refl
 get_put (x ∷ xs) (suc k) w e lt = get_put xs k w e (omega arith)
+
+-- two readings of one place
+pub same_item : (ks : List Seen) (k : ℕ) (a b : Seen) → k < length ks → a ≡ slice_index_or ks k a → b ≡ slice_index_or ks k b → a ≡ b
+same_item [] k a b lt isa isb = absurd (omega (arith, lt))
+same_item (x ∷ xs) zero a b lt isa isb = isa ∙ sym isb
+same_item (x ∷ xs) (suc k) a b lt isa isb = same_item xs k a b (omega (arith, lt)) isa isb
+
+-- the leaves of all, where another branch stands at k
+pub leaves_put : (ks : List Seen) (k : ℕ) (v w : Seen) → k < length ks → v ≡ slice_index_or ks k v → all_leaves (slice_set ks k w) + v.leaves ≡ all_leaves ks + w.leaves
+leaves_put [] k v w lt is = absurd (omega (arith, lt))
+leaves_put (x ∷ xs) zero v w lt is = omega (arith, leaves-cons w xs, leaves-cons x xs, ap (λ (t : Seen). t.leaves) is)
+leaves_put (x ∷ xs) (suc k) v w lt is = omega (arith, leaves_put xs k v w (omega (arith, lt)) is, leaves-cons x (slice_set xs k w), leaves-cons x xs)
+
+-- what is counted of one branch is among what is counted of all
+pub wide_part : (ks : List Seen) (k : ℕ) (v : Seen) → k < length ks → v ≡ slice_index_or ks k v → wide_chars v.chars ≤ wide_chars (all_chars ks)
+wide_part ks k v lt is =
+    let behind = all_chars (drop (k + 1) ks) in
+    omega (arith, ap wide_chars (chars_split ks k v lt is), wide-append (all_chars (take k ks)) (v.chars ++ behind), wide-append v.chars behind)
+
+pub bytes_part : (ks : List Seen) (k : ℕ) (v : Seen) → k < length ks → v ≡ slice_index_or ks k v → utf8_bytes v.chars ≤ utf8_bytes (all_chars ks)
+bytes_part ks k v lt is =
+    let behind = all_chars (drop (k + 1) ks) in
+    omega (arith, ap utf8_bytes (chars_split ks k v lt is), bytes-append (all_chars (take k ks)) (v.chars ++ behind), bytes-append v.chars behind)
+
+pub none_is : (right : Option Seen) → is_some right ≡ false → right ≡ None
+none_is None h = refl
+none_is (Some b) h = absurd (false≢true (sym h))
+
+-- the characters where another branch stands at k, counted
+chars_set : (ks : List Seen) (k : ℕ) (w : Seen) → k < length ks → all_chars (slice_set ks k w) ≡ all_chars (take k ks) ++ (w.chars ++ all_chars (drop (k + 1) ks))
+chars_set ks k w lt = chars_put ks k w None lt ∙ ap (λ (cs : List ℕ). all_chars (take k ks) ++ (cs ++ all_chars (drop (k + 1) ks))) (append-nil w.chars)
+
+pub long_put : (ks : List Seen) (k : ℕ) (v w : Seen) → k < length ks → v ≡ slice_index_or ks k v → length (all_chars (slice_set ks k w)) + length v.chars ≡ length (all_chars ks) + length w.chars
+long_put ks k v w lt is =
+    let front = all_chars (take k ks) in
+    let behind = all_chars (drop (k + 1) ks) in
+    omega (arith, ap length (chars_set ks k w lt), ap length (chars_split ks k v lt is), length-append front (w.chars ++ behind), length-append w.chars behind, length-append front (v.chars ++ behind), length-append v.chars behind)
+
+pub wide_put : (ks : List Seen) (k : ℕ) (v w : Seen) → k < length ks → v ≡ slice_index_or ks k v → wide_chars (all_chars (slice_set ks k w)) + wide_chars v.chars ≡ wide_chars (all_chars ks) + wide_chars w.chars
+wide_put ks k v w lt is =
+    let front = all_chars (take k ks) in
+    let behind = all_chars (drop (k + 1) ks) in
+    omega (arith, ap wide_chars (chars_set ks k w lt), ap wide_chars (chars_split ks k v lt is), wide-append front (w.chars ++ behind), wide-append w.chars behind, wide-append front (v.chars ++ behind), wide-append v.chars behind)
+
+pub bytes_put : (ks : List Seen) (k : ℕ) (v w : Seen) → k < length ks → v ≡ slice_index_or ks k v → utf8_bytes (all_chars (slice_set ks k w)) + utf8_bytes v.chars ≡ utf8_bytes (all_chars ks) + utf8_bytes w.chars
+bytes_put ks k v w lt is =
+    let front = all_chars (take k ks) in
+    let behind = all_chars (drop (k + 1) ks) in
+    omega (arith, ap utf8_bytes (chars_set ks k w lt), ap utf8_bytes (chars_split ks k v lt is), bytes-append front (w.chars ++ behind), bytes-append w.chars behind, bytes-append front (v.chars ++ behind), bytes-append v.chars behind)

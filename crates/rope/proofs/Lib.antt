@@ -1,4 +1,5 @@
 pub mod DeletionRuns
+pub mod ExtentLaws
 pub mod InsertLaws
 pub mod KidLists
 pub mod ShortTexts

@@ -13,8 +13,8 @@ pub two_kids : (d : ℕ) (ks : List Seen) → AllBelow d ks → 1 ≤ length ks 
 two_kids d ks h some enough = omega (arith, least_two d (high d ks h some), enough)
 
 -- a node with parts enough is sound
-pub sound_of : (d count leaves : ℕ) (node : Node) → IsBranch d count leaves node → least d ≤ parts_in node → IsSound (record { chars = chars_in node; depth = d; leaves = leaves; parts = parts_in node })
-sound_of d count leaves (Leaf cs) h enough =
+pub sound_of : (d count leaves wide bytes : ℕ) (node : Node) → IsBranch d count leaves wide bytes node → least d ≤ parts_in node → IsSound (record { chars = chars_in node; depth = d; leaves = leaves; parts = parts_in node })
+sound_of d count leaves wide bytes (Leaf cs) h enough =
     let one : d ≡ 1 = h.shape.0 in
     let some : 1 ≤ length cs = rw one at enough in
     record {
@@ -24,7 +24,7 @@ sound_of d count leaves (Leaf cs) h enough =
       some = omega (arith, some, h.shape.1);
       few = omega (arith, h.shape.1, h.shape.2);
     }
-sound_of d count leaves (Inner kids) h enough =
+sound_of d count leaves wide bytes (Inner kids) h enough =
     let two : 2 ≤ length kids.items = two_kids d kids.items h.shape.0 h.shape.2 enough in
     rw h.shape.1 (sound_inner d kids.items h.shape.0 two)
 

@@ -55,6 +55,12 @@ module _ (text more : List ℕ) (half at : ℕ) (long : half ≤ length text) wh
       sym (more_behind (take half text) (drop half text) more (at - half))
       ∙ ap (λ (i : ℕ). with_more (take half text ++ drop half text) i more) place ∙ ap (λ (cs : List ℕ). with_more cs at more) (take-append-drop half text)
 
+-- read where they were put in
+pub put_in : (new old more : List ℕ) (at many : ℕ) → at ≤ length old → new ≡ with_more old at more → many ≡ length new - length old → take many (drop at new) ≡ more
+put_in new old more at many le e count =
+    let long : length more ≡ many = omega (arith, count, ap length e, length-with_more old more at) in
+    ap (λ (cs : List ℕ). take many (drop at cs)) e ∙ ap (take many) (drop_at (take at old) (more ++ drop at old) at (length-take-le at old le)) ∙ take_at more (drop at old) many long
+
 -- nothing more
 pub more_none : (text : List ℕ) (at : ℕ) → with_more text at [] ≡ text
 more_none text at = take-append-drop at text

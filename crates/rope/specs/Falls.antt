@@ -12,6 +12,6 @@ pub most-AllBelow : (d : ℕ) (ks : List Seen) → AllBelow d ks → most (λ k.
 most-AllBelow d [] h = omega arith
 most-AllBelow d (k ∷ ks) h = omega (arith, most-AllBelow d ks h.2)
 
-pub depth_falls : (d count leaves : ℕ) (node : Node) → IsBranch d count leaves node → max (deep-Node node) 0 ≤ d
-depth_falls d count leaves (Leaf cs) h = omega arith
-depth_falls d count leaves (Inner kids) h = omega (arith, most-AllBelow d kids.items h.shape.0)
+pub depth_falls : (d count leaves wide bytes : ℕ) (node : Node) → IsBranch d count leaves wide bytes node → max (deep-Node node) 0 ≤ d
+depth_falls d count leaves wide bytes (Leaf cs) h = omega arith
+depth_falls d count leaves wide bytes (Inner kids) h = omega (arith, most-AllBelow d kids.items h.shape.0)

@@ -1,6 +1,8 @@
 pub mod Blocks
 pub mod Changes
+pub mod Counts
 pub mod Deletions
+pub mod Extents
 pub mod Falls
 pub mod Lengths
 pub mod Nodes

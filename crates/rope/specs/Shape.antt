@@ -2,6 +2,7 @@
 use Rattle.std.specs.Prelude.{◌≡◌, ℕ, ◌+◌, ◌*◌, ◌^◌, ◌≤◌, ◌==◌, if◌then◌else◌, List, [], ◌∷◌, length, vec_capacity}
 use Rattle.rope.specs.declared.branch.Node.{Node}
 use Rattle.rope.specs.declared.branch.Node.TheVariants.{Leaf, Inner}
+use Rattle.rope.specs.Counts.{wide_chars, utf8_bytes}
 use Rattle.rope.specs.Nodes.{Seen, all_chars, all_leaves}
 
 -- the parts that a node of this depth has at least: one character of a leaf, or two branches
@@ -37,6 +38,8 @@ IsNode d leaves (Leaf cs) = (d ≡ 1) × (leaves ≡ 1) × (length cs ≤ 64)
 IsNode d leaves (Inner kids) = AllBelow d kids.items × (leaves ≡ all_leaves kids.items) × (1 ≤ length kids.items) × (length kids.items ≤ 16) × (16 ≤ vec_capacity kids)
 
 -- all leaves are equally deep, and the counts are right
-pub record IsBranch (d count leaves : ℕ) (node : Node) : Type 0 where
+pub record IsBranch (d count leaves wide bytes : ℕ) (node : Node) : Type 0 where
   pub shape : IsNode d leaves node
   pub counted : count ≡ length (chars_in node)
+  pub doubled : wide ≡ wide_chars (chars_in node)
+  pub spelled : bytes ≡ utf8_bytes (chars_in node)

@@ -1,15 +1,18 @@
 //! A branch of the tree: a node, and what is kept of the characters below it.
 
-ghost use Rattle.std.specs.Prelude.{◌≡◌, ◌+◌, ◌^◌, ◌<◌, ◌≤◌, ◌↔◌, IsTrue, Some, ◌++◌, length, slice_get, encode_utf8_all, vec_capacity, IfOk, IsOk, OnOk, OnErr};
+ghost use Rattle.std.specs.Prelude.{◌≡◌, ◌+◌, ◌^◌, ◌<◌, ◌≤◌, ◌↔◌, IsTrue, Some, ◌++◌, length, take, drop, slice_get, encode_utf8_all, vec_capacity, IfOk, IsOk, OnOk, OnErr};
 ghost use Rattle.rope.specs.Blocks.{IsRoomy};
+ghost use Rattle.rope.specs.Counts.{wide_chars, utf8_bytes, Reaches};
 ghost use Rattle.rope.specs.Deletions.{without};
+ghost use Rattle.rope.specs.Extents.{extent};
 ghost use Rattle.rope.specs.Nodes.{all_chars};
 ghost use Rattle.rope.specs.Shape.{AllBelow, IsSound, least};
 ghost use Rattle.rope.specs.Rights.{chars_of_right, IsLike, IsLeft, IsGrown, IsLastOf};
 ghost use Rattle.rope.specs.Typed.{typed};
 
+use crate::extents::Measure;
 use crate::halves::{insert_in_leaf, put_kid, settle};
-use crate::kids::{above_kids, kid_at, kid_open, needed, sizes_in};
+use crate::kids::{Sizes, above_kids, kid_at, kid_open, needed, sizes_in};
 use crate::leaf::Leaf;
 use crate::mend::mend;
 use crate::spares::{MOST_KIDS, Spares};
@@ -18,14 +21,17 @@ use ew_model::text_op::TextOp;
 use std::alloc::Global;
 use std::marker::Model;
 
-/// A branch: the node at its top, with the number of its levels, of the characters below it and of the leaves. The heap block of
-/// a node has room for sixteen branches, or for the characters of a leaf.
+/// A branch: the node at its top, with the number of its levels, of the characters below it and of the leaves, and with how many of the
+/// characters take two code units of UTF-16 and how many bytes of UTF-8 all take. The heap block of a node has room for sixteen branches,
+/// or for the characters of a leaf.
 #[cycle(tree)]
 #[derive(Drop)]
 pub struct Branch {
     depth: u32,
     count: u32,
     leaves: u32,
+    wide: u32,
+    bytes: u64,
     node: Node,
 }
 
@@ -45,13 +51,13 @@ impl Model for Branch {
 
     ghost view = { λ b. record { chars = chars_in b.node; depth = b.depth; leaves = b.leaves; parts = parts_in b.node } };
 
-    ghost invariant = { λ b. IsBranch b.depth b.count b.leaves b.node };
+    ghost invariant = { λ b. IsBranch b.depth b.count b.leaves b.wide b.bytes b.node };
 
     ghost size = { λ t. t.depth };
 
     ghost use Rattle.rope.specs.Falls.{depth_falls};
 
-    ghost size_decreases = { λ b h. depth_falls b.depth b.count b.leaves b.node h };
+    ghost size_decreases = { λ b h. depth_falls b.depth b.count b.leaves b.wide b.bytes b.node h };
 }
 
 impl Branch {
@@ -62,10 +68,13 @@ impl Branch {
         ensures depth { result.depth ≡ 1 }
         ensures sound { IsSound result }
     {
+        let extents = leaf.extents();
         Branch {
             depth: 1,
             count: leaf.len(),
             leaves: 1,
+            wide: extents.wide,
+            bytes: extents.bytes,
             node: Node::Leaf(leaf),
         }
     }
@@ -86,6 +95,8 @@ impl Branch {
             depth,
             count: sizes.chars,
             leaves: sizes.leaves,
+            wide: sizes.wide,
+            bytes: sizes.bytes,
             node: Node::Inner(kids),
         }
     }
@@ -96,6 +107,92 @@ impl Branch {
     {
         let _ = &self.node;
         self.count
+    }
+
+    /// How many of the characters take two code units of UTF-16.
+    pub fn wide(&self) -> u32
+        ensures { result ≡ wide_chars self.now.chars }
+    {
+        let _ = &self.node;
+        self.wide
+    }
+
+    /// How many bytes of UTF-8 the characters take.
+    pub fn bytes(&self) -> u64
+        ensures { result ≡ utf8_bytes self.now.chars }
+    {
+        let _ = &self.node;
+        self.bytes
+    }
+
+    /// What is kept of the characters and leaves.
+    pub fn sizes(&self) -> Sizes
+        ensures chars { result.chars ≡ length self.now.chars }
+        ensures leaves { result.leaves ≡ self.now.leaves }
+        ensures wide { result.wide ≡ wide_chars self.now.chars }
+        ensures bytes { result.bytes ≡ utf8_bytes self.now.chars }
+    {
+        Sizes {
+            chars: self.len(),
+            leaves: self.leaves(),
+            wide: self.wide(),
+            bytes: self.bytes(),
+        }
+    }
+
+    /// How much of a measure the characters take.
+    pub fn extent(&self, measure: Measure) -> u64
+        ensures { result ≡ extent measure self.now.chars }
+    {
+        match measure {
+            Measure::Utf16 => u64::from(self.len()) + u64::from(self.wide()),
+            Measure::Utf8 => self.bytes(),
+        }
+    }
+
+    /// How much of a measure the characters below an index take.
+    pub fn extent_before(&self, measure: Measure, at: u32) -> u64
+        ensures { result ≡ extent measure (take at self.now.chars) }
+    {
+        match &self.node {
+            Node::Leaf(leaf) => leaf.extent_before(measure, at),
+            Node::Inner(kids) => {
+                let mut rest = at;
+                let mut before = 0;
+                for kid in kids {
+                    if rest < kid.len() {
+                        return before + kid.extent_before(measure, rest);
+                    }
+                    rest -= kid.len();
+                    before += kid.extent(measure);
+                }
+                before
+            }
+        }
+    }
+
+    /// The index at which so much of a measure ends, or of the character in which it does, and how much of it is left there.
+    pub fn reach(&self, measure: Measure, much: u64) -> (u32, u64)
+        ensures { Reaches measure self.now.chars much result.0 result.1 }
+    {
+        match &self.node {
+            Node::Leaf(leaf) => leaf.reach(measure, much),
+            Node::Inner(kids) => {
+                let end = self.len();
+                let mut rest = much;
+                let mut before = 0;
+                for kid in kids {
+                    let here = kid.extent(measure);
+                    if rest < here {
+                        let (at, left) = kid.reach(measure, rest);
+                        return (before + at, left);
+                    }
+                    rest -= here;
+                    before += kid.len();
+                }
+                (end, rest)
+            }
+        }
     }
 
     /// The number of leaves.
@@ -148,6 +245,8 @@ impl Branch {
                     depth: self.depth,
                     count: self.count,
                     leaves: self.leaves,
+                    wide: self.wide,
+                    bytes: self.bytes,
                     node: Node::Leaf(copy),
                 })
             }
@@ -160,6 +259,8 @@ impl Branch {
                     depth: self.depth,
                     count: self.count,
                     leaves: self.leaves,
+                    wide: self.wide,
+                    bytes: self.bytes,
                     node: Node::Inner(copies),
                 })
             }
@@ -180,6 +281,37 @@ impl Branch {
                         to.truncate(before);
                         return Err(e);
                     }
+                }
+                Ok(())
+            }
+        }
+    }
+
+    /// Puts the UTF-8 of so many characters from an index on, or of as many as there are, behind the bytes of the vector. A refusal leaves
+    /// the vector as it was.
+    pub fn write_range(&self, from: u32, n: u32, to: &mut Vec<u8>) -> Result<(), NoMem>
+        ensures ok { OnOk result (to.new.items ≡ to.old.items ++ encode_utf8_all (take n (drop from self.now.chars))) }
+        ensures err { OnErr result (to.new.items ≡ to.old.items) }
+    {
+        if n == 0 {
+            return Ok(());
+        }
+        if from >= self.len() {
+            return Ok(());
+        }
+        match &self.node {
+            Node::Leaf(leaf) => leaf.write_range(from, n, to),
+            Node::Inner(kids) => {
+                let before = to.len();
+                let mut skip = from;
+                let mut left = n;
+                for kid in kids {
+                    if let Err(e) = kid.write_range(skip, left, to) {
+                        to.truncate(before);
+                        return Err(e);
+                    }
+                    left = left.saturating_sub(kid.len().saturating_sub(skip));
+                    skip = skip.saturating_sub(kid.len());
                 }
                 Ok(())
             }
@@ -211,17 +343,38 @@ impl Branch {
         match &mut self.node {
             Node::Leaf(leaf) => {
                 let right = insert_in_leaf(leaf, at, ops, above, spares)?;
+                if right.is_none() {
+                    let more = leaf.extents_from(at, leaf.len() - self.count);
+                    self.count = leaf.len();
+                    self.wide += more.wide;
+                    self.bytes += more.bytes;
+                    return Ok(None);
+                }
+                let extents = leaf.extents();
                 self.count = leaf.len();
+                self.wide = extents.wide;
+                self.bytes = extents.bytes;
                 Ok(right)
             }
             Node::Inner(kids) => {
                 let (k, rest) = kid_open(kids.as_slice(), at);
                 let above_kids = above_kids(kids.as_slice(), above);
+                let before = kids[k].sizes();
                 let right = kids[k].insert(rest, ops, above_kids, spares)?;
+                if right.is_none() {
+                    let after = kids[k].sizes();
+                    self.count = self.count - before.chars + after.chars;
+                    self.leaves = self.leaves - before.leaves + after.leaves;
+                    self.wide = self.wide - before.wide + after.wide;
+                    self.bytes = self.bytes - before.bytes + after.bytes;
+                    return Ok(None);
+                }
                 let right = settle(self.depth, kids, k + 1, right, spares);
                 let sizes = sizes_in(self.depth, kids.as_slice());
                 self.count = sizes.chars;
                 self.leaves = sizes.leaves;
+                self.wide = sizes.wide;
+                self.bytes = sizes.bytes;
                 Ok(right)
             }
         }
@@ -242,17 +395,31 @@ impl Branch {
     {
         match &mut self.node {
             Node::Leaf(leaf) => {
+                let gone = leaf.extents_from(at, most);
                 let many = leaf.remove(at, most);
                 self.count = leaf.len();
+                self.wide -= gone.wide;
+                self.bytes -= gone.bytes;
                 many
             }
             Node::Inner(kids) => {
                 let (k, rest) = kid_at(kids.as_slice(), at);
+                let before = kids[k].sizes();
                 let many = kids[k].remove(rest, most);
+                if kids[k].is_sound() {
+                    let after = kids[k].sizes();
+                    self.count = self.count - before.chars + after.chars;
+                    self.leaves = self.leaves - before.leaves + after.leaves;
+                    self.wide = self.wide - before.wide + after.wide;
+                    self.bytes = self.bytes - before.bytes + after.bytes;
+                    return many;
+                }
                 mend(self.depth, kids, k);
                 let sizes = sizes_in(self.depth, kids.as_slice());
                 self.count = sizes.chars;
                 self.leaves = sizes.leaves;
+                self.wide = sizes.wide;
+                self.bytes = sizes.bytes;
                 many
             }
         }
@@ -295,6 +462,8 @@ impl Branch {
                 let sizes = sizes_in(self.depth, kids.as_slice());
                 self.count = sizes.chars;
                 self.leaves = sizes.leaves;
+                self.wide = sizes.wide;
+                self.bytes = sizes.bytes;
                 right
             }
         }
@@ -320,6 +489,8 @@ impl Branch {
                 let sizes = sizes_in(self.depth, kids.as_slice());
                 self.count = sizes.chars;
                 self.leaves = sizes.leaves;
+                self.wide = sizes.wide;
+                self.bytes = sizes.bytes;
                 right
             }
         }

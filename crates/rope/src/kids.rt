@@ -3,16 +3,20 @@
 ghost use Rattle.std.specs.Prelude.{◌≡◌, ◌+◌, ◌<◌, ◌≤◌, ◌^◌, length, take, slice_index_or, nat_lt, if◌then◌else◌};
 ghost use Rattle.rope.specs.Nodes.{Seen, all_chars, all_leaves};
 ghost use Rattle.rope.specs.Blocks.{IsRoomy, HasPlace};
+ghost use Rattle.rope.specs.Counts.{wide_chars, utf8_bytes};
 ghost use Rattle.rope.specs.Shape.{AllBelow};
 
 use crate::branch::Branch;
 use crate::spares::MOST_KIDS;
 
-/// How many characters some branches have, and how many leaves.
+/// How many characters some branches have, how many leaves, how many of the characters take two code units of UTF-16, and how many bytes
+/// of UTF-8 the characters take.
 #[derive(Clone, Copy, Debug, PartialEq, Eq)]
 pub struct Sizes {
     pub chars: u32,
     pub leaves: u32,
+    pub wide: u32,
+    pub bytes: u64,
 }
 
 /// The branch with the character at an index, and the character's index there.
@@ -64,14 +68,20 @@ pub fn sizes_in(depth: u32, kids: &[Branch]) -> Sizes
     requires small { length (all_chars kids.now) < 2 ^ 32 }
     ensures chars { result.chars ≡ length (all_chars kids.now) }
     ensures leaves { result.leaves ≡ all_leaves kids.now }
+    ensures wide { result.wide ≡ wide_chars (all_chars kids.now) }
+    ensures bytes { result.bytes ≡ utf8_bytes (all_chars kids.now) }
 {
     let mut sizes = Sizes {
         chars: 0,
         leaves: 0,
+        wide: 0,
+        bytes: 0,
     };
     for kid in kids {
         sizes.chars += kid.len();
         sizes.leaves += kid.leaves();
+        sizes.wide += kid.wide();
+        sizes.bytes += kid.bytes();
     }
     sizes
 }

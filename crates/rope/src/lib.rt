@@ -5,6 +5,7 @@
 
 mod branch;
 mod deletions;
+mod extents;
 mod halves;
 mod kids;
 mod leaf;
@@ -14,4 +15,5 @@ mod spares;
 mod text;
 mod typed;
 
+pub use extents::Measure;
 pub use text::{Rope, Shape};

@@ -1,13 +1,16 @@
 //! A text that is changed at an index.
 
-ghost use Rattle.std.specs.Prelude.{◌≡◌, ◌+◌, ◌*◌, ◌^◌, ◌<◌, ◌≤◌, [], ◌++◌, length, insert, remove, slice_get, Some, encode_utf8_all, IfOk, OnOk, OnErr};
+ghost use Rattle.std.specs.Prelude.{◌≡◌, ◌+◌, ◌*◌, ◌^◌, ◌<◌, ◌≤◌, [], ◌++◌, length, insert, remove, take, drop, slice_get, Some, encode_utf8_all, IfOk, OnOk, OnErr};
 ghost use Rattle.ew_model.specs.Operations.{changed_by_all};
 ghost use Rattle.ew_model.specs.TextLaws.{AllFit};
 ghost use Rattle.rope.specs.Lengths.{most_chars, AllStayShort};
 ghost use Rattle.rope.specs.Changes.{room_for_all};
+ghost use Rattle.rope.specs.Counts.{Reaches};
+ghost use Rattle.rope.specs.Extents.{extent, IsIndexBehind};
 ghost use Rattle.rope.specs.Typed.{IsTyped};
 
 use crate::branch::Branch;
+use crate::extents::Measure;
 use crate::root::{MOST_BLOCKS, change_all, copy_root, insert_typed, remove_chars};
 use crate::spares::Spares;
 use crate::typed::typed_at;
@@ -160,6 +163,36 @@ impl Rope {
         }
     }
 
+    /// How much of a measure the characters below an index take, or all where there are fewer.
+    pub fn extent_before(&self, measure: Measure, at: u32) -> u64
+        ensures { result ≡ extent measure (take at self.now.chars) }
+    {
+        match &self.root {
+            None => 0,
+            Some(branch) => branch.extent_before(measure, at),
+        }
+    }
+
+    /// The index before which the characters take just so much of a measure. There is none within a character, nor behind the end.
+    pub fn index_behind(&self, measure: Measure, much: u64) -> Option<u32>
+        ensures { IsIndexBehind measure self.now.chars much result }
+    {
+        let (at, rest) = self.reach(measure, much);
+        if rest == 0 { Some(at) } else { None }
+    }
+
+    /// Puts the UTF-8 of so many characters from an index on, or of as many as there are, behind the bytes of the vector. A refusal leaves
+    /// the vector as it was.
+    pub fn write_range(&self, from: u32, n: u32, to: &mut Vec<u8>) -> Result<(), NoMem>
+        ensures ok { OnOk result (to.new.items ≡ to.old.items ++ encode_utf8_all (take n (drop from self.now.chars))) }
+        ensures err { OnErr result (to.new.items ≡ to.old.items) }
+    {
+        match &self.root {
+            None => Ok(()),
+            Some(branch) => branch.write_range(from, n, to),
+        }
+    }
+
     /// Puts the UTF-8 of all characters behind the bytes of the vector. A refusal leaves the vector as it was.
     pub fn write_to(&self, to: &mut Vec<u8>) -> Result<(), NoMem>
         ensures ok { OnOk result (to.new.items ≡ to.old.items ++ encode_utf8_all self.now.chars) }
@@ -173,6 +206,16 @@ impl Rope {
 }
 
 impl Rope {
+    /// The index at which so much of a measure ends, or of the character in which it does, and how much of it is left there.
+    fn reach(&self, measure: Measure, much: u64) -> (u32, u64)
+        ensures { Reaches measure self.now.chars much result.0 result.1 }
+    {
+        match &self.root {
+            None => (0, much),
+            Some(branch) => branch.reach(measure, much),
+        }
+    }
+
     /// Puts the characters of typed operations in, by one way down.
     fn change_typed(&mut self, at: u32, ops: &[TextOp]) -> Result<(), NoMem>
         requires some { 0 < length ops.now }

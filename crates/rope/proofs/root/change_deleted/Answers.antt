@@ -1,4 +1,4 @@
-use Rattle.std.proofs.Common.{◌+◌, ◌≤◌, length, arith, sym, ◌∙◌}
+use Rattle.std.proofs.Common.{arith, sym, ◌∙◌}
 use Rattle.rope.specs.Whole.{chars_of_root}
 use Rattle.rope.proofs.DeletionRuns.{first_change, first_fit}
 use Rattle.rope.proofs.ShortTexts.{short_first}

@@ -16,4 +16,4 @@ pub returns-in-Inner-clause-sound : goal.returns-in-Inner-clause-sound
 returns-in-Inner-clause-sound c = λ true.
     let enough = returns-in-Inner-clause-enough c in
     let parts : least c.self.inside.depth ≤ parts_in c.self.inside.node = subst (λ (t : Seen). least t.depth ≤ t.parts) (sym c.self.view_is) (enough.0 true) in
-    subst IsSound c.self.view_is (sound_of c.self.inside.depth c.self.inside.count c.self.inside.leaves c.self.inside.node c.self.invariant parts)
+    subst IsSound c.self.view_is (sound_of c.self.inside.depth c.self.inside.count c.self.inside.leaves c.self.inside.wide c.self.inside.bytes c.self.inside.node c.self.invariant parts)

@@ -1,4 +1,4 @@
-use Rattle.std.proofs.Common.{◌≡◌, ℕ, List, length, remove, arith, ap, ◌∙◌}
+use Rattle.std.proofs.Common.{length, remove, arith, ap, ◌∙◌}
 use Rattle.rope.specs.Whole.{Tree, chars_of_root}
 use Rattle.rope.proofs.DeletionRuns.{length-without, without_one}
 use Rattle.rope.proofs.text.Rope.remove.Goals as goal
