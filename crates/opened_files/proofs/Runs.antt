@@ -1,5 +1,5 @@
 -- The rest of a run of a file that is given to a replica at once.
-use Rattle.std.proofs.Common.{◌≡◌, ◌∙◌, ℕ, zero, suc, ◌+◌, ◌-◌, ◌≤◌, List, [], ◌∷◌, ◌++◌, length, Some, refl, sym, ap, subst, append_assoc, append-nil, arith}
+use Rattle.std.proofs.Common.{◌≡◌, ◌∙◌, ℕ, suc, ◌+◌, ◌-◌, List, [], ◌∷◌, ◌++◌, length, Some, sym, ap, subst, append_assoc, append-nil, arith}
 use Rattle.std.proofs.lemmas.List.{length-append}
 use Rattle.ew_model.specs.declared.id.Id.{Id}
 use Rattle.ew_model.specs.declared.event.Event.{Event}
@@ -8,19 +8,13 @@ use Rattle.ew_model.specs.Edits.{chain_of}
 use Rattle.file_words.specs.FileFaults.{FileFinding}
 use Rattle.event_file.specs.OpenRuns.{id_behind}
 use Rattle.event_file.specs.Rest.{GoOnBy, Rest, in_front}
-use Rattle.event_runs.specs.RunOps.{back_deletions_at}
-use Rattle.history_definitions.specs.Chains.{event_behind, next_id}
+use Rattle.history_definitions.specs.Chains.{event_behind}
 use Rattle.event_graph.specs.GoingOn.{chain_behind}
 use Rattle.event_graph.proofs.Chains.{in_a_row}
 use Rattle.replica.specs.Giving.{Given, WereGiven}
 use Rattle.replica.proofs.Giving.{chain_long}
 use Rattle.opened_files.specs.Giving.{HasGivenLast}
 use Rattle.opened_files.proofs.Giving.{both_in_front}
-
--- so many are the deletions from an index down
-pub back_long : (n at : ℕ) → length (back_deletions_at at n) ≡ n
-back_long zero at = refl
-back_long (suc n) at = ap suc (back_long n (at - 1))
 
 -- the last of the events has this id
 record EndsWith (events : List Event) (x : Id) : Type 0 where

@@ -1,10 +1,9 @@
-use Rattle.std.proofs.Common.{◌≡◌, ◌+◌, ◌≤◌, length, arith, ap, subst}
-use Rattle.ew_model.proofs.EditTexts.{insertions_long, deletions_long}
+use Rattle.std.proofs.Common.{◌+◌, ◌≤◌, length, arith, ap, subst}
+use Rattle.ew_model.proofs.EditTexts.{insertions_long, deletions_long, back_long}
 use Rattle.event_file.specs.declared.run_ops.RunOps.{RunOps}
 use Rattle.event_file.specs.OpenRuns.{CanGoOn}
 use Rattle.event_file.specs.Runs.{numbers_in, ops_as}
 use Rattle.file_words.specs.FileRuns.{ops_count}
-use Rattle.opened_files.proofs.Runs.{back_long}
 use Rattle.opened_files.proofs.give.give_ops.Goals as goal
 
 pub go_on_run-requires-clause-room : goal.go_on_run-requires-clause-room
@@ -30,5 +29,5 @@ pub go_on_run-requires-in-BackDeletions-clause-room : goal.go_on_run-requires-in
 go_on_run-requires-in-BackDeletions-clause-room c =
     let room : length c.args.given.now.admitted + c.in-BackDeletions.count ≤ c.args.given.now.limits.events =
     subst (λ (ops : RunOps). length c.args.given.now.admitted + ops_count (ops_as ops) ≤ c.args.given.now.limits.events) c.in-BackDeletions.is c.requires.room in
-    let long = back_long c.in-BackDeletions.count c.in-BackDeletions.at in
+    let long = back_long c.in-BackDeletions.at c.in-BackDeletions.count in
     omega (arith, room, long)

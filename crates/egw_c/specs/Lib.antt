@@ -1,0 +1,7 @@
+pub mod Changes
+pub mod Documents
+pub mod Exports
+pub mod Reading
+pub mod Statuses
+pub mod Talks
+pub mod Words
