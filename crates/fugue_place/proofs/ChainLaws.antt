@@ -4,7 +4,7 @@ use Rattle.std.proofs.lemmas.Bool.{cases_order, cases_eq}
 use Rattle.std.proofs.lemmas.Option.{none-some, same_Some}
 use Rattle.fugue_place.specs.Chains.{IsStep, AreChains, Leads, IsEndOf, IsOuterRenumbered, IsInnerRenumbered}
 
-before_last : (k n : ℕ) → k < n + 1 → (k < n) ⊎ (k ≡ n)
+pub before_last : (k n : ℕ) → k < n + 1 → (k < n) ⊎ (k ≡ n)
 before_last k n lt = ⊎_elim (λ e. inr e) (λ r. ⊎_elim (λ low. inl low) (λ high. absurd (omega arith)) r) (cases_order k n)
 
 -- the numbers, while those that follow `at` get the number n, up to `last`

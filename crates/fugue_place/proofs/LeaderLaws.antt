@@ -63,18 +63,18 @@ module _ (children : List Attached) (all : AreAttached [] children) (a : Attache
   pub heir_left : (outer : ℕ → Option ℕ) → IsNoOutermost Left children outer a
   heir_left outer = λ k p here parent side. let no : Right ≡ Left = sym on_right ∙ side in absurd cc
 
-  module _ (outer : ℕ → Option ℕ) (outermost : AreOutermost Right children outer) where
+  module _ (end : Side) (outer : ℕ → Option ℕ) (outermost : AreOutermost end children outer) where
     none_follows : (p : Attached) → slice_get children (length children - 1) ≡ Some p → p.node ≡ a.parent → (o : Option ℕ) → outer (length children - 1) ≡ o → o ≡ None
     none_follows p here is None e = refl
     none_follows p here is (Some j) e =
-        let best : IsOutermost (line_of p.node Right) Right children (length children) j = subst (IsBest (line_of p.node Right) Right children (length children)) e (outermost (length children - 1) p here) in
-        let none : list_any (is_in_line (line_of p.node Right)) (take (length children) children) ≡ false = newest_childless children all (line_of p.node Right) (ap (is_newest children) is ∙ newest) in
-        absurd (false≢true (sym (none_passes (is_in_line (line_of p.node Right)) (take (length children) children) best.child none (among_all children best.child (got children j best.child best.here))) ∙ best.fits))
-
-    pub heir_right : IsNewOutermost Right children outer a (length children - 1)
-    heir_right =
-        let last = newest_last children a.parent newest in
-        new_only children all Right outer outermost a (length children - 1) last.0 last.1 last.2 (none_follows last.0 last.1 last.2 (outer (length children - 1)) refl) on_right
+        let best : IsOutermost (line_of p.node end) end children (length children) j = subst (IsBest (line_of p.node end) end children (length children)) e (outermost (length children - 1) p here) in
+        let none : list_any (is_in_line (line_of p.node end)) (take (length children) children) ≡ false = newest_childless children all (line_of p.node end) (ap (is_newest children) is ∙ newest) in
+        absurd (false≢true (sym (none_passes (is_in_line (line_of p.node end)) (take (length children) children) best.child none (among_all children best.child (got children j best.child best.here))) ∙ best.fits))
 
     pub none_behind : outer (length children - 1) ≡ None
     none_behind = let last = newest_last children a.parent newest in none_follows last.0 last.1 last.2 (outer (length children - 1)) refl
+
+  pub heir_right : (outer : ℕ → Option ℕ) → AreOutermost Right children outer → IsNewOutermost Right children outer a (length children - 1)
+  heir_right outer outermost =
+      let last = newest_last children a.parent newest in
+      new_only children all Right outer outermost a (length children - 1) last.0 last.1 last.2 (none_behind Right outer outermost) on_right

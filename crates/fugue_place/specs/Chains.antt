@@ -3,9 +3,6 @@ use Rattle.std.specs.Prelude.{◌≡◌, ℕ, zero, suc, ◌+◌, ◌^◌, ◌<�
 use Rattle.std.specs.Option.{IfSome}
 use Rattle.std.specs.Vec.{vec_capacity}
 use Rattle.fugue_place.specs.declared.chains.Chains.{Chains}
-use Rattle.fugue_place.specs.declared.child.Side.{Side}
-use Rattle.fugue_place.specs.declared.child.Attached.{Attached}
-use Rattle.fugue_place.specs.Lines.{AreOutermost}
 
 -- what a table tells of a place: the place itself, where it tells nothing
 abbrev pub entry_at : List ℕ → ℕ → ℕ
@@ -44,12 +41,6 @@ pub record AreAligned (c : Chains) : Type 0 where
 pub record IsChains (c : Chains) : Type 0 where
   pub aligned : AreAligned c
   pub chains : AreChains c.count (follower c.outer.items) (follower c.inner.items) (entry_at c.numbers.items) (entry_at c.ends.items)
-
--- Chains of the children lead outward on the side.
-pub record LeadOutward (end : Side) (children : List Attached) (c : Chains) : Type 0 where
-  pub chains : IsChains c
-  pub count : c.count ≡ length children
-  pub outermost : AreOutermost end children (follower c.outer.items)
 
 -- so many steps lead from k to e, which nothing follows
 abbrev pub Leads : (ℕ → Option ℕ) → ℕ → ℕ → ℕ → Type 0

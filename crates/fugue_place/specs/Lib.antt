@@ -8,3 +8,4 @@ pub mod Neighbours
 pub mod Places
 pub mod Spots
 pub mod Subtrees
+pub mod Ways

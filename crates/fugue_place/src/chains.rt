@@ -94,27 +94,6 @@ impl Chains {
 }
 
 impl Chains {
-    /// Adds the next one behind the newest, which nothing follows.
-    pub fn add_behind_newest(&mut self)
-        requires chains { IsChains self.old }
-        requires some { 0 < self.old.count }
-        requires room { HasRoom self.old (Some (self.old.count - 1)) }
-        requires last { follower self.old.outer.items (self.old.count - 1) ≡ None }
-        ensures chains { IsChains self.new }
-        ensures count { self.new.count ≡ self.old.count + 1 }
-        ensures led { IsLedBy self.old.count (follower self.old.outer.items) (Some (self.old.count - 1)) (follower self.new.outer.items) }
-    {
-        if self.outer.len() < self.count {
-            self.add(Some(self.count - 1));
-        } else {
-            let new = self.count as u32;
-            self.count += 1;
-            self.put_alone();
-            self.inner[new as usize] = new - 1;
-            self.lengthen(new - 1, new);
-        }
-    }
-
     /// Whether a row for one more fits into each table.
     fn has_room(&self) -> bool
         ensures { IsTrue result → HasFreeRows self.now }

@@ -328,7 +328,7 @@ fn is_at(names: &IndexSet<Name>, number: u32, agent: &Name) -> bool
     ensures { IsTrue result → slice_get names.now.keys number ≡ Some agent.now }
 {
     match names.get_index(number as usize) {
-        Some(name) => is_same(name.as_slice(), agent.as_slice()),
+        Some(name) => name.is(agent),
         None => false,
     }
 }
@@ -338,19 +338,4 @@ fn name_of(names: &IndexSet<Name>, number: u32) -> Option<Name>
     ensures { result ≡ slice_get names.now.keys number }
 {
     names.get_index(number as usize).copied()
-}
-
-/// Whether the bytes are the same. Names are short: this is faster than a comparison by groups.
-fn is_same(bytes: &[u8], others: &[u8]) -> bool
-    ensures { IsTrue result → bytes.now ≡ others.now }
-{
-    if bytes.len() != others.len() {
-        return false;
-    }
-    for k in 0..bytes.len() {
-        if bytes[k] != others[k] {
-            return false;
-        }
-    }
-    true
 }

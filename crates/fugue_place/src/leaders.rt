@@ -2,39 +2,35 @@
 
 ghost use Rattle.std.specs.Prelude.{◌≡◌, [], IfSome, IfNone};
 ghost use Rattle.fugue_place.specs.Attachments.{AreAttached};
-ghost use Rattle.fugue_place.specs.Chains.{follower, LeadOutward};
 ghost use Rattle.fugue_place.specs.Lines.{is_further, IsNewOutermost, IsNoOutermost};
 ghost use Rattle.fugue_place.specs.Neighbours.{side_eq};
 ghost use Rattle.fugue_place.specs.Places.{ArePlaces};
+ghost use Rattle.fugue_place.specs.Ways.{way_of, LeadOutward};
 
-use crate::chains::Chains;
 use crate::child::{Attached, Side};
 use crate::children::Children;
 use crate::places::Places;
+use crate::ways::Ways;
 use ew_model::id::Id;
 
-/// The place of the new child's parent, where that is a child of which the new one is the outermost child on the side. The
-/// chains lead outward there.
+/// The place of the new child's parent, where that is a child of which the new one is the outermost child on its side. The
+/// ways lead outward there.
 pub fn leader_of(
     children: &Children,
     places: &Places,
-    chains: &Chains,
-    end: Side,
+    ways: &Ways,
     child: &Attached,
 ) -> Option<usize>
     requires attached { AreAttached [] children.now.items }
     requires places { ArePlaces children.now.items places.now }
-    requires chains { LeadOutward end children.now.items chains.now }
-    ensures some { IfSome result (IsNewOutermost end children.now.items (follower chains.now.outer.items) child.now) }
-    ensures none { IfNone result (IsNoOutermost end children.now.items (follower chains.now.outer.items) child.now) }
+    requires ways { LeadOutward child.now.side children.now.items ways.now }
+    ensures some { IfSome result (IsNewOutermost child.now.side children.now.items (way_of ways.now) child.now) }
+    ensures none { IfNone result (IsNoOutermost child.now.side children.now.items (way_of ways.now) child.now) }
 {
-    if !is_side(child.side, end) {
-        return None;
-    }
     let at = places.find(children, child.parent)?;
-    if let Some(k) = chains.follower(at) {
+    if let Some(k) = ways.follower(at) {
         let rival = children.get(k as usize);
-        if !is_further(end, &child.id, &rival.id) {
+        if !is_further(child.side, &child.id, &rival.id) {
             return None;
         }
     }

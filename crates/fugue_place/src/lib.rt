@@ -5,14 +5,18 @@
 mod chains;
 mod child;
 mod children;
+mod heads;
 mod known;
 mod leaders;
+mod led;
 mod line;
+mod links;
 mod neighbour;
 mod places;
 mod search;
 mod spot;
 mod table;
+mod ways;
 
 pub use child::{Attached, Side};
 pub use neighbour::Place;

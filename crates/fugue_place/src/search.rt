@@ -4,19 +4,19 @@ ghost use Rattle.std.specs.Prelude.{◌≡◌, ℕ, ◌<◌, true, false, [], le
 ghost use Rattle.std.specs.BTreeMap.{get};
 ghost use Rattle.fugue_place.specs.declared.child.Side.TheVariants.{Left, Right};
 ghost use Rattle.fugue_place.specs.Attachments.{side_of, is_attached, is_there, has_id, path_of, AreAttached};
-ghost use Rattle.fugue_place.specs.Chains.{LeadOutward};
 ghost use Rattle.fugue_place.specs.Neighbours.{IsPlaceOfNew, beside};
 ghost use Rattle.fugue_place.specs.Places.{ArePlaces};
 ghost use Rattle.fugue_place.specs.Spots.{spot_cmp, IsIndex};
 ghost use Rattle.fugue_place.specs.Subtrees.{node_at, HasBase, tree_nodes, EndsBelow};
+ghost use Rattle.fugue_place.specs.Ways.{LeadOutward};
 
-use crate::chains::Chains;
 use crate::child::{Side, is_newest};
 use crate::children::Children;
 use crate::line::{Line, outermost_child};
 use crate::neighbour::Place;
 use crate::places::Places;
 use crate::spot::Spot;
+use crate::ways::Ways;
 use ew_model::id::Id;
 use ew_model::node::Node;
 use std::collections::BTreeMap;
@@ -26,8 +26,8 @@ pub fn place_of_new(
     children: &Children,
     spots: &BTreeMap<Spot, usize>,
     places: &Places,
-    left: &Chains,
-    right: &Chains,
+    left: &Ways,
+    right: &Ways,
     parent: Node,
     side: Side,
     id: Id,
@@ -77,13 +77,13 @@ fn beside(node: Node, side: Side) -> Place
 }
 
 /// The outermost node on the side `end` of the subtree of the child at a place: the last on the right, the first on the
-/// left. The chains lead outward there.
-fn outermost_node(children: &Children, chains: &Chains, from: usize, end: Side) -> Node
+/// left. The ways lead outward there.
+fn outermost_node(children: &Children, ways: &Ways, from: usize, end: Side) -> Node
     requires attached { AreAttached [] children.now.items }
-    requires chains { LeadOutward end children.now.items chains.now }
+    requires ways { LeadOutward end children.now.items ways.now }
     requires within { from < length children.now.items }
     ensures there { is_attached children.now.items result ≡ true }
     ensures ends { (b : ℕ) → HasBase children.now.items b → EndsBelow (side_of end) (tree_nodes b children.now.items) (path_of children.now.items (node_at children.now.items from)) (path_of children.now.items result) }
 {
-    children.get(chains.end_of(from)).node
+    children.get(ways.end_of(from)).node
 }

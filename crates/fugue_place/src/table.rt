@@ -5,15 +5,16 @@ ghost use Rattle.fugue_place.specs.Attachments.{is_event, is_attached, is_there,
 ghost use Rattle.fugue_place.specs.Heirs.{is_heir};
 ghost use Rattle.fugue_place.specs.Neighbours.{has_beyond, SomeRightChild, EveryRightChild, IsPlaceOfNew};
 
-use crate::chains::Chains;
 use crate::child::{Attached, Side, is_heir};
 use crate::children::Children;
 use crate::known::has_known_right;
 use crate::leaders::leader_of;
+use crate::led::enlist_behind;
 use crate::neighbour::Place;
 use crate::places::Places;
 use crate::search::place_of_new;
-use crate::spot::{Spot, enlist};
+use crate::spot::Spot;
+use crate::ways::Ways;
 use ew_model::NoMem;
 use ew_model::id::Id;
 use ew_model::node::Node;
@@ -30,9 +31,9 @@ pub struct Siblings {
     /// The place of each child by its node.
     places: Places,
     /// Where subtrees begin.
-    left: Chains,
+    left: Ways,
     /// Where subtrees end.
-    right: Chains,
+    right: Ways,
 }
 
 impl Model for Siblings {
@@ -58,8 +59,8 @@ impl Siblings {
             children: Children::new(alloc),
             spots: BTreeMap::new(alloc),
             places: Places::new(alloc),
-            left: Chains::new(alloc),
-            right: Chains::new(alloc),
+            left: Ways::new(Side::Left, alloc),
+            right: Ways::new(Side::Right, alloc),
         })
     }
 
@@ -126,13 +127,11 @@ impl Siblings {
         ensures ok { OnOk result (self.new ≡ self.old ++ child ∷ []) }
         ensures err { OnErr result (self.new ≡ self.old) }
     {
-        let newest = self.children.len() - 1;
         let agent = self.children.reserve(&child.id.agent)?;
-        self.right.reserve(Some(newest))?;
         self.places.add(&self.children, &child)?;
         self.children.push_heir(child, agent);
-        self.left.add(None);
-        self.right.add_behind_newest();
+        self.left.go_on();
+        self.right.go_on();
         Ok(())
     }
 
@@ -142,16 +141,57 @@ impl Siblings {
         ensures ok { OnOk result (self.new ≡ self.old ++ child ∷ []) }
         ensures err { OnErr result (self.new ≡ self.old) }
     {
-        let children = &self.children;
-        let left = leader_of(children, &self.places, &self.left, Side::Left, &child);
-        let right = leader_of(children, &self.places, &self.right, Side::Right, &child);
+        match child.side {
+            Side::Left => self.attach_left(child),
+            Side::Right => self.attach_right(child),
+        }
+    }
+
+    /// Attaches any child on the left.
+    fn attach_left(&mut self, child: Attached) -> Result<(), NoMem>
+        requires may { MayAttach self.old child }
+        requires side { child.side ≡ Side.Left }
+        ensures ok { OnOk result (self.new ≡ self.old ++ child ∷ []) }
+        ensures err { OnErr result (self.new ≡ self.old) }
+    {
+        let leader = leader_of(&self.children, &self.places, &self.left, &child);
         let agent = self.children.reserve(&child.id.agent)?;
-        self.left.reserve(left)?;
-        self.right.reserve(right)?;
-        enlist(&mut self.spots, &mut self.places, &self.children, &child)?;
+        self.right.prepare(None)?;
+        enlist_behind(
+            &mut self.left,
+            leader,
+            &mut self.spots,
+            &mut self.places,
+            &self.children,
+            &child,
+        )?;
         self.children.push_reserved(child, agent);
-        self.left.add(left);
-        self.right.add(right);
+        self.left.begin(leader);
+        self.right.begin(None);
+        Ok(())
+    }
+
+    /// Attaches any child on the right.
+    fn attach_right(&mut self, child: Attached) -> Result<(), NoMem>
+        requires may { MayAttach self.old child }
+        requires side { child.side ≡ Side.Right }
+        ensures ok { OnOk result (self.new ≡ self.old ++ child ∷ []) }
+        ensures err { OnErr result (self.new ≡ self.old) }
+    {
+        let leader = leader_of(&self.children, &self.places, &self.right, &child);
+        let agent = self.children.reserve(&child.id.agent)?;
+        self.left.prepare(None)?;
+        enlist_behind(
+            &mut self.right,
+            leader,
+            &mut self.spots,
+            &mut self.places,
+            &self.children,
+            &child,
+        )?;
+        self.children.push_reserved(child, agent);
+        self.left.begin(None);
+        self.right.begin(leader);
         Ok(())
     }
 }
