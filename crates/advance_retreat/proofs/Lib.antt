@@ -21,6 +21,9 @@ pub mod Putting
 pub mod Recorded
 pub mod Resting
 pub mod RightChildren
+pub mod RunChanges
+pub mod RunLaws
+pub mod RunLines
 pub mod Room
 pub mod SameTrees
 pub mod SlotLaws

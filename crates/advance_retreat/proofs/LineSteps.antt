@@ -1,13 +1,10 @@
 -- Steps along a line, and what is left of it behind its first events.
-use Rattle.std.proofs.Common.{◌≡◌, ℕ, ◌+◌, ◌-◌, ◌<◌, Bool, true, false, nat_eq, List, Some, refl, sym, ◌∙◌, subst, arith, eq-eqb}
-use Rattle.std.proofs.lemmas.Bool.{false≢true, eqb-true}
-use Rattle.ew_model.specs.declared.node.Node.TheVariants.{Event}
+use Rattle.std.proofs.Common.{◌≡◌, ℕ, ◌+◌, ◌-◌, ◌<◌, List, subst, arith}
 use Rattle.advance_retreat.specs.declared.line.Line.{Line}
 use Rattle.advance_retreat.specs.declared.line.Way.{Way}
 use Rattle.advance_retreat.specs.declared.line.Way.TheVariants.{Up, Down}
 use Rattle.advance_retreat.specs.declared.target.Target.{Target}
-use Rattle.advance_retreat.specs.Kept.{target_at}
-use Rattle.advance_retreat.specs.Lines.{IsAway, AreAbout, IsLineFrom}
+use Rattle.advance_retreat.specs.Lines.{IsAway, IsLineFrom}
 
 -- so many steps, and some more
 away_on : (way : Way) (n steps m more k : ℕ) → IsAway way n steps m → IsAway way m more k → IsAway way n (steps + more) k
@@ -18,23 +15,6 @@ away_on Down n steps m more k a e = omega (arith, a, e)
 pub away_one : (way : Way) (n steps m k : ℕ) → IsAway way n steps m → IsAway way n steps k → m ≡ k
 away_one Up n steps m k a e = omega (arith, a, e)
 away_one Down n steps m k a e = omega (arith, a, e)
-
--- no events are about no characters
-pub none_about : (order : Way) (targets : List Target) (first : ℕ) (way : Way) (character : ℕ) → AreAbout order targets first way character 0
-none_about order targets first way character i event node lt e f = absurd (omega (arith, lt))
-
--- one more event is
-pub one_further : (order : Way) (targets : List Target) (first : ℕ) (way : Way) (character count : ℕ) → AreAbout order targets first way character count
-    → ((n m : ℕ) → IsAway order first count n → IsAway way character count m → target_at targets n ≡ Some (Event m)) → AreAbout order targets first way character (count + 1)
-one_further order targets first way character count told next i event node lt e f = at (nat_eq i count) refl
-  where
-    at : (b : Bool) → nat_eq i count ≡ b → target_at targets event ≡ Some (Event node)
-    at true h =
-        let is = eqb-true i count h in
-        next event node (subst (λ (k : ℕ). IsAway order first k event) is e) (subst (λ (k : ℕ). IsAway way character k node) is f)
-    at false h =
-        let other : i ≡ count → ⊥ = λ is. false≢true (sym h ∙ eq-eqb i count is) in
-        told i event node (omega (arith, lt, other)) e f
 
 -- the rest of a line
 pub left_behind : (order : Way) (targets : List Target) (line : Line) (first most left next event character passed : ℕ) → IsLineFrom order targets first most line → (0 < left → IsAway order first passed next) → most ≡ left + passed → passed < line.count

@@ -56,21 +56,12 @@ changed_span s low high change = with_records s (map (changed_among (is_event_in
 same_records : (s : Kept) (low high : ℕ) (change : Change) → high ≤ low → changed_span s low high change ≡ s
 same_records s low high change le = ap (with_records s) (none_among change (is_event_in low high) (none_between low high le) s.records)
 
-abbrev pub AreTold : Kept → ℕ → ℕ → Type 0
-AreTold s low high = (n : ℕ) → low ≤ n → n < high → target_at s.targets n ≡ Some (Event n)
-
 -- so many events from one on are about characters that go up with them, from c on, or down, to c
 abbrev pub GoUp : Kept → ℕ → ℕ → ℕ → Type 0
 GoUp s low c n = (i m k : ℕ) → i < n → m ≡ low + i → k ≡ c + i → target_at s.targets m ≡ Some (Event k)
 
 abbrev pub GoDown : Kept → ℕ → ℕ → ℕ → Type 0
 GoDown s low c n = (i m k : ℕ) → i < n → m ≡ low + i → k + i + 1 ≡ c + n → target_at s.targets m ≡ Some (Event k)
-
--- insertions do, with their own
-own_go_up : (s : Kept) (low from high : ℕ) → AreTold s from high → (n : ℕ) → from ≤ low → low + n ≤ high → GoUp s low low n
-own_go_up s low from high told n le more i m k lt e f =
-    let same : m ≡ k = omega (arith, e, f) in
-    subst (λ (j : ℕ). target_at s.targets m ≡ Some (Event j)) same (told m (omega (arith, e, le)) (omega (arith, e, lt, more)))
 
 -- MOVES IN PARTS
 pub advances-append : (prepared xs ys : List ℕ) → after_advances prepared (xs ++ ys) ≡ after_advances (after_advances prepared xs) ys
@@ -186,13 +177,6 @@ module _ (b : ℕ) (events : List (Applied ℕ)) where
       subst (λ (ps : List ℕ). Advanced (changed_span s c (c + n) Raise) b events prepared ps (range_with_len (low + n) (high - (low + n)))) (sym parts)
       (advance_down n low c s prepared (range_with_len (low + n) (high - (low + n))) st told (subst (MayAdvanceEach events prepared) parts may))
 
-  pub advance_run : (s : Kept) (prepared : List ℕ) (low mid high : ℕ) → low ≤ mid → mid ≤ high → StandsFor s b events prepared → AreTold s low mid → MayAdvanceEach events prepared (range_with_len low (high - low))
-      → Advanced (changed_span s low mid Raise) b events prepared (range_with_len low (high - low)) (range_with_len mid (high - mid))
-  advance_run s prepared low mid high le more st told may =
-      let parts = range_parted low mid high le more in
-      subst (λ (ps : List ℕ). Advanced (changed_span s low mid Raise) b events prepared ps (range_with_len mid (high - mid))) (sym parts)
-      (advance_up (mid - low) low low mid s prepared (range_with_len mid (high - mid)) (omega (arith, le)) st (own_go_up s low low mid told (mid - low) (omega arith) (omega (arith, le))) (subst (MayAdvanceEach events prepared) parts may))
-
   pub advance_one : (t : Kept) (prepared : List ℕ) (low high : ℕ) → low < high → MayAdvanceEach events prepared (range_with_len low (high - low)) → StandsFor t b events (low ∷ prepared)
       → Advanced t b events prepared (range_with_len low (high - low)) (range_with_len (low + 1) (high - (low + 1)))
   advance_one t prepared low high lt may st =
@@ -256,13 +240,6 @@ module _ (b : ℕ) (events : List (Applied ℕ)) where
       let parts = back_parted low mid n high le on in
       subst (λ (ps : List ℕ). Retreated (changed_span s c (c + n) Lower) b events prepared ps (reverse (range_with_len low (mid - low)))) (sym parts)
       (retreat_down n mid c (c + n) s prepared (reverse (range_with_len low (mid - low))) refl st told (subst (MayRetreatEach events prepared) parts may))
-
-  pub retreat_run : (s : Kept) (prepared : List ℕ) (low mid high : ℕ) → low ≤ mid → mid ≤ high → StandsFor s b events prepared → AreTold s mid high → MayRetreatEach events prepared (reverse (range_with_len low (high - low)))
-      → Retreated (changed_span s mid high Lower) b events prepared (reverse (range_with_len low (high - low))) (reverse (range_with_len low (mid - low)))
-  retreat_run s prepared low mid high le more st told may =
-      let on : mid + (high - mid) ≡ high = omega (arith, more) in
-      subst (λ (k : ℕ). Retreated (changed_span s mid k Lower) b events prepared (reverse (range_with_len low (high - low))) (reverse (range_with_len low (mid - low)))) on
-      (retreat_back_up s prepared low mid (high - mid) high mid le on st (own_go_up s mid mid high told (high - mid) (omega arith) (omega (arith, on))) may)
 
   pub retreat_one : (t : Kept) (prepared : List ℕ) (low last high : ℕ) → low ≤ last → last + 1 ≡ high → MayRetreatEach events prepared (reverse (range_with_len low (high - low))) → StandsFor t b events (without last prepared)
       → Retreated t b events prepared (reverse (range_with_len low (high - low))) (reverse (range_with_len low (last - low)))

@@ -1,6 +1,5 @@
 -- What a state keeps: a record for each character, in order, and which character each event is about: a mark is about none, and the root stands in its place.
-use Rattle.std.specs.Prelude.{◌≡◌, ℕ, ◌-◌, ◌<◌, ◌≤◌, nat_eq, Bool, if◌then◌else◌, List, [], ◌∷◌, ◌++◌, map, find, length, Option, Some, None, option_map, slice_get}
-use Rattle.std.specs.Option.{option_or, option_map_or}
+use Rattle.std.specs.Prelude.{◌≡◌, ℕ, ◌<◌, ◌≤◌, nat_eq, List, [], ◌∷◌, ◌++◌, map, find, Option, Some, option_map}
 use Rattle.ew_model.specs.declared.node.Node.{Node}
 use Rattle.ew_model.specs.declared.node.Node.TheVariants.{Root}
 use Rattle.walker_record.specs.Stretches.{Stretch}
@@ -27,28 +26,11 @@ with_lost s n = record { base = s.base; records = s.records; attached = s.attach
 abbrev pub target_at : List Target → ℕ → Option Node
 target_at targets n = option_map (λ (t : Target). t.node) (find (λ (t : Target). nat_eq t.lv n) targets)
 
--- where the event at a position stands if the positions behind the first go on by one
-abbrev pub place_in : List Target → ℕ → ℕ
-place_in targets n = option_map_or (λ (first : Target). n - first.lv) (slice_get targets 0) 0
-
--- one more event stands so
-abbrev pub is_next : List Target → ℕ → Bool
-is_next targets n = nat_eq (place_in targets n) (length targets)
-
--- the character of an event, if it has the position
-abbrev pub node_for : ℕ → Option Target → Option Node
-node_for n None = None
-node_for n (Some t) = if nat_eq t.lv n then Some t.node else None
-
--- the character of the event that stands so, else what is kept under the position
-abbrev pub found_in : List Target → (ℕ → Option Node) → ℕ → Option Node
-found_in targets others n = option_or (node_for n (slice_get targets (place_in targets n))) (others n)
-
--- such a search finds what the list tells
+-- a search finds what the list tells
 abbrev pub AreFound : List Target → (ℕ → Option Node) → Type 0
 AreFound targets node_at = (n : ℕ) → node_at n ≡ target_at targets n
 
--- each event that such a search finds is at one of these positions
+-- each event that a search finds is at one of these positions
 abbrev pub AreWithin : Positions → (ℕ → Option Node) → Type 0
 AreWithin at node_at = (n : ℕ) (v : Node) → node_at n ≡ Some v → (at.from ≤ n) × (n < at.to)
 

@@ -4,4 +4,5 @@ pub mod Kept
 pub mod Lines
 pub mod Placing
 pub mod Refusals
+pub mod Runs
 pub mod Standing

@@ -19,6 +19,8 @@
 
 mod fault;
 mod line;
+mod run;
+mod runs;
 mod state;
 mod target;
 mod tree;

@@ -411,8 +411,8 @@ impl State {
         self.targets.line_on(line, event, order, most)
     }
 
-    /// Puts the first of the events at these positions into the prepared version, and with it those behind it whose characters are one
-    /// run with its own: events of the line, or, where that has none, insertions. Answers how many they are. None where it isn't so.
+    /// Puts the first of the events at these positions into the prepared version, and with it those events of the line behind it whose
+    /// characters are one run with its own. Answers how many they are. None where it isn't so.
     fn raise(&mut self, at: Positions, line: Option<Line>) -> Option<u32>
         requires some { at.from < at.to }
         requires may { (b : ℕ) × (events : List (Applied ℕ)) × (prepared : List ℕ) × StandsFor self.old b events prepared × MayAdvanceEach events prepared (range_with_len at.from (at.to - at.from)) }
@@ -426,12 +426,11 @@ impl State {
     {
         match line {
             Some(line) => self.raise_line(at, line),
-            None if self.targets.is_own(at.from) => self.raise_own(at),
             None => None,
         }
     }
 
-    /// The same for events of a line.
+    /// The same where there is a line.
     fn raise_line(&mut self, at: Positions, line: Line) -> Option<u32>
         requires some { at.from < at.to }
         requires may { (b : ℕ) × (events : List (Applied ℕ)) × (prepared : List ℕ) × StandsFor self.old b events prepared × MayAdvanceEach events prepared (range_with_len at.from (at.to - at.from)) }
@@ -447,21 +446,6 @@ impl State {
         let moved = self
             .tree
             .change_run(line.character, characters, Change::Raise)?;
-        Some(moved.to - moved.from)
-    }
-
-    /// The same for insertions.
-    fn raise_own(&mut self, at: Positions) -> Option<u32>
-        requires some { at.from < at.to }
-        requires may { (b : ℕ) × (events : List (Applied ℕ)) × (prepared : List ℕ) × StandsFor self.old b events prepared × MayAdvanceEach events prepared (range_with_len at.from (at.to - at.from)) }
-        ensures some { IfSome result (λ n. 0 < n) }
-        ensures most { IfSome result (λ n. at.from + n ≤ at.to) }
-        ensures ok { (b : ℕ) (events : List (Applied ℕ)) (prepared : List ℕ) → StandsFor self.old b events prepared → MayAdvanceEach events prepared (range_with_len at.from (at.to - at.from))
-            → IfSome result (λ n. Advanced self.new b events prepared (range_with_len at.from (at.to - at.from)) (range_with_len (at.from + n) (at.to - (at.from + n)))) }
-        ensures none { IfNone result (self.new ≡ self.old) }
-        ensures lost { self.new.lost ≡ self.old.lost }
-    {
-        let moved = self.tree.change_run(at.from, at, Change::Raise)?;
         Some(moved.to - moved.from)
     }
 
@@ -545,8 +529,8 @@ impl State {
         }
     }
 
-    /// Takes the last of the events at these positions out of the prepared version, and with it those before it whose characters are one
-    /// run with its own: events of the line, or, where that has none, insertions. Answers how many they are. None where it isn't so.
+    /// Takes the last of the events at these positions out of the prepared version, and with it those events of the line before it whose
+    /// characters are one run with its own. Answers how many they are. None where it isn't so.
     fn lower(&mut self, at: Positions, line: Option<Line>) -> Option<u32>
         requires some { at.from < at.to }
         requires may { (b : ℕ) × (events : List (Applied ℕ)) × (prepared : List ℕ) × StandsFor self.old b events prepared × MayRetreatEach events prepared (reverse (range_with_len at.from (at.to - at.from))) }
@@ -560,12 +544,11 @@ impl State {
     {
         match line {
             Some(line) => self.lower_line(at, line),
-            None if self.targets.is_own(at.to - 1) => self.lower_own(at),
             None => None,
         }
     }
 
-    /// The same for events of a line.
+    /// The same where there is a line.
     fn lower_line(&mut self, at: Positions, line: Line) -> Option<u32>
         requires some { at.from < at.to }
         requires may { (b : ℕ) × (events : List (Applied ℕ)) × (prepared : List ℕ) × StandsFor self.old b events prepared × MayRetreatEach events prepared (reverse (range_with_len at.from (at.to - at.from))) }
@@ -581,21 +564,6 @@ impl State {
         let moved = self
             .tree
             .change_run(line.character, characters, Change::Lower)?;
-        Some(moved.to - moved.from)
-    }
-
-    /// The same for insertions.
-    fn lower_own(&mut self, at: Positions) -> Option<u32>
-        requires some { at.from < at.to }
-        requires may { (b : ℕ) × (events : List (Applied ℕ)) × (prepared : List ℕ) × StandsFor self.old b events prepared × MayRetreatEach events prepared (reverse (range_with_len at.from (at.to - at.from))) }
-        ensures some { IfSome result (λ n. 0 < n) }
-        ensures most { IfSome result (λ n. at.from + n ≤ at.to) }
-        ensures ok { (b : ℕ) (events : List (Applied ℕ)) (prepared : List ℕ) → StandsFor self.old b events prepared → MayRetreatEach events prepared (reverse (range_with_len at.from (at.to - at.from)))
-            → IfSome result (λ n. Retreated self.new b events prepared (reverse (range_with_len at.from (at.to - at.from))) (reverse (range_with_len at.from ((at.to - n) - at.from)))) }
-        ensures none { IfNone result (self.new ≡ self.old) }
-        ensures lost { self.new.lost ≡ self.old.lost }
-    {
-        let moved = self.tree.change_run(at.to - 1, at, Change::Lower)?;
         Some(moved.to - moved.from)
     }
 

@@ -1,0 +1,94 @@
+-- Applied events in runs.
+use Rattle.std.specs.Prelude.{◌≡◌, ℕ, zero, suc, ◌+◌, ◌-◌, ◌<◌, ◌≤◌, ◌^◌, List, [], ◌∷◌, ◌++◌, Option, Some, None, slice_get}
+use Rattle.ew_model.specs.declared.node.Node.{Node}
+use Rattle.ew_model.specs.declared.node.Node.TheVariants.{Root, Base, Event}
+use Rattle.advance_retreat.specs.declared.line.Way.{Way}
+use Rattle.advance_retreat.specs.declared.line.Way.TheVariants.{Up, Down}
+use Rattle.advance_retreat.specs.declared.run.Run.{Run}
+use Rattle.advance_retreat.specs.declared.target.Target.{Target}
+use Rattle.advance_retreat.specs.Kept.{target_at}
+
+-- the character so many steps away from another
+abbrev pub node_from : Way → Node → ℕ → Node
+node_from way Root steps = Root
+node_from way (Base i) steps = Base i
+node_from Up (Event n) steps = Event (n + steps)
+node_from Down (Event n) steps = Event (n - steps)
+
+-- so many events, from a position on, the first about the character so many steps away from one
+abbrev pub events_from : Way → Node → ℕ → ℕ → ℕ → List Target
+events_from way v lv steps zero = []
+events_from way v lv steps (suc count) = record { lv = lv + steps; node = node_from way v steps } ∷ events_from way v lv (suc steps) count
+
+-- the events of the runs
+abbrev pub events_in : List Run → List Target
+events_in [] = []
+events_in (r ∷ runs) = events_from r.way r.node r.first 0 (suc r.more) ++ events_in runs
+
+-- there are none without a last one
+abbrev pub EndIn : List Run → Option Run → Type 0
+EndIn runs last = last ≡ None → runs ≡ []
+
+-- the characters of so many steps are of 32 bits, and the way down doesn't end before
+abbrev pub HasNodes : Way → Node → ℕ → Type 0
+HasNodes way Root more = Unit {0}
+HasNodes way (Base i) more = Unit {0}
+HasNodes Up (Event n) more = n + more < 2 ^ 32
+HasNodes Down (Event n) more = more ≤ n
+
+-- the runs stand one behind the other, from a position on
+abbrev pub AreRuns : ℕ → List Run → Type 0
+AreRuns low [] = Unit {0}
+AreRuns low (r ∷ runs) = (low ≤ r.first) × (r.first + r.more < 2 ^ 32) × HasNodes r.way r.node r.more × AreRuns (suc (r.first + r.more)) runs
+
+-- the runs end before a position
+abbrev pub AreBelow : ℕ → List Run → Type 0
+AreBelow lv runs = (k : ℕ) (r : Run) → slice_get runs k ≡ Some r → r.first + r.more < lv
+
+-- the character is the one behind the run's last
+pub record IsAhead (r : Run) (v : Node) : Type 0 where
+  pub node : v ≡ node_from r.way r.node (suc r.more)
+  pub nodes : HasNodes r.way r.node (suc r.more)
+
+-- an event at the position, about the character, goes on with the run
+pub record GoesOn (r : Run) (lv : ℕ) (v : Node) : Type 0 where
+  pub next : lv ≡ suc (r.first + r.more)
+  pub ahead : IsAhead r v
+
+-- the events of the run are about its characters
+abbrev pub HasRun : List Target → Run → Type 0
+HasRun targets r = (n : ℕ) → r.first ≤ n → n - r.first ≤ r.more → target_at targets n ≡ Some (node_from r.way r.node (n - r.first))
+
+-- the way of a run's characters, where its events are on this way
+abbrev pub way_in : Way → Way → Way
+way_in Up way = way
+way_in Down Up = Down
+way_in Down Down = Up
+
+-- how many of a run's events there are from one on, on this way
+abbrev pub count_from : Way → Run → ℕ → ℕ
+count_from Up r event = (r.more - (event - r.first)) + 1
+count_from Down r event = (event - r.first) + 1
+
+-- the run has the event at a position, and it is what the runs tell of its events
+pub record Tells (runs : List Run) (lv : ℕ) (r : Run) : Type 0 where
+  pub low : r.first ≤ lv
+  pub high : lv - r.first ≤ r.more
+  pub nodes : HasNodes r.way r.node r.more
+  pub has : (later : List Target) → HasRun (events_in runs ++ later) r
+
+-- the runs tell of no event at a position
+abbrev pub TellNone : List Run → ℕ → Type 0
+TellNone runs lv = (later : List Target) → target_at (events_in runs ++ later) lv ≡ target_at later lv
+
+-- a run of one event
+abbrev pub alone : ℕ → Node → Run
+alone lv v = record { first = lv; more = 0; node = v; way = Up }
+
+-- these runs have the events of those, and one more
+abbrev pub HaveMore : List Run → List Run → ℕ → Node → Type 0
+HaveMore new old lv v = AreRuns 0 new × (events_in new ≡ events_in old ++ record { lv = lv; node = v } ∷ [])
+
+-- these runs have the events of those but for the last
+abbrev pub HaveFewer : List Run → List Run → Type 0
+HaveFewer new old = AreRuns 0 new × (t : Target) × (events_in old ≡ events_in new ++ t ∷ [])

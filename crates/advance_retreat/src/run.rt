@@ -1,0 +1,137 @@
+//! A run of applied events.
+
+ghost use Rattle.std.specs.Prelude.{◌≡◌, ◌+◌, ◌-◌, ◌≤◌, ◌<◌, ℕ, List, IsTrue, IfSome};
+ghost use Rattle.advance_retreat.specs.declared.target.Target.{Target};
+ghost use Rattle.advance_retreat.specs.Runs.{node_from, HasNodes, HasRun, IsAhead, GoesOn, way_in, count_from, alone};
+ghost use Rattle.advance_retreat.specs.declared.line.Way.TheVariants as lines;
+ghost use Rattle.advance_retreat.specs.Lines.{IsLineFrom};
+
+use crate::line::{Line, Way};
+use ew_model::node::Node;
+
+/// Events at positions one after another. Each is about the character that is one further on this way than that of the event
+/// before it. (One event alone may be about a character of the base too, or about none.)
+#[derive(Clone, Copy)]
+pub struct Run {
+    /// The position of the first event.
+    pub first: u32,
+    /// How many more there are.
+    pub more: u32,
+    /// What the first event is about.
+    pub node: Node,
+    pub way: Way,
+}
+
+impl Run {
+    /// One event alone.
+    pub fn alone(lv: u32, node: Node) -> Run
+        ensures is { result ≡ alone lv node }
+        ensures nodes { HasNodes lines.Up node 0 }
+    {
+        Run {
+            first: lv,
+            more: 0,
+            node,
+            way: Way::Up,
+        }
+    }
+
+    /// Whether it ends before a position.
+    pub fn is_before(self, lv: u32) -> bool
+        ensures { IsTrue result → self.first + self.more < lv }
+    {
+        self.first < lv && self.more < lv - self.first
+    }
+
+    /// What the event at a position is about.
+    pub fn node_at(self, lv: u32) -> Node
+        requires some { self.first ≤ lv }
+        requires most { lv - self.first ≤ self.more }
+        requires nodes { HasNodes self.way self.node self.more }
+        ensures { result ≡ node_from self.way self.node (lv - self.first) }
+    {
+        let steps = lv - self.first;
+        match self.node {
+            Node::Root => Node::Root,
+            Node::Base(i) => Node::Base(i),
+            Node::Event(n) => match self.way {
+                Way::Up => Node::Event(n + steps),
+                Way::Down => Node::Event(n - steps),
+            },
+        }
+    }
+
+    /// Its events from one on, at most so many. None where they are about no events' characters.
+    pub fn line(self, event: u32, order: Way, most: u32) -> Option<Line>
+        requires some { self.first ≤ event }
+        requires most { event - self.first ≤ self.more }
+        requires nodes { HasNodes self.way self.node self.more }
+        ensures { (targets : List Target) → HasRun targets self → IfSome result (IsLineFrom order targets event most) }
+    {
+        let Node::Event(character) = self.node_at(event) else {
+            return None;
+        };
+        Some(Line {
+            event,
+            way: self.way_in(order),
+            character,
+            count: most.min(self.count_from(event, order)),
+        })
+    }
+
+    /// The way of the characters, where the events are on this way.
+    fn way_in(self, order: Way) -> Way
+        ensures { result ≡ way_in order self.way }
+    {
+        match (order, self.way) {
+            (Way::Up, Way::Up) | (Way::Down, Way::Down) => Way::Up,
+            (Way::Up, Way::Down) | (Way::Down, Way::Up) => Way::Down,
+        }
+    }
+
+    /// How many of its events there are from one on, on this way.
+    fn count_from(self, event: u32, order: Way) -> u32
+        requires some { self.first ≤ event }
+        requires most { event - self.first ≤ self.more }
+        ensures { result ≤ count_from order self event }
+    {
+        let more = match order {
+            Way::Up => self.more - (event - self.first),
+            Way::Down => event - self.first,
+        };
+        more.saturating_add(1)
+    }
+
+    /// Whether an event at a position goes on with it.
+    pub fn goes_on(self, lv: u32, node: Node) -> bool
+        ensures { IsTrue result → GoesOn self lv node }
+    {
+        lv > self.first && lv - self.first - 1 == self.more && self.leads_to(node)
+    }
+
+    /// Whether a character is the one behind its last.
+    fn leads_to(self, node: Node) -> bool
+        ensures { IsTrue result → IsAhead self node }
+    {
+        match (self.node, node) {
+            (Node::Event(first), Node::Event(next)) => match self.way {
+                Way::Up => next > first && next - first - 1 == self.more,
+                Way::Down => next < first && first - next - 1 == self.more,
+            },
+            _ => false,
+        }
+    }
+
+    /// The same on the other way, which is the same run where it has one event.
+    pub fn turned(self) -> Run
+        ensures first { result.first ≡ self.first }
+        ensures more { result.more ≡ self.more }
+        ensures node { result.node ≡ self.node }
+    {
+        let way = match self.way {
+            Way::Up => Way::Down,
+            Way::Down => Way::Up,
+        };
+        Run { way, ..self }
+    }
+}
