@@ -20,7 +20,7 @@ ghost use Rattle.frontier.specs.Chains.{IsChain};
 ghost use Rattle.ancestors.specs.Floors.{HasAllBelow};
 ghost use Rattle.ancestors.specs.Spans as spans;
 ghost use Rattle.event_runs.specs.RunOps.{IndicesFit, ops_of};
-ghost use Rattle.event_runs.specs.Runs.{IsRunStart};
+ghost use Rattle.event_runs.specs.Runs.{IsRunEnd, IsRunStart};
 ghost use Rattle.history_definitions.specs.Chains.{event_behind, last_id};
 ghost use Rattle.event_graph.specs.Afters.{IsNextAfter};
 ghost use Rattle.event_graph.specs.Keeping.{IsAdmitted, bare_events};
@@ -37,7 +37,7 @@ use crate::parts::{After, append, append_run};
 use agent_ids::AgentTable;
 use ancestors::{Spans, contains, diff, is_reduced};
 use critical::Cuts;
-use event_runs::{EventRuns, RunOps};
+use event_runs::{EventRuns, RunOps, RunRest};
 use ew_model::NoMem;
 use ew_model::event::{Event, Op};
 use ew_model::id::Id;
@@ -209,6 +209,19 @@ impl Graph {
         ensures start { IsRunStart (bare_events self.now) position result }
     {
         self.events.chain_start_near(position, &mut near.event)
+    }
+
+    /// The event at a position with all that come behind it in its run: each of these has the one before it as its only parent. It is
+    /// sought first where the last event was found.
+    pub fn rest_near(&self, position: u32, near: &mut Near) -> RunRest<'_>
+        requires { position < length self.now }
+        ensures some { 0 < length result }
+        ensures within { position + length result ≤ length self.now }
+        ensures changes { (k : ℕ) → k < length result → slice_get (map (λ (e : Event). own_change e.op) self.now) (position + k) ≡ slice_get result k }
+        ensures chain { IsChain (parent_positions self.now) position (position + length result - 1) }
+        ensures end { IsRunEnd (bare_events self.now) position (position + length result) }
+    {
+        self.events.rest_near(position, &mut near.event)
     }
 
     /// The event at a position.

@@ -5,6 +5,7 @@ pub mod ManyEvents
 pub mod Maximal
 pub mod OneCut
 mod OwnChanges
+pub mod Rests
 pub mod RunEvents
 pub mod RunLines
 pub mod StepOps

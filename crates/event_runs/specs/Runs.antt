@@ -51,3 +51,13 @@ pub record IsRunStart (history : List BareEvent) (position : ℕ) (start : ℕ) 
   pub starts : length (flat_map (λ r. r) before) ≡ start
   pub from : start ≤ position
   pub to : position < start + length run
+
+-- the position behind the last event in the run of the event at a position
+pub record IsRunEnd (history : List BareEvent) (position : ℕ) (end : ℕ) : Type 0 where
+  pub before : List (List BareEvent)
+  pub run : List BareEvent
+  pub after : List (List BareEvent)
+  pub runs : AreRunsOf history (before ++ run ∷ after)
+  pub from : length (flat_map (λ r. r) before) ≤ position
+  pub to : position < end
+  pub ends : length (flat_map (λ r. r) before) + length run ≡ end

@@ -3,8 +3,10 @@
 
 mod lists;
 pub mod ops;
+pub mod rest;
 mod runs;
 pub mod storage;
 
 pub use ops::RunOps;
+pub use rest::RunRest;
 pub use storage::EventRuns;

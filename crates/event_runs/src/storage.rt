@@ -6,11 +6,12 @@ ghost use Rattle.ew_model.specs.TextLaws.{own_change};
 ghost use Rattle.event_runs.specs.BareEvents.{BareEvent, bare, ops_in, parents_in};
 ghost use Rattle.event_runs.specs.KeptRuns.{op_chars, op_labels, HasRoom};
 ghost use Rattle.event_runs.specs.RunOps.{ops_of, IndicesFit, chain_on};
-ghost use Rattle.event_runs.specs.Runs.{AreRunsOf, IsRunCount, IsRunStart};
+ghost use Rattle.event_runs.specs.Runs.{AreRunsOf, IsRunCount, IsRunEnd, IsRunStart};
 ghost use Rattle.frontier.specs.Chains.{IsChain};
 
 use crate::lists::NumberLists;
 use crate::ops::RunOps;
+use crate::rest::RunRest;
 use crate::runs::{Run, find_run, find_run_near, keep_below, last_takes, lengthen_last_by, put};
 use ew_model::NoMem;
 use ew_model::event::Op;
@@ -212,6 +213,23 @@ impl EventRuns {
         let place = find_run_near(&self.runs, lv, *near);
         *near = place;
         self.runs[place].start
+    }
+
+    /// The event at a position with all that come behind it in its run: each of these has the one before it as its only parent. The run
+    /// at the place `near`, which is that of the run found last, and the next one are tried first.
+    pub fn rest_near(&self, lv: u32, near: &mut usize) -> RunRest<'_>
+        requires { lv < length self.now }
+        ensures some { 0 < length result }
+        ensures changes { (k : ℕ) → k < length result → slice_get (map own_change (ops_in self.now)) (lv + k) ≡ slice_get result k }
+        ensures chain { IsChain (parents_in self.now) lv (lv + length result - 1) }
+        ensures end { IsRunEnd self.now lv (lv + length result) }
+        ensures within { lv + length result ≤ length self.now }
+    {
+        let _count = self.count;
+        let place = find_run_near(&self.runs, lv, *near);
+        *near = place;
+        let run = self.runs[place];
+        RunRest::new(run, lv - run.start, &self.chars)
     }
 
     /// The parents of the event at a position, rising.

@@ -7,7 +7,6 @@ use Rattle.std.proofs.Math.Seq.{take-append_seam}
 use Rattle.std.proofs.lemmas.Option.{slice_get-map, slice_get_within}
 use Rattle.ew_model.specs.declared.id.Id.{Id}
 use Rattle.ew_model.specs.declared.name.Name.{Name}
-use Rattle.ew_model.specs.declared.event.Op.{Op}
 use Rattle.ew_model.specs.declared.event.Op.TheVariants.{Ins, Del, Mark}
 use Rattle.ew_model.specs.declared.event.Event.{Event}
 use Rattle.ew_model.specs.declared.text_op.TextOp.{TextOp}

@@ -11,6 +11,8 @@ pub mod NamedAlike
 mod OwnChanges
 pub mod Placings
 pub mod Replays
+pub mod RunCuts
+pub mod RunTurns
 pub mod Sides
 pub mod Sinces
 pub mod SpanLists

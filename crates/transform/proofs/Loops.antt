@@ -1,5 +1,5 @@
 -- How a walk begins, goes on and ends.
-use Rattle.std.proofs.Common.{◌≡◌, ℕ, zero, suc, ◌+◌, ◌-◌, ◌<◌, ◌≤◌, nat_eq, nat_lt, nat_le, Bool, true, false, cond, List, [], ◌∷◌, ◌++◌, length, take, drop, Option, Some, None, IfOk, Result, refl, sym, ap, ◌∙◌, subst, arith, length-append, append-nil, eq-eqb, ne_eqb}
+use Rattle.std.proofs.Common.{◌≡◌, ℕ, zero, suc, ◌+◌, ◌-◌, ◌<◌, ◌≤◌, nat_eq, nat_lt, nat_le, Bool, true, false, cond, List, [], ◌∷◌, ◌++◌, length, take, drop, Option, Some, None, refl, sym, ap, ◌∙◌, subst, arith, length-append, append-nil, eq-eqb, ne_eqb}
 use Rattle.std.specs.Prelude.{slice_get}
 use Rattle.std.proofs.lemmas.Bool.{leb-true, leb-false, ltb-true, ltb-false}
 use Rattle.std.proofs.lemmas.List.{take-append-drop, drop-append-le, drop_all, take_all, length-take-le}
@@ -25,9 +25,7 @@ use Rattle.ew_model.proofs.FirstBadLaws.{good_has_no_bad}
 use Rattle.ew_model.proofs.TouchSteps.{touches_add}
 use Rattle.advance_retreat.specs.Kept.{Kept}
 use Rattle.advance_retreat.specs.Standing.{StandsFor}
-use Rattle.std.specs.declared.alloc.AllocError.{AllocError}
 use Rattle.event_graph.specs.Keeping.{IsAdmitted}
-use Rattle.event_graph.proofs.Summing.{known_ok}
 use Rattle.transform.specs.Reaching.{InLine, IsBehind, IsReadyAt, Reached, ReadyAt, StandsAt, Turned, TurnedTo, WalkedTo, over_since, prepared_since}
 use Rattle.transform.specs.Walking.{StandsBehind, bad_at, cut_left}
 use Rattle.transform.specs.declared.apply.Turn.{Turn}
@@ -35,7 +33,7 @@ use Rattle.transform.specs.declared.apply.Turn.TheVariants.{Applied, OutOfRange}
 use Rattle.transform.proofs.Applies.{ready, same_length}
 use Rattle.transform.proofs.CutFronts.{same_base}
 use Rattle.transform.proofs.Judging.{first_bad_is}
-use Rattle.transform.proofs.Lines.{fresh, touched_alone, whole_text}
+use Rattle.transform.proofs.Lines.{touched_alone, whole_text}
 use Rattle.transform.proofs.Sides.{split_at, take_next, length_front}
 use Rattle.ew_model.proofs.ListParts.{element_there}
 use Rattle.ew_model.proofs.TextLengths.{length_operations}
@@ -177,13 +175,12 @@ good_to : (history : List Event) (from n : ℕ) (line : Option ℕ) (state : Kep
 good_to history from n (Some len) state h = h.behind.good
 good_to history from n None state h = h.1.behind.good
 
-pub stops : (history : List Event) (from position : ℕ) (line after : Option ℕ) (old state : Kept) (turn : Turn) (len : ℕ) → position < length history → turn ≡ OutOfRange len → WalkedTo history from position line old → TurnedTo history from position after state turn
+pub stops : (history : List Event) (from position len : ℕ) (line : Option ℕ) (state : Kept) → position < length history → IsGood (take position history) → TurnedTo history from position line state (OutOfRange len)
     → (Some (bad_at (position, len)) ≡ first_bad history) × StandsBehind history (cut_left history from (Some (position, len))) (take position history) state
-stops history from position line after old state turn len within is walked turned =
+stops history from position len line state within good done =
     let found = element_there history position within in
-    let e = found.0 in
-    let done = subst (TurnedTo history from position after state) is turned in (
-      sym (ap first_bad (split_at history position e found.1) ∙ first_bad_is (take position history) e (drop (suc position) history) len (good_to history from position line old walked) (done.0 e found.1) ∙ ap (λ n. Some (bad_at (n, len))) (length_front history position e found.1)),
+    let e = found.0 in (
+      sym (ap first_bad (split_at history position e found.1) ∙ first_bad_is (take position history) e (drop (suc position) history) len good (done.0 e found.1) ∙ ap (λ n. Some (bad_at (n, len))) (length_front history position e found.1)),
       record { prepared = done.1.0; stands = done.1.1 },
     )
 
@@ -235,15 +232,9 @@ touched history k cut =
 
 -- THE TURNS
 -- of an event between cuts
-pub turned_between : (history : List Event) (from n : ℕ) (state later : Kept) (answer : Result Turn AllocError) → n < length history → from ≤ n → ReadyAt history n None state
-    → ((cut : ℕ) (e : Event) → IsReadyAt history cut n state → slice_get history n ≡ Some e → IfOk answer (Turned (take n history) cut e later)) → IfOk answer (TurnedTo history from n None later)
-turned_between history from n state later answer within low is_ready turned =
+pub turned_between : (history : List Event) (from n : ℕ) (state later : Kept) (turn : Turn) → n < length history → from ≤ n → ReadyAt history n None state
+    → ((cut : ℕ) (e : Event) → IsReadyAt history cut n state → slice_get history n ≡ Some e → Turned (take n history) cut e later turn) → TurnedTo history from n None later turn
+turned_between history from n state later turn within low is_ready turned =
     let found = element_there history n within in
     let cut = latest_cut history n in
-    known_ok (Turned (take n history) cut found.0 later) answer (TurnedTo history from n None later) (λ turn t. turned_to history from cut n found.0 later turn low is_ready.behind refl found.1 t) (turned cut found.0 is_ready found.1)
-
--- and of one at a cut
-pub turned_at_cut : (history : List Event) (from n len : ℕ) (state later : Kept) (answer : Result Turn AllocError) → n < length history → from ≤ n → IsBehind history n n → len ≡ base_at history n → StandsFor state len [] []
-    → ((cut : ℕ) (e : Event) → IsReadyAt history cut n state → slice_get history n ≡ Some e → IfOk answer (Turned (take n history) cut e later)) → IfOk answer (TurnedTo history from n None later)
-turned_at_cut history from n len state later answer within low behind is stands turned =
-    turned_between history from n state later answer within low (subst (λ c. IsReadyAt history c n state) (sym (latest_here history n behind.critical)) (fresh history n len state (omega (arith, within)) behind is stands)) turned
+    turned_to history from cut n found.0 later turn low is_ready.behind refl found.1 (turned cut found.0 is_ready found.1)

@@ -1,5 +1,5 @@
 -- A walk over a whole history leaves the entries of the history, under the events' positions.
-use Rattle.std.proofs.Common.{◌≡◌, ℕ, zero, suc, ◌+◌, ◌<◌, ◌≤◌, nat_eq, true, false, inl, inr, ⊎_elim, List, [], ◌∷◌, ◌++◌, length, map, Some, refl, sym, ap, ◌∙◌, subst, arith}
+use Rattle.std.proofs.Common.{◌≡◌, ℕ, zero, suc, ◌+◌, ◌<◌, ◌≤◌, nat_eq, true, inl, inr, ⊎_elim, List, [], ◌∷◌, ◌++◌, length, map, Some, refl, sym, ap, ◌∙◌, subst, arith}
 use Rattle.std.specs.Prelude.{slice_get}
 use Rattle.std.specs.List.{AllZip}
 use Rattle.std.proofs.lemmas.Bool.{false≢true}
@@ -13,7 +13,7 @@ use Rattle.ew_model.specs.Ancestors.{ids_of}
 use Rattle.ew_model.specs.Records.{inserts_as}
 use Rattle.ew_model.specs.Tree.{Applied, Noted, act_by, tree, tree_on, tree_of, applied_after}
 use Rattle.ew_model.specs.Walks.{walked_after, walked_from}
-use Rattle.ew_model.proofs.RenameLaws.{SameNote, names, renamed_notes}
+use Rattle.ew_model.proofs.RenameLaws.{SameNote, renamed_notes}
 use Rattle.ew_model.proofs.RunLaws.{id_same}
 use Rattle.transform.proofs.WalkedEvents.{long}
 use Rattle.ew_model.proofs.WalkLaws.{pairs, above, walked_namesakes, names_are}

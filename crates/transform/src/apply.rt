@@ -1,7 +1,8 @@
 //! The apply of one event, once its ancestors are prepared.
 
-ghost use Rattle.std.specs.Prelude.{◌≡◌, ℕ, ◌+◌, ◌<◌, length, take, slice_get, Some, IfOk};
+ghost use Rattle.std.specs.Prelude.{◌≡◌, ℕ, ◌+◌, ◌<◌, length, map, take, slice_get, Some, IfOk};
 ghost use Rattle.ew_model.specs.declared.event.Event.{Event};
+ghost use Rattle.ew_model.specs.TextLaws.{own_change};
 ghost use Rattle.transform.specs.Reaching.{IsReadyAt, Turned};
 ghost use Rattle.transform.specs.Answering.{turn_by};
 
@@ -21,21 +22,24 @@ pub enum Turn {
     OutOfRange(u32),
 }
 
-/// Applies the event at a position, whose ancestors are prepared. `near` tells where in the graph the last event was found.
+/// Applies the event at a position, whose ancestors are prepared, and which does this to the text at its parents. `near` tells where in
+/// the graph the last event was found.
 pub fn apply<L: Ledger>(
     graph: &Graph,
     state: &mut State,
     position: u32,
+    change: TextOp,
     near: &mut Near,
     steps: &mut Steps<L>,
 ) -> Result<Turn, NoMem>
     requires within { position < length graph.now }
+    requires change { slice_get (map (λ (e : Event). own_change e.op) graph.now) position ≡ Some change }
     requires ready { (cut : ℕ) × IsReadyAt graph.now cut position state.old }
     ensures turned { (cut : ℕ) (e : Event) → IsReadyAt graph.now cut position state.old → slice_get graph.now position ≡ Some e → IfOk result (Turned (take position graph.now) cut e state.new) }
     ensures steps { steps.new ≡ steps.old + 1 }
 {
     let _count = graph.count();
-    match graph.change_near(position, near) {
+    match change {
         TextOp::Ins { at, ch } => {
             let id = graph.id_near(position, near);
             turn_of(state.apply_ins(position, id, at, ch, steps))

@@ -4,9 +4,11 @@
 pub mod answer;
 mod apply;
 mod cut;
+mod emit;
 mod moves;
 pub mod placing;
 pub mod replaying;
+mod run;
 mod turn;
 pub mod walking;
 

@@ -73,7 +73,8 @@ fn apply_next<L: Ledger>(
     ensures most { steps.new + touches (take position graph.now) 0 ≤ steps.old + touches (take (position + 1) graph.now) 0 }
 {
     make_ready(graph, state, position, near, steps)?;
-    let turn = apply(graph, state, position, near, steps)?;
+    let change = graph.change_near(position, near);
+    let turn = apply(graph, state, position, change, near, steps)?;
     match turn {
         Turn::Applied(_) => Ok(()),
         Turn::OutOfRange(_) => unreachable!(),

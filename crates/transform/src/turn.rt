@@ -1,15 +1,14 @@
-//! One turn of the walk: the moves, and the apply.
+//! The moves before a turn of the walk.
 
-ghost use Rattle.std.specs.Prelude.{◌≡◌, ◌↔◌, ℕ, ◌+◌, ◌-◌, ◌<◌, ◌≤◌, ◌∷◌, [], length, take, slice_get, Some, None, IsTrue, IfOk, OnOk};
+ghost use Rattle.std.specs.Prelude.{◌≡◌, ◌↔◌, ℕ, ◌+◌, ◌-◌, ◌<◌, ◌≤◌, ◌∷◌, [], false, length, take, slice_get, Some, None, IsTrue, IfOk, OnOk};
 ghost use Rattle.ew_model.specs.declared.event.Event.{Event};
+ghost use Rattle.ew_model.specs.Cuts.{is_critical};
 ghost use Rattle.ew_model.specs.Positions.{parents_at, parent_positions};
 ghost use Rattle.ew_model.specs.Touches.{touches};
 ghost use Rattle.ancestors.specs.Spans.{positions_of};
 ghost use Rattle.transform.specs.Moving.{alone};
-ghost use Rattle.transform.specs.Reaching.{Reached, ReadyAt, StandsAt, TurnedTo, WalkedTo, prepared_since, over_since};
+ghost use Rattle.transform.specs.Reaching.{Reached, ReadyAt, StandsAt, WalkedTo, prepared_since, over_since};
 
-use crate::apply::{Turn, apply};
-use crate::cut::pass_cut;
 use crate::moves::{advance_all, retreat_all};
 use advance_retreat::State;
 use ancestors::Spans;
@@ -17,35 +16,11 @@ use event_graph::{Graph, Near};
 use ew_model::NoMem;
 use ew_model::steps::Steps;
 use frontier::Parentage;
-use std::alloc::Global;
 use std::sync::ledger::Ledger;
-
-/// Walks over the event at a position, where those before it were walked. `line` is the length of the text so far, where every
-/// event from here on knows all events before the position, and the state isn't kept.
-pub fn take_turn<L: Ledger>(
-    alloc: Global,
-    graph: &Graph,
-    state: &mut State,
-    line: &mut Option<u32>,
-    position: u32,
-    near: &mut Near,
-    steps: &mut Steps<L>,
-) -> Result<Turn, NoMem>
-    requires within { position < length graph.now }
-    requires walked { (from : ℕ) × (from ≤ position) × WalkedTo graph.now from position line.old state.old }
-    ensures turned { (from : ℕ) → from ≤ position → WalkedTo graph.now from position line.old state.old → IfOk result (TurnedTo graph.now from position line.new state.new) }
-    ensures steps { (from : ℕ) → from ≤ position → WalkedTo graph.now from position line.old state.old → OnOk result (steps.new + touches (take position graph.now) from ≡ steps.old + touches (take (position + 1) graph.now) from) }
-    ensures most { (from : ℕ) → from ≤ position → WalkedTo graph.now from position line.old state.old → steps.new + touches (take position graph.now) from ≤ steps.old + touches (take (position + 1) graph.now) from }
-{
-    match reach(graph, state, *line, position, near, steps)? {
-        Some(len) => pass_cut(alloc, graph, state, line, position, len, near, steps),
-        None => apply(graph, state, position, near, steps),
-    }
-}
 
 /// Prepares the ancestors of the event at a position. Where these are all events before it, and each later event knows them
 /// too, answers the length of their text.
-fn reach<L: Ledger>(
+pub fn reach<L: Ledger>(
     graph: &Graph,
     state: &mut State,
     line: Option<u32>,
@@ -57,6 +32,7 @@ fn reach<L: Ledger>(
     requires walked { (from : ℕ) × (from ≤ position) × WalkedTo graph.now from position line state.old }
     ensures ready { (from : ℕ) → WalkedTo graph.now from position line state.old → IfOk result (λ at. ReadyAt graph.now position at state.new) }
     ensures line { IfOk result (λ at. at ≡ None → line ≡ None) }
+    ensures apart { IfOk result (λ at. at ≡ None → is_critical graph.now position ≡ false) }
     ensures steps { (from : ℕ) → from ≤ position → WalkedTo graph.now from position line state.old → OnOk result (steps.new + touches (take position graph.now) from + 1 ≡ steps.old + touches (take (position + 1) graph.now) from) }
     ensures most { (from : ℕ) → from ≤ position → WalkedTo graph.now from position line state.old → steps.new + touches (take position graph.now) from + 1 ≤ steps.old + touches (take (position + 1) graph.now) from }
 {

@@ -1,17 +1,20 @@
 //! The walk.
 
-ghost use Rattle.std.specs.Prelude.{◌≡◌, ◌+◌, ◌≤◌, ◌++◌, ◌∷◌, [], true, nat_le, if◌then◌else◌, drop, take, option_map, IfOk, OnOk};
+ghost use Rattle.std.specs.Prelude.{◌≡◌, ℕ, ◌+◌, ◌<◌, ◌≤◌, [], true, length, drop, take, option_map, IfOk};
 ghost use Rattle.ew_model.specs.Cuts.{is_critical};
 ghost use Rattle.ew_model.specs.Operations.{operations};
 ghost use Rattle.ew_model.specs.Touches.{touches};
 ghost use Rattle.ew_model.specs.Verdicts.{IsGood, first_bad};
 ghost use Rattle.ew_model.specs.Walks.{base_at};
 ghost use Rattle.advance_retreat.specs.Standing.{StandsFor};
+ghost use Rattle.transform.specs.Reaching.{WalkedTo};
+ghost use Rattle.transform.specs.Running.{TurnsTo, emitted_to, judged_to, walked_to};
 ghost use Rattle.transform.specs.Walking.{bad_at, cut_left, judged_of, walked_of, StandsBehind};
 
 use crate::answer::Walk;
-use crate::apply::Turn;
-use crate::turn::take_turn;
+use crate::cut::pass_cut;
+use crate::run::{Turns, apply_run};
+use crate::turn::reach;
 use advance_retreat::State;
 use event_graph::{Graph, Near};
 use ew_model::NoMem;
@@ -49,13 +52,18 @@ pub fn walk<L: Ledger>(
     ensures most { steps.new ≤ steps.old + touches graph.now from_cut }
     ensures state { IfOk result (λ w. StandsBehind graph.now (cut_left graph.now from_cut w.stopped) (walked_of graph.now w.stopped) state.new) }
 {
-    let mut ops = Vec::new(alloc);
+    let count = graph.count();
+    let mut ops = Vec::with_capacity(alloc, count.saturating_sub(emit_from) as usize)?;
     let mut line = Some(state.effect_len());
     let mut near = Near::start();
-    for position in from_cut..graph.count() {
-        match take_turn(alloc, graph, state, &mut line, position, &mut near, steps)? {
-            Turn::Applied(op) => emit(&mut ops, position, emit_from, op)?,
-            Turn::OutOfRange(len) => {
+    let mut next = from_cut;
+    while next < count {
+        let turns = take_turns(
+            alloc, graph, state, &mut line, next, emit_from, &mut ops, &mut near, steps,
+        )?;
+        match turns {
+            Turns::To(position) => next = position,
+            Turns::OutOfRange(position, len) => {
                 return Ok(Walk {
                     ops,
                     stopped: Some((position, len)),
@@ -66,12 +74,37 @@ pub fn walk<L: Ledger>(
     Ok(Walk { ops, stopped: None })
 }
 
-/// Puts the operation of the event at a position behind the others, if it is one of those asked for.
-fn emit(ops: &mut Vec<TextOp>, position: u32, emit_from: u32, op: TextOp) -> Result<(), NoMem>
-    ensures { OnOk result (ops.new.items ≡ (if nat_le emit_from position then ops.old.items ++ op ∷ [] else ops.old.items)) }
+/// Walks over the event at a position, where those before it were walked, and over others that come behind it in its run. `line` is the
+/// length of the text so far, where every event from here on knows all events before the position, and the state isn't kept. The
+/// operations of the events from `emit_from` on are put behind the others.
+fn take_turns<L: Ledger>(
+    alloc: Global,
+    graph: &Graph,
+    state: &mut State,
+    line: &mut Option<u32>,
+    position: u32,
+    emit_from: u32,
+    ops: &mut Vec<TextOp>,
+    near: &mut Near,
+    steps: &mut Steps<L>,
+) -> Result<Turns, NoMem>
+    requires within { position < length graph.now }
+    requires walked { (from : ℕ) × (from ≤ position) × WalkedTo graph.now from position line.old state.old }
+    requires emitted { ops.old.items ≡ emitted_to graph.now emit_from position }
+    ensures turned { (from : ℕ) → from ≤ position → WalkedTo graph.now from position line.old state.old → IfOk result (TurnsTo graph.now from position (length graph.now) line.new state.new) }
+    ensures emitted { IfOk result (λ t. ops.new.items ≡ emitted_to graph.now emit_from (walked_to t)) }
+    ensures steps { (from : ℕ) → from ≤ position → WalkedTo graph.now from position line.old state.old → IfOk result (λ t. steps.new + touches (take position graph.now) from ≡ steps.old + touches (take (judged_to t) graph.now) from) }
+    ensures most { (from : ℕ) → from ≤ position → WalkedTo graph.now from position line.old state.old → steps.new + touches (take position graph.now) from ≤ steps.old + touches graph.now from }
 {
-    if position >= emit_from {
-        ops.push(op)?;
+    let _count = graph.count();
+    let run = graph.rest_near(position, near);
+    let events = run.count();
+    match reach(graph, state, *line, position, near, steps)? {
+        Some(len) => pass_cut(
+            alloc, graph, state, line, position, &run, events, len, emit_from, ops, near, steps,
+        ),
+        None => apply_run(
+            graph, state, position, &run, events, emit_from, ops, near, steps,
+        ),
     }
-    Ok(())
 }

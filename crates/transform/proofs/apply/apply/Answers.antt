@@ -42,7 +42,7 @@ returns-in-Ins-clause-turned g c = λ cut e is_ready at.
     let r = ready now cut position e c.args.state.now c.count-count.ensures.admitted c.count-count.ensures.sound at is_ready in
     let may = may_insert front cut e position c.id_near-id.result r.low r.admitted id long in
     let answers =
-    insertion_answers front cut e c.args.state.now c.apply_ins.new.self c.apply_ins.result position c.id_near-id.result c.in-Ins.at c.in-Ins.ch long id (asks_insertion e.op c.in-Ins.at c.in-Ins.ch (change_is now position e _ at c.change_near.ensures ∙ c.in-Ins.is))
+    insertion_answers front cut e c.args.state.now c.apply_ins.new.self c.apply_ins.result position c.id_near-id.result c.in-Ins.at c.in-Ins.ch long id (asks_insertion e.op c.in-Ins.at c.in-Ins.ch (change_is now position e _ at c.requires.change ∙ c.in-Ins.is))
     (c.apply_ins.ensures.op b events over r.stands may) (c.apply_ins.ensures.ok b events over r.stands may) (c.apply_ins.ensures.out_of_range b events over r.stands) c.apply_ins.ensures.err in
     subst (λ a. IfOk a (Turned front cut e c.apply_ins.new.self)) (sym c.turn_of.ensures) (turned front cut e c.args.state.now c.apply_ins.new.self c.apply_ins.result r answers)
 
@@ -58,7 +58,7 @@ returns-in-Del-clause-turned g c = λ cut e is_ready at.
     let r = ready now cut position e c.args.state.now c.count-count.ensures.admitted c.count-count.ensures.sound at is_ready in
     let may = may_delete front cut position r.low long in
     let answers =
-    deletion_answers front cut e c.args.state.now c.apply_del.new.self c.apply_del.result position c.in-Del.at long (asks_deletion e.op c.in-Del.at (change_is now position e _ at c.change_near.ensures ∙ c.in-Del.is))
+    deletion_answers front cut e c.args.state.now c.apply_del.new.self c.apply_del.result position c.in-Del.at long (asks_deletion e.op c.in-Del.at (change_is now position e _ at c.requires.change ∙ c.in-Del.is))
     (c.apply_del.ensures.op b events over r.stands may) (c.apply_del.ensures.ok b events over r.stands may) (c.apply_del.ensures.out_of_range b events over r.stands) c.apply_del.ensures.err in
     subst (λ a. IfOk a (Turned front cut e c.apply_del.new.self)) (sym c.turn_of-in-Del.ensures) (turned front cut e c.args.state.now c.apply_del.new.self c.apply_del.result r answers)
 
@@ -84,6 +84,6 @@ returns-in_ok-apply_mark-in-Nothing-clause-turned g c = λ cut e is_ready at.
     let long = length_front now position e at in
     let r = ready now cut position e c.args.state.now c.count-count.ensures.admitted c.count-count.ensures.sound at is_ready in
     let may = may_mark front cut position r.low long in
-    let label = asks_nothing e.op (change_is now position e _ at c.change_near.ensures ∙ c.in-Nothing.is) in
+    let label = asks_nothing e.op (change_is now position e _ at c.requires.change ∙ c.in-Nothing.is) in
     mark_turned front cut e c.args.state.now c.apply_mark.new.self c.in_ok-apply_mark-in-Nothing.field-0 position label.0 long label.1 r
     (c.in_ok-apply_mark-in-Nothing.ensures.op b events over r.stands may) (c.in_ok-apply_mark-in-Nothing.ensures.ok b events over r.stands may)

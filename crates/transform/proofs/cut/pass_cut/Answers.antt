@@ -1,37 +1,73 @@
-use Rattle.std.proofs.Common.{◌≡◌, ◌≤◌, ◌++◌, ◌∷◌, [], take, arith, sym, ap, ◌∙◌}
-use Rattle.ew_model.specs.Operations.{operations}
-use Rattle.ew_model.specs.TextLaws.{own_change}
-use Rattle.ew_model.specs.Verdicts.{is_outside}
-use Rattle.ew_model.specs.Walks.{base_at}
-use Rattle.ew_model.proofs.ListParts.{element_there}
-use Rattle.transform.specs.Changing.{length_by}
-use Rattle.transform.proofs.Applies.{change_is}
-use Rattle.transform.proofs.Lines.{base_low, fresh, goes_in_line}
-use Rattle.transform.proofs.Loops.{turned_at_cut}
+use Rattle.std.proofs.Common.{◌≡◌, ◌+◌, None, sym, ap, ◌∙◌, subst, arith}
+use Rattle.event_graph.proofs.Summing.{known_ok}
+use Rattle.transform.specs.Reaching.{IsReadyAt}
+use Rattle.transform.specs.Running.{TurnsTo, emitted_to, judged_to}
+use Rattle.transform.proofs.Lines.{fresh}
+use Rattle.transform.proofs.Loops.{latest_here}
+use Rattle.transform.proofs.RunTurns.{run_fewer, together_apart, together_some, turns_wider}
 use Rattle.transform.proofs.cut.pass_cut.Goals as goal
 
-pub changed_length-requires : goal.changed_length-requires
-changed_length-requires g c =
-    let alone = c.stands_alone.ensures.0 c.if-stands_alone.true in
-    let low : base_at c.args.graph.now c.args.position ≤ c.args.position = base_low c.args.graph.now c.args.position c.requires.behind.good in
-    omega (arith, alone.0, low, c.requires.long, c.count-count.ensures.count)
+pub pass_alone-requires-clause-within : goal.pass_alone-requires-clause-within
+pass_alone-requires-clause-within g c = let all = c.requires.run.within in omega (arith, all, c.count_alone-alone.ensures.most)
 
-pub apply-requires-clause-ready : goal.apply-requires-clause-ready
-apply-requires-clause-ready g c =
-    (c.args.position, fresh c.args.graph.now c.args.position c.args.len c.begin_over.new.state (omega (arith, c.requires.within)) c.requires.behind c.requires.long c.in_ok-begin_over.ensures)
+pub pass_alone-requires-clause-told : goal.pass_alone-requires-clause-told
+pass_alone-requires-clause-told g c = let all = c.requires.run.told in omega (arith, all, c.count_alone-alone.ensures.most)
 
-pub returns-in-Some-clause-turned : goal.returns-in-Some-clause-turned
-returns-in-Some-clause-turned g c = λ from low.
+pub apply_run-requires-clause-run : goal.apply_run-requires-clause-run
+apply_run-requires-clause-run g c =
+    let alone = c.count_alone-alone.result in
+    let together = c.count_together-together in
+    let some = together_some alone c.args.count together.result c.requires.run.some together.ensures.some together.ensures.none in
+    run_fewer c.args.graph.now c.args.position c.args.count together.result c.args.run.now c.requires.run some.0 some.1
+
+pub apply_run-requires-clause-apart : goal.apply_run-requires-clause-apart
+apply_run-requires-clause-apart g c =
+    let together = c.count_together-together in
+    together_apart c.args.graph.now c.args.position c.count_alone-alone.result c.args.count together.result together.ensures.some together.ensures.none c.count_alone-alone.ensures.none
+
+pub apply_run-requires-clause-ready : goal.apply_run-requires-clause-ready
+apply_run-requires-clause-ready g c =
     let now = c.args.graph.now in
     let position = c.args.position in
-    let found = element_there now position c.requires.within in
-    let e = found.0 in
-    let own : own_change e.op ≡ c.change_near-change.result = change_is now position e c.change_near-change.result found.1 c.change_near-change.ensures in
-    let alone = c.stands_alone.ensures.0 c.if-stands_alone.true in
-    let length = c.in-Some.ensures.some e.op own in
-    let done = goes_in_line now position e c.count-count.ensures.admitted found.1 c.requires.behind.critical from c.args.len c.in-Some.len c.args.state.now low c.requires.behind.good c.requires.long length.0 length.1 alone.0 alone.1 in
-    (done.0, done.1 ∙ ap (λ o. operations (take position now) ++ o ∷ []) own)
+    let state = c.begin_over.new.state in
+    let all = c.requires.run.within in
+    subst (λ cut. IsReadyAt now cut position state) (sym (latest_here now position c.requires.behind.critical))
+    (fresh now position c.args.len state (omega (arith, all)) c.requires.behind c.requires.long c.in_ok-begin_over.ensures)
+
+pub apply_run-requires-clause-emitted : goal.apply_run-requires-clause-emitted
+apply_run-requires-clause-emitted g c =
+    let same : c.args.position + c.in_ok-passed.passed.count ≡ c.args.position = omega (arith, c.if-done-gt0.false) in
+    c.in_ok-passed.ensures.emitted ∙ ap (emitted_to c.args.graph.now c.args.emit_from) same
+
+pub returns-then-done-gt0-clause-turned : goal.returns-then-done-gt0-clause-turned
+returns-then-done-gt0-clause-turned g c = λ from low. (
+  omega (arith, c.if-done-gt0.true),
+  omega (arith, c.in_ok-passed.ensures.most, c.count_alone-alone.ensures.most),
+  c.in_ok-passed.ensures.line from c.args.state.now low c.if-done-gt0.true,
+)
+
+pub returns-then-done-gt0-clause-most : goal.returns-then-done-gt0-clause-most
+returns-then-done-gt0-clause-most g c = omega (arith, c.pass_alone.ensures.most_steps, c.count_alone-alone.ensures.most)
+
+pub returns-in_err-passed-clause-most : goal.returns-in_err-passed-clause-most
+returns-in_err-passed-clause-most g c = omega (arith, c.pass_alone.ensures.most_steps, c.count_alone-alone.ensures.most)
 
 pub returns-clause-turned : goal.returns-clause-turned
 returns-clause-turned g c = λ from low.
-    turned_at_cut c.args.graph.now from c.args.position c.args.len c.begin_over.new.state c.apply.new.state c.apply.result c.requires.within low c.requires.behind c.requires.long c.in_ok-begin_over.ensures c.apply.ensures.turned
+    let now = c.args.graph.now in
+    let position = c.args.position in
+    let together = c.count_together-together in
+    let some = together_some c.count_alone-alone.result c.args.count together.result c.requires.run.some together.ensures.some together.ensures.none in
+    known_ok (TurnsTo now from position (position + together.result) None c.apply_run.new.state) c.apply_run.result (TurnsTo now from position (position + c.args.count) None c.apply_run.new.state)
+    (λ turns t. turns_wider now from position (position + together.result) (position + c.args.count) None c.apply_run.new.state turns (omega (arith, some.1)) t) (c.apply_run.ensures.turned from low)
+
+pub returns-clause-steps : goal.returns-clause-steps
+returns-clause-steps g c =
+    known_ok (λ t. c.apply_run.new.steps + c.args.position ≡ c.pass_alone.new.steps + judged_to t) c.apply_run.result (λ t. c.apply_run.new.steps + c.args.position ≡ c.args.steps.now + judged_to t)
+    (λ t told. omega (arith, told, c.in_ok-passed.ensures.steps, c.if-done-gt0.false)) c.apply_run.ensures.steps
+
+pub returns-clause-most : goal.returns-clause-most
+returns-clause-most g c =
+    let together = c.count_together-together in
+    let some = together_some c.count_alone-alone.result c.args.count together.result c.requires.run.some together.ensures.some together.ensures.none in
+    omega (arith, c.apply_run.ensures.most, some.1, c.in_ok-passed.ensures.steps, c.if-done-gt0.false)

@@ -1,4 +1,6 @@
-use Rattle.std.proofs.Common.{◌≡◌, ◌-◌, take, true, false, arith, sym, ◌∙◌, subst}
+use Rattle.std.proofs.Common.{◌≡◌, ℕ, ◌-◌, take, true, false, Option, arith, sym, ◌∙◌, subst}
+use Rattle.std.specs.Option.{is_some}
+use Rattle.std.proofs.lemmas.Bool.{false≢true}
 use Rattle.ew_model.specs.Cuts.{latest_cut}
 use Rattle.ew_model.specs.Walks.{base_at, walked_from}
 use Rattle.ew_model.proofs.ListParts.{element_there, none_from_is_some}
@@ -62,3 +64,9 @@ returns-else-is_cut_near-clause-ready g c = λ from walked.
 
 pub returns-else-is_cut_near-clause-line : goal.returns-else-is_cut_near-clause-line
 returns-else-is_cut_near-clause-line g c = λ none. none_from_is_some c.args.line (sym c.is_some.ensures ∙ c.if-is_some.false)
+
+pub returns-else-is_cut_near-clause-apart : goal.returns-else-is_cut_near-clause-apart
+returns-else-is_cut_near-clause-apart g c = λ none. subst (λ b. b ≡ false) c.is_cut_near.ensures c.if-is_cut_near.false
+
+pub returns-then-is_some-clause-apart : goal.returns-then-is_some-clause-apart
+returns-then-is_some-clause-apart g c = λ none. absurd (false≢true (subst (λ (line : Option ℕ). is_some line ≡ true) none (sym c.is_some.ensures ∙ c.if-is_some.true)))

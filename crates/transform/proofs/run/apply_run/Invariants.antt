@@ -1,0 +1,14 @@
+use Rattle.std.proofs.Common.{◌≡◌, ℕ, ◌+◌, ◌<◌, ◌≤◌, None}
+use Rattle.ew_model.specs.Cuts.{latest_cut}
+use Rattle.transform.specs.Reaching.{IsReadyAt, WalkedTo}
+use Rattle.transform.specs.Running.{emitted_to}
+use Rattle.transform.proofs.run.apply_run.Given as goal
+
+abbrev pub invariant-loop-place : goal.invariant-loop-place
+invariant-loop-place g l = record {
+  high : l.place ≤ l.count;
+  ready : l.place < l.count → IsReadyAt l.graph (latest_cut l.graph (l.position + l.place)) (l.position + l.place) l.state;
+  walked : (from : ℕ) → from ≤ l.position → 0 < l.place → WalkedTo l.graph from (l.position + l.place) None l.state;
+  emitted : l.ops.items ≡ emitted_to l.graph l.emit_from (l.position + l.place);
+  steps : l.steps ≡ l.fn.steps + l.place;
+}
