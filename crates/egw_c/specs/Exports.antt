@@ -17,11 +17,12 @@ use Rattle.egw_c.specs.declared.fault.EditingFault.{EditingFault}
 use Rattle.egw_c.specs.declared.fault.MarkingFault.{MarkingFault}
 use Rattle.egw_c.specs.declared.fault.OpeningFault.{OpeningFault}
 use Rattle.egw_c.specs.declared.fault.ReadingFault.{ReadingFault}
+use Rattle.egw_c.specs.declared.fault.ReadingFault.TheVariants as reading
 use Rattle.egw_c.specs.declared.fault.TalkingFault.{TalkingFault}
 use Rattle.egw_c.specs.declared.fault.UndoingFault.{UndoingFault}
 use Rattle.egw_c.specs.Documents.{Shown, MayEdit, MayMark, MayUndo, Opens, Refuses, RefusesFile, RefusesMark, RefusesUndo}
 use Rattle.egw_c.specs.Reading.{RefusesAbove, RefusesIndex, StandsAt, StandsBefore}
-use Rattle.egw_c.specs.Statuses.{answer, done, no_memory, edited, found, indexed, marked, not_opened, talked, undone}
+use Rattle.egw_c.specs.Statuses.{done, no_memory, edited, found, indexed, marked, not_opened, talked, undone}
 use Rattle.egw_c.specs.Talks.{Receives}
 
 -- this number, but for want of memory
@@ -97,7 +98,7 @@ pub record TellsPlace (measure : Measure) (text : List ℕ) (much : ℕ) (a : An
 
 -- how many events there are from a number on, but for want of memory; or how many there are, where it is above
 abbrev pub TellsChanges : ℕ → ℕ → Answer → Type 0
-TellsChanges count from a = ((n : ℕ) × (n + from ≡ count) × IsCount n a) ⊎ ((count < from) × (a ≡ answer 2 count))
+TellsChanges count from a = ((n : ℕ) × (n + from ≡ count) × IsCount n a) ⊎ ((count < from) × (a ≡ found (Err (reading.OutOfRange count))))
 
 -- what came of a peer's bytes
 pub record TellsTalk (r : ReplicaState) (kept : Kept) (bytes : List ℕ) (a : Answer) : Type 0 where

@@ -72,6 +72,8 @@ const BYE: u32 = 23;
 
 const NO_ID: u32 = 24;
 
+// 25 is answered by the header, for a document or a peer that was never made or is ended.
+
 const NO_CARET: u32 = 26;
 
 const NO_CHARACTER: u32 = 27;

@@ -14,22 +14,17 @@ use ew_model::name::NameFault;
 use peer_exchange::End;
 use peer_frames::FrameFault;
 use replica::{EditFault, LoadFault};
-use thiserror::Error;
 use undo::UndoFault;
 
 /// Why an edit changes nothing. The first reason in this order is told.
-#[derive(Clone, Copy, Debug, PartialEq, Eq, Error)]
+#[derive(Clone, Copy, Debug, PartialEq, Eq)]
 pub enum EditingFault {
     /// The agent's name isn't one.
-    #[error("{0}")]
     Name(NameFault),
     /// So many bytes in front are UTF-8, and no more of them.
-    #[error("only the first {good} bytes are UTF-8")]
     Text { good: usize },
     /// An event of the agent is awaited, so that the number of its next one isn't known.
-    #[error("an event of this agent is awaited")]
     Awaited,
-    #[error("{0}")]
     Edit(EditFault),
 }
 
@@ -50,17 +45,13 @@ impl From<EditFault> for EditingFault {
 }
 
 /// Why a mark isn't made. The first reason in this order is told.
-#[derive(Clone, Copy, Debug, PartialEq, Eq, Error)]
+#[derive(Clone, Copy, Debug, PartialEq, Eq)]
 pub enum MarkingFault {
     /// The agent's name isn't one.
-    #[error("{0}")]
     Name(NameFault),
     /// The label isn't one.
-    #[error("label: {0}")]
     Label(NameFault),
-    #[error("an event of this agent is awaited")]
     Awaited,
-    #[error("{0}")]
     Edit(EditFault),
 }
 
@@ -73,17 +64,13 @@ impl From<EditFault> for MarkingFault {
 }
 
 /// Why events aren't undone. The first reason in this order is told.
-#[derive(Clone, Copy, Debug, PartialEq, Eq, Error)]
+#[derive(Clone, Copy, Debug, PartialEq, Eq)]
 pub enum UndoingFault {
     /// The agent's name isn't one.
-    #[error("{0}")]
     Name(NameFault),
     /// The words aren't the id of an event.
-    #[error("no id")]
     NoId,
-    #[error("an event of this agent is awaited")]
     Awaited,
-    #[error("{0}")]
     Undo(UndoFault),
 }
 
@@ -96,11 +83,9 @@ impl From<UndoFault> for UndoingFault {
 }
 
 /// Why bytes make no document.
-#[derive(Debug, Drop, Error)]
+#[derive(Debug, Drop)]
 pub enum OpeningFault {
-    #[error("{0}")]
     File(FileFault),
-    #[error("{0}")]
     Load(LoadFault),
 }
 
@@ -121,24 +106,18 @@ impl From<LoadFault> for OpeningFault {
 }
 
 /// Why nothing is read out of a document.
-#[derive(Clone, Copy, Debug, PartialEq, Eq, Error)]
+#[derive(Clone, Copy, Debug, PartialEq, Eq)]
 pub enum ReadingFault {
-    /// What is asked for goes on behind the end, which is there.
-    #[error("out of range, length {len}")]
+    /// What is asked for goes past the end: this is the length, or the number of events held.
     OutOfRange { len: u32 },
     /// The words tell no version.
-    #[error("no version")]
     NoVersion,
     /// The id at this place of the version isn't held.
-    #[error("the id at place {place} is unknown")]
     Unknown { place: usize },
     /// The version has more than one id, so it tells no caret.
-    #[error("no caret")]
     NoCaret,
     /// The event inserts no character, so no caret stands behind one.
-    #[error("no character")]
     NoCharacter,
-    #[error("out of memory")]
     OutOfMemory,
 }
 

@@ -119,6 +119,7 @@ fn keep(alloc: Global, document: Document, out: &mut *mut u8) -> Answer
     }
 }
 
+/// Ends a document, and gives its memory back.
 #[unsafe(no_mangle)]
 pub extern "C" fn egw_raw_free(alloc: Global, handle: DocumentHandle) {
     drop(into_document(alloc, handle));
@@ -522,6 +523,7 @@ pub extern "C" fn egw_raw_peer_new(alloc: Global, out: &mut *mut u8) -> Answer
     }
 }
 
+/// Ends a peer, and gives its memory back.
 #[unsafe(no_mangle)]
 pub extern "C" fn egw_raw_peer_free(alloc: Global, handle: PeerHandle) {
     drop(into_peer(alloc, handle));
