@@ -2,6 +2,7 @@ pub mod DeletionRuns
 pub mod ExtentLaws
 pub mod InsertLaws
 pub mod KidLists
+pub mod RunChanges
 pub mod ShortTexts
 pub mod SoundNodes
 pub mod SpareCounts

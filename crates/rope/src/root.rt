@@ -9,13 +9,16 @@ ghost use Rattle.rope.specs.Lengths.{most_chars, AllStayShort};
 ghost use Rattle.rope.specs.Typed.{typed, with_more, IsTyped};
 ghost use Rattle.rope.specs.Whole.{chars_of_root, depth_of, IsRoot, IsRooted};
 ghost use Rattle.rope.specs.Rights.{IsLike, IsLeft, chars_of_right};
+ghost use Rattle.operation_runs.specs.Runs.{run_ops, RunFits};
 
 use crate::branch::Branch;
 use crate::deletions::first_deletions;
+use crate::leaf::HALF;
 use crate::spares::Spares;
 use crate::typed::{put_typed, typed_length};
 use ew_model::NoMem;
 use ew_model::text_op::TextOp;
+use operation_runs::{OperationRun, OperationRuns};
 use std::alloc::Global;
 
 /// How many blocks one insertion needs at most.
@@ -234,4 +237,90 @@ fn change_deleted(root: &mut Option<Branch>, at: u32, ops: &[TextOp]) -> usize
     let (place, many) = first_deletions(at, ops);
     remove_chars(root, place, many as u32);
     many
+}
+
+/// Does the operations one after another. After a refusal some of them are done.
+pub fn change_by_runs(
+    alloc: Global,
+    root: &mut Option<Branch>,
+    ops: &OperationRuns,
+) -> Result<(), NoMem>
+    requires fit { AllFit (chars_of_root root.old) ops.now }
+    requires short { AllStayShort (chars_of_root root.old) ops.now }
+    requires root { IsRoot root.old }
+    ensures ok { OnOk result (chars_of_root root.new ≡ changed_by_all ops.now (chars_of_root root.old)) }
+    ensures root { IsRoot root.new }
+{
+    let mut spares = Spares::new(alloc);
+    let mut some = Vec::with_capacity(alloc, HALF)?;
+    let mut reader = ops.reader();
+    while let Some(run) = reader.next_run() {
+        change_by_run(root, run, &mut some, &mut spares)?;
+    }
+    Ok(())
+}
+
+/// Does the operations of a run one after another. After a refusal some of them are done. `some` is room for those that are done at once.
+fn change_by_run(
+    root: &mut Option<Branch>,
+    run: OperationRun<'_>,
+    some: &mut Vec<TextOp>,
+    spares: &mut Spares,
+) -> Result<(), NoMem>
+    requires fits { RunFits run }
+    requires some { 0 < length (run_ops run) }
+    requires fit { AllFit (chars_of_root root.old) (run_ops run) }
+    requires short { AllStayShort (chars_of_root root.old) (run_ops run) }
+    requires root { IsRoot root.old }
+    ensures ok { OnOk result (chars_of_root root.new ≡ changed_by_all (run_ops run.entry) (chars_of_root root.old)) }
+    ensures root { IsRoot root.new }
+{
+    match run {
+        OperationRun::Insertions { at, chars: _ } => insert_run(root, at, run, some, spares),
+        OperationRun::Deletions { at, count } => {
+            remove_chars(root, at, count);
+            Ok(())
+        }
+        OperationRun::BackDeletions { at, count } => {
+            remove_chars(root, at - (count - 1), count);
+            Ok(())
+        }
+        OperationRun::Nothings { count: _ } => Ok(()),
+    }
+}
+
+/// Does the insertions of a run, the first of which is at an index. After a refusal some of them are done.
+fn insert_run(
+    root: &mut Option<Branch>,
+    at: u32,
+    run: OperationRun<'_>,
+    some: &mut Vec<TextOp>,
+    spares: &mut Spares,
+) -> Result<(), NoMem>
+    requires fits { RunFits run }
+    requires typed { IsTyped at (run_ops run) }
+    requires fit { AllFit (chars_of_root root.old) (run_ops run) }
+    requires short { AllStayShort (chars_of_root root.old) (run_ops run) }
+    requires root { IsRoot root.old }
+    ensures ok { OnOk result (chars_of_root root.new ≡ changed_by_all (run_ops run.entry) (chars_of_root root.old)) }
+    ensures root { IsRoot root.new }
+{
+    let count = run.count();
+    let mut from = 0;
+    while from < count {
+        let many = (count - from).min(HALF as u32);
+        set_to(some, run.part(from, from + many))?;
+        insert_typed(root, at + from, some, spares)?;
+        from += many;
+    }
+    Ok(())
+}
+
+/// Puts the operations of a run in the place of others, one by one.
+fn set_to(ops: &mut Vec<TextOp>, run: OperationRun<'_>) -> Result<(), NoMem>
+    requires { RunFits run }
+    ensures { OnOk result (ops.new.items ≡ run_ops run.entry) }
+{
+    ops.clear();
+    run.push_to(ops)
 }

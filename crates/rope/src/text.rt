@@ -11,11 +11,12 @@ ghost use Rattle.rope.specs.Typed.{IsTyped};
 
 use crate::branch::Branch;
 use crate::extents::Measure;
-use crate::root::{MOST_BLOCKS, change_all, copy_root, insert_typed, remove_chars};
+use crate::root::{MOST_BLOCKS, change_all, change_by_runs, copy_root, insert_typed, remove_chars};
 use crate::spares::Spares;
 use crate::typed::typed_at;
 use ew_model::NoMem;
 use ew_model::text_op::TextOp;
+use operation_runs::OperationRuns;
 use std::alloc::Global;
 use std::marker::Model;
 
@@ -57,6 +58,17 @@ impl Rope {
         ensures { IfOk result (λ r. r ≡ record { chars = []; leaves = 0; depth = 0 }) }
     {
         Ok(Rope { alloc, root: None })
+    }
+
+    /// The text that operations make of the empty one.
+    pub fn written(alloc: Global, ops: &OperationRuns) -> Result<Rope, NoMem>
+        requires fit { AllFit [] ops.now }
+        requires short { AllStayShort [] ops.now }
+        ensures { IfOk result (λ r. r.chars ≡ changed_by_all ops.now []) }
+    {
+        let mut root = None;
+        change_by_runs(alloc, &mut root, ops)?;
+        Ok(Rope { alloc, root })
     }
 
     /// How many characters the text has.
