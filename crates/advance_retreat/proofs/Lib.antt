@@ -29,3 +29,9 @@ pub mod SameTrees
 pub mod SlotLaws
 pub mod SpanMoves
 pub mod TreeMoves
+pub mod TypedRuns
+pub mod PuttingEach
+pub mod TypedStates
+pub mod TypingOn
+pub mod TreeTyping
+pub mod TypedTargets

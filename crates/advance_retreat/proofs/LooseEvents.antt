@@ -63,6 +63,10 @@ more_told : (ts : List Target) (t : Target) (v : Node) → is_told ts v ≡ true
 more_told [] t v e = absurd (false≢true e)
 more_told (u ∷ ts) t v e = or_more (node_eq u.node v) (is_told ts v) (is_told (ts ++ t ∷ []) v) (more_told ts t v) e
 
+pub all_told : (ts us : List Target) (v : Node) → is_told ts v ≡ true → is_told (ts ++ us) v ≡ true
+all_told [] us v e = absurd (false≢true e)
+all_told (t ∷ ts) us v e = or_more (node_eq t.node v) (is_told ts v) (is_told (ts ++ us) v) (all_told ts us v) e
+
 node_is : (v w : Node) → Some v ≡ Some w → v ≡ w
 node_is v w e = cc
 
@@ -88,6 +92,13 @@ pub told_few : (ts : List Target) (t : Target) (old new : List Stretch) (lost : 
 told_few ts t old new lost few le room =
     let was = few room in
     let fewer = loose_fewer (is_told ts) (is_told (ts ++ t ∷ [])) (more_told ts t) false false (λ e. e) old in
+    omega (arith, was, le, fewer)
+
+-- several are
+pub many_few : (ts us : List Target) (old new : List Stretch) (lost : ℕ) → FewLoose ts old lost → loose_in (is_told (ts ++ us)) new ≤ loose_in (is_told (ts ++ us)) old → FewLoose (ts ++ us) new lost
+many_few ts us old new lost few le room =
+    let was = few room in
+    let fewer = loose_fewer (is_told ts) (is_told (ts ++ us)) (all_told ts us) false false (λ e. e) old in
     omega (arith, was, le, fewer)
 
 -- an apply is refused

@@ -1,5 +1,5 @@
 -- Where a new node goes, by what is kept.
-use Rattle.std.specs.Prelude.{◌≡◌, ℕ, suc, ◌<◌, ◌≤◌, ◌^◌, nat_lt, Bool, true, false, ◌&&◌, ◌||◌, List, [], ◌∷◌, ◌++◌, length, take, drop, insert}
+use Rattle.std.specs.Prelude.{◌≡◌, ℕ, zero, suc, ◌+◌, ◌-◌, ◌<◌, ◌≤◌, ◌^◌, nat_lt, Bool, true, false, ◌&&◌, ◌||◌, List, [], ◌∷◌, ◌++◌, length, take, drop, insert, slice_get, Some}
 use Rattle.std.specs.List.{list_any}
 use Rattle.ew_model.specs.declared.id.Id.{Id}
 use Rattle.ew_model.specs.declared.node.Node.{Node}
@@ -9,9 +9,10 @@ use Rattle.fugue_place.specs.declared.child.Attached.{Attached}
 use Rattle.fugue_place.specs.declared.child.Side.TheVariants.{Right as right}
 use Rattle.fugue_place.specs.declared.neighbour.Place.{Place}
 use Rattle.fugue_place.specs.Attachments.{is_there, is_attached, has_id}
+use Rattle.fugue_place.specs.Heirs.{id_on}
 use Rattle.fugue_place.specs.Neighbours.{is_child, has_beyond, IsPlaceOfNew}
 use Rattle.character_runs.specs.declared.slot.Slot.{Slot}
-use Rattle.character_runs.specs.States.{is_of, knows, shown_in, single}
+use Rattle.character_runs.specs.States.{is_of, knows, visible_in, shown_in, single}
 use Rattle.character_runs.specs.Spots.{Left, first_known, slot_by, IsIndex}
 use Rattle.right_children.specs.declared.rights.Rights.{Rights}
 use Rattle.right_children.specs.Rights.{Counted, AreRights, counted, IsWhole}
@@ -76,3 +77,14 @@ pub record Puts (old new : Kept) (lv : ℕ) (x : Id) (slot : Slot) (n : ℕ) : T
   pub within : index ≤ length old.records
   pub before : n ≡ shown_in (take index old.records)
   pub after : new ≡ kept_with old index lv x slot
+
+-- New nodes of so many events behind the one at a position came one after another, each on the right of that of the event before it, under the next ids of its agent. The first came behind so many visible characters of what is prepared, and so many of the text.
+abbrev pub PutEach : Kept → Kept → Id → ℕ → ℕ → ℕ → ℕ → Type 0
+PutEach old new x position seen zero n = new ≡ old
+PutEach old new x position seen (suc k) n =
+    (now : Kept) × PutEach old now x position seen k n
+    × ((puts : Puts now new (position + k + 1) (id_on x (k + 1)) (record { parent = Event (position + k); side = right }) (n + k)) × (visible_in (take puts.index now.records) ≡ seen + k))
+
+-- the node that was attached last is that of the event at the position, which inserted it under the id
+abbrev pub IsNewest : List Attached → ℕ → Id → Type 0
+IsNewest attached position x = (a : Attached) × (slice_get attached (length attached - 1) ≡ Some a) × (a.node ≡ Event position) × (a.id ≡ x)

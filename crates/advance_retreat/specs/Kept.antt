@@ -1,7 +1,8 @@
 -- What a state keeps: a record for each character, in order, and which character each event is about: a mark is about none, and the root stands in its place.
-use Rattle.std.specs.Prelude.{◌≡◌, ℕ, ◌<◌, ◌≤◌, nat_eq, List, [], ◌∷◌, ◌++◌, map, find, Option, Some, option_map}
+use Rattle.std.specs.Prelude.{◌≡◌, ℕ, ◌+◌, ◌<◌, ◌≤◌, nat_eq, List, [], ◌∷◌, ◌++◌, map, find, Option, Some, option_map}
+use Rattle.std.specs.List.{range_with_len}
 use Rattle.ew_model.specs.declared.node.Node.{Node}
-use Rattle.ew_model.specs.declared.node.Node.TheVariants.{Root}
+use Rattle.ew_model.specs.declared.node.Node.TheVariants.{Root, Event}
 use Rattle.walker_record.specs.Stretches.{Stretch}
 use Rattle.fugue_place.specs.declared.child.Attached.{Attached}
 use Rattle.character_runs.specs.declared.change.Change.TheVariants.{Strike}
@@ -53,3 +54,11 @@ with_deletion s lv v = record {
   targets = s.targets ++ record { lv = lv; node = v } ∷ [];
   lost = s.lost;
 }
+
+-- the event so many places and one more behind a position is about its own character
+abbrev pub typed_target : ℕ → ℕ → Target
+typed_target position k = record { lv = position + k + 1; node = Event (position + k + 1) }
+
+-- the same of so many events right behind the position
+abbrev pub typed_targets : ℕ → ℕ → List Target
+typed_targets position n = map (typed_target position) (range_with_len 0 n)

@@ -6,3 +6,4 @@ pub mod Placing
 pub mod Refusals
 pub mod Runs
 pub mod Standing
+pub mod Typing

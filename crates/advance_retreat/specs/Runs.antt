@@ -92,3 +92,9 @@ HaveMore new old lv v = AreRuns 0 new × (events_in new ≡ events_in old ++ rec
 -- these runs have the events of those but for the last
 abbrev pub HaveFewer : List Run → List Run → Type 0
 HaveFewer new old = AreRuns 0 new × (t : Target) × (events_in old ≡ events_in new ++ t ∷ [])
+
+-- the run is of insertions, the last of them at the position
+pub record IsTypedTo (r : Run) (position : ℕ) : Type 0 where
+  pub node : r.node ≡ Event r.first
+  pub way : r.way ≡ Up
+  pub last : position ≡ r.first + r.more

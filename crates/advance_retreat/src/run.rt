@@ -2,7 +2,7 @@
 
 ghost use Rattle.std.specs.Prelude.{◌≡◌, ◌+◌, ◌-◌, ◌≤◌, ◌<◌, ℕ, List, IsTrue, IfSome};
 ghost use Rattle.advance_retreat.specs.declared.target.Target.{Target};
-ghost use Rattle.advance_retreat.specs.Runs.{node_from, HasNodes, HasRun, IsAhead, GoesOn, way_in, count_from, alone};
+ghost use Rattle.advance_retreat.specs.Runs.{node_from, HasNodes, HasRun, IsAhead, GoesOn, IsTypedTo, way_in, count_from, alone};
 ghost use Rattle.advance_retreat.specs.declared.line.Way.TheVariants as lines;
 ghost use Rattle.advance_retreat.specs.Lines.{IsLineFrom};
 
@@ -107,6 +107,18 @@ impl Run {
         ensures { IsTrue result → GoesOn self lv node }
     {
         lv > self.first && lv - self.first - 1 == self.more && self.leads_to(node)
+    }
+
+    /// Whether its events are insertions, and its last is at a position.
+    pub fn is_typed_to(self, newest: u32) -> bool
+        ensures { IsTrue result → IsTypedTo self newest }
+    {
+        match (self.node, self.way) {
+            (Node::Event(first), Way::Up) => {
+                first == self.first && newest >= first && newest - first == self.more
+            }
+            _ => false,
+        }
     }
 
     /// Whether a character is the one behind its last.

@@ -4,7 +4,7 @@ ghost use Rattle.std.specs.Prelude.{◌≡◌, ◌+◌, ◌-◌, ◌≤◌, ◌<
 ghost use Rattle.std.specs.List.{AllWithin};
 ghost use Rattle.std.specs.Option.{option_to_list};
 ghost use Rattle.advance_retreat.specs.declared.target.Target.{Target};
-ghost use Rattle.advance_retreat.specs.Kept.{target_at, AreWithin};
+ghost use Rattle.advance_retreat.specs.Kept.{target_at, typed_targets, AreWithin};
 ghost use Rattle.advance_retreat.specs.Runs.{events_in, EndIn, AreRuns, AreBelow, Tells, TellNone, HaveMore, HaveFewer};
 
 use crate::run::Run;
@@ -116,6 +116,24 @@ impl Runs {
         }
         run.more += 1;
         self.count += 1;
+        true
+    }
+
+    /// Puts so many insertions behind them, at the positions behind this one, where they go on with the last run. Answers whether they
+    /// do.
+    pub fn lengthen_by(&mut self, newest: u32, count: u32) -> bool
+        requires few { newest + count < 2 ^ 32 }
+        ensures yes { IsTrue result → events_in self.new ≡ events_in self.old ++ typed_targets newest count }
+        ensures no { result ≡ false → self.new ≡ self.old }
+    {
+        let Some(run) = &mut self.last else {
+            return false;
+        };
+        if !run.is_typed_to(newest) {
+            return false;
+        }
+        run.more += count;
+        self.count += count as usize;
         true
     }
 

@@ -1,7 +1,7 @@
 //! The state of a walker.
 
-ghost use Rattle.std.specs.Prelude.{◌≡◌, ℕ, None, ◌+◌, ◌-◌, ◌*◌, ◌<◌, ◌≤◌, ◌^◌, ◌↔◌, nat_eq, nat_lt, ◌&&◌, true, false, List, [], ◌∷◌, ◌++◌, length, reverse, Err, IfSome, IfNone, IfOk, OnOk, OnErr};
-ghost use Rattle.std.specs.List.{AllByRecursion, range_with_len};
+ghost use Rattle.std.specs.Prelude.{◌≡◌, ℕ, None, ◌+◌, ◌-◌, ◌*◌, ◌<◌, ◌≤◌, ◌^◌, ◌↔◌, nat_eq, nat_lt, ◌&&◌, true, false, List, [], ◌∷◌, ◌++◌, length, reverse, Err, IfSome, IfNone, IsTrue, IfOk, OnOk, OnErr};
+ghost use Rattle.std.specs.List.{AllByRecursion, list_any, range_with_len};
 ghost use Rattle.ew_model.specs.Operations.{next_operation};
 ghost use Rattle.ew_model.specs.Entries.{visible};
 ghost use Rattle.ew_model.specs.Places.Act.{InsertAs, DeleteAt, MarkAs};
@@ -10,9 +10,11 @@ ghost use Rattle.ew_model.specs.Moves.{after_advances, after_retreats};
 ghost use Rattle.ew_model.specs.Records.{next_of, without, prepared_entries, applied_entries};
 ghost use Rattle.walker_record.specs.Stretches.{Stretch};
 ghost use Rattle.fugue_place.specs.Attachments.{is_there, AreAttached};
+ghost use Rattle.fugue_place.specs.Heirs.{AreNew};
+ghost use Rattle.ew_model.specs.declared.node.Node.TheVariants as nodes;
 ghost use Rattle.advance_retreat.specs.declared.fault.ApplyFault.TheVariants as apply;
 ghost use Rattle.advance_retreat.specs.Kept.{with_lost, with_deletion, with_mark, target_at, AreWithin};
-ghost use Rattle.character_runs.specs.States.{HasRoom};
+ghost use Rattle.character_runs.specs.States.{HasRoom, is_of, shown_in};
 ghost use Rattle.character_runs.specs.Laid.{records_in};
 ghost use Rattle.advance_retreat.specs.declared.line.Way.TheVariants as lines;
 ghost use Rattle.advance_retreat.specs.Lines.{IsLineFrom};
@@ -20,7 +22,8 @@ ghost use Rattle.advance_retreat.specs.Standing.{most, StandsFor};
 ghost use Rattle.advance_retreat.specs.Placing.{AreInOrder, DeletesOf, IsNoDeletion};
 ghost use Rattle.advance_retreat.specs.Refusals.{lost_after, one_more};
 ghost use Rattle.advance_retreat.specs.Conditions.{MayInsert, MayDelete, MayMark, MayAdvanceTo, MayRetreatFrom, MayAdvanceEach, MayRetreatEach, Advanced, Retreated, PartAdvanced, PartRetreated, AllPrepared};
-ghost use Rattle.advance_retreat.specs.Hanging.{MayHang, Puts};
+ghost use Rattle.advance_retreat.specs.Hanging.{MayHang, Puts, IsNewest, PutEach};
+ghost use Rattle.advance_retreat.specs.Typing.{MayType, TypedEach};
 
 use crate::fault::ApplyFault;
 use crate::line::{Line, Way, behind};
@@ -179,6 +182,61 @@ impl State {
         }
         let at = self.put(lv, id, slot)?;
         Ok(TextOp::Ins { at, ch })
+    }
+
+    /// Applies so many insertions behind the one at a position: the first at an index of the prepared version, each other one right
+    /// behind the one before. Prepares them too. Answers the index of the first in the text. None where that event wasn't applied
+    /// last, or they can't be applied in one go: then nothing has changed. No step is counted.
+    pub fn type_on(&mut self, newest: u32, count: u32, at: u32) -> Option<u32>
+        requires some { 0 < count }
+        requires few { newest + count + 1 < 2 ^ 32 }
+        requires may { (b : ℕ) × (events : List (Applied ℕ)) × (prepared : List ℕ) × (x : Id) × StandsFor self.old b events prepared × MayType events x newest count }
+        ensures typed { (b : ℕ) (events : List (Applied ℕ)) (prepared : List ℕ) (x : Id) → StandsFor self.old b events prepared → MayType events x newest count → IfSome result (TypedEach self.old self.new x newest at count) }
+        ensures few { IfSome result (λ n. n + count < 2 ^ 32) }
+        ensures lost { self.new.lost ≡ self.old.lost }
+        ensures none { IfNone result (self.new ≡ self.old) }
+    {
+        let slot = self.tree.slot_at(self.base, at)?;
+        if !slot.is_right_of_event(newest) || !self.has_room_for(count) {
+            return None;
+        }
+        self.put_typed(newest, count, at)
+    }
+
+    /// Puts the characters of so many new events into the tree, each right behind that of the event before it, the first at an index of
+    /// the prepared version. Answers its index in the text. None where that can't be done in one go: then nothing has changed.
+    fn put_typed(&mut self, newest: u32, count: u32, at: u32) -> Option<u32>
+        requires few { newest + count + 1 < 2 ^ 32 }
+        requires new { AreNew self.old.attached newest count }
+        requires unrecorded { (k : ℕ) → k < count → list_any (is_of (nodes.Event (newest + k + 1))) self.old.records ≡ false }
+        requires untold { (k : ℕ) → k < count → target_at self.old.targets (newest + k + 1) ≡ None }
+        requires room { length self.old.records + count ≤ 2 ^ 25 }
+        requires sound { AreAttached [] self.old.attached }
+        ensures some { IfSome result (λ n. (x : Id) × IsNewest self.old.attached newest x × PutEach self.old self.new x newest at count n) }
+        ensures few { IfSome result (λ n. n ≤ 2 ^ 25) }
+        ensures lost { self.new.lost ≡ self.old.lost }
+        ensures none { IfNone result (self.new ≡ self.old) }
+    {
+        if !self.targets.add_typed(newest, count) {
+            return None;
+        }
+        match self.tree.type_on(newest, count, at) {
+            Some(first) => Some(first),
+            None => {
+                self.targets.take_back_typed(newest, count);
+                None
+            }
+        }
+    }
+
+    /// Whether the history may have so many more events, and the text as many more characters.
+    fn has_room_for(&self, count: u32) -> bool
+        ensures events { IsTrue result → length self.now.targets + count ≤ most }
+        ensures text { IsTrue result → shown_in self.now.records + count ≤ most }
+    {
+        count <= MOST
+            && self.targets.len() <= (MOST - count) as usize
+            && self.tree.shown() <= MOST - count
     }
 
     /// Puts the character of a new event into the tree. Answers its index in the text. Counts a want of memory.

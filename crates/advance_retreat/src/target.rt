@@ -1,10 +1,10 @@
 //! Which character each applied event is about. A mark is about none: the root stands in its place.
 
-ghost use Rattle.std.specs.Prelude.{◌≡◌, ◌<◌, true, None, Some, [], ◌∷◌, ◌++◌, List, length, IfSome, OnOk, OnErr, ℕ, nat_eq, if◌then◌else◌};
+ghost use Rattle.std.specs.Prelude.{◌≡◌, ◌+◌, ◌<◌, ◌^◌, true, false, None, Some, [], ◌∷◌, ◌++◌, List, length, IfSome, IsTrue, OnOk, OnErr, ℕ, nat_eq, if◌then◌else◌};
 ghost use Rattle.std.specs.Ordering.{nat_cmp};
 ghost use Rattle.std.specs.BTreeMap.{get};
 ghost use Rattle.advance_retreat.specs.declared.target.Target.{Target as One};
-ghost use Rattle.advance_retreat.specs.Kept.{target_at, AreWithin};
+ghost use Rattle.advance_retreat.specs.Kept.{target_at, typed_targets, AreWithin};
 ghost use Rattle.advance_retreat.specs.Lines.{IsLineFrom};
 ghost use Rattle.advance_retreat.specs.Placing.{other_event};
 
@@ -133,6 +133,29 @@ impl Targets {
             return Ok(());
         }
         self.add_apart(lv, node)
+    }
+
+    /// Adds so many insertions at the positions behind this one, where they go on with the last run. Answers whether they do.
+    pub fn add_typed(&mut self, newest: u32, count: u32) -> bool
+        requires few { newest + count < 2 ^ 32 }
+        requires new { (k : ℕ) → k < count → target_at self.old (newest + k + 1) ≡ None }
+        ensures yes { IsTrue result → self.new ≡ self.old ++ typed_targets newest count }
+        ensures no { result ≡ false → self.new ≡ self.old }
+    {
+        self.later.is_empty() && self.runs.lengthen_by(newest, count)
+    }
+
+    /// Takes back so many insertions at the positions behind this one, which are the last events.
+    pub fn take_back_typed(&mut self, newest: u32, count: u32)
+        requires few { newest + count < 2 ^ 32 }
+        requires last { (ts : List One) × (self.old ≡ ts ++ typed_targets newest count) × ((k : ℕ) → k < count → target_at ts (newest + k + 1) ≡ None) }
+        ensures { (ts : List One) → self.old ≡ ts ++ typed_targets newest count → self.new ≡ ts }
+    {
+        let mut left = count;
+        while left > 0 {
+            left -= 1;
+            self.take_back(newest + left + 1);
+        }
     }
 
     /// The same for one that doesn't go on with the last run.

@@ -7,17 +7,18 @@ ghost use Rattle.ew_model.specs.declared.node.Node.TheVariants as nodes;
 ghost use Rattle.fugue_place.specs.declared.child.Side.TheVariants as sides;
 ghost use Rattle.fugue_place.specs.declared.neighbour.Place.{Place};
 ghost use Rattle.fugue_place.specs.Attachments.{is_attached, is_there, has_id, AreAttached};
+ghost use Rattle.fugue_place.specs.Heirs.{AreNew, HaveHeirs};
 ghost use Rattle.fugue_place.specs.Neighbours.{has_beyond, IsPlaceOfNew};
 ghost use Rattle.advance_retreat.specs.declared.target.Target.{Target};
 ghost use Rattle.character_runs.specs.EventPositions.{event_positions};
 ghost use Rattle.character_runs.specs.States.{is_of, visible_in, shown_in, base_records, changed_at, HasRoom};
 ghost use Rattle.character_runs.specs.Laid.{records_in};
-ghost use Rattle.character_runs.specs.Loose.{loose_in};
+ghost use Rattle.character_runs.specs.Loose.{loose_in, AreAmong};
 ghost use Rattle.advance_retreat.specs.Refusals.{is_told};
 ghost use Rattle.character_runs.specs.Replacing.{ArePart, changed_in};
 ghost use Rattle.character_runs.specs.Resting.{rested};
 ghost use Rattle.right_children.specs.Rights.{HangWithin};
-ghost use Rattle.character_runs.specs.Spots.{IsSlot, IsDeletion, Comes};
+ghost use Rattle.character_runs.specs.Spots.{IsSlot, IsDeletion, Comes, ComeEach};
 ghost use Rattle.advance_retreat.specs.Hanging.{has_known_right, has_next_base};
 
 use character_runs::{Change, Characters, Deletion, KnownRights, Positions, Slot};
@@ -192,6 +193,31 @@ impl Tree {
         ensures same { self.new ≡ self.old }
     {
         self.characters.event_positions()
+    }
+
+    /// Attaches the nodes of so many new events behind one, each on the right of that of the event before it, and puts their characters
+    /// right behind that one's, the first at an index of what is prepared. Answers its index in the text. None where it can't be done in
+    /// one go: then nothing has changed.
+    pub fn type_on(&mut self, newest: u32, count: u32, at: u32) -> Option<u32>
+        requires few { newest + count + 1 < 2 ^ 32 }
+        requires new { AreNew self.old.attached newest count }
+        requires unrecorded { (k : ℕ) → k < count → list_any (is_of (nodes.Event (newest + k + 1))) self.old.records ≡ false }
+        requires room { length self.old.records + count ≤ 2 ^ 25 }
+        requires sound { AreAttached [] self.old.attached }
+        ensures come { IfSome result (ComeEach self.old.records self.new.records newest at count) }
+        ensures few { IfSome result (λ first. first ≤ 2 ^ 25) }
+        ensures attached { IfSome result (λ first. HaveHeirs self.old.attached self.new.attached newest count) }
+        ensures told { IfSome result (λ first. (among : Nodes → Bool) → AreAmong among newest count → loose_in among self.new.runs ≤ loose_in among self.old.runs) }
+        ensures same { IfNone result (self.new ≡ self.old) }
+    {
+        let Ok(()) = self.rights.note_heirs(newest, count) else {
+            return None;
+        };
+        let characters = &mut self.characters;
+        let first = characters.type_on(&mut self.siblings, newest, count, at)?;
+        self.rights
+            .shift_each(newest + 1, newest + count + 1, false, true);
+        Some(first)
     }
 
     /// Attaches the node of a new event, and puts its character beside its neighbour. Answers its index in the text.

@@ -27,6 +27,10 @@ id_runs (x ∷ y ∷ ids) = if is_next x y then id_runs (y ∷ ids) else suc (id
 abbrev pub ids_from : Id → ℕ → List Id
 ids_from x n = map (id_with x.agent) (range_with_len x.seq n)
 
+-- so many ids right behind the one at a place are the next ones of its agent
+abbrev pub AreNextFrom : List Id → ℕ → ℕ → Type 0
+AreNextFrom ids place n = (x : Id) → slice_get ids place ≡ Some x → (k : ℕ) → k ≤ n → slice_get ids (place + k) ≡ Some (id_with x.agent (x.seq + k))
+
 -- the ids of the runs
 abbrev pub ids_in : List IdRun → List Id
 ids_in [] = []

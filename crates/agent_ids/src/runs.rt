@@ -4,7 +4,7 @@ ghost use Rattle.std.specs.Prelude.{◌≡◌, ◌↔◌, ℕ, suc, ◌+◌, ◌
 ghost use Rattle.std.specs.List.{AllWithin};
 ghost use Rattle.ew_model.specs.declared.id.Id.{Id};
 ghost use Rattle.agent_ids.specs.declared.runs.IdRun.{IdRun};
-ghost use Rattle.agent_ids.specs.IdRuns.{id_runs, id_with, last_in, ids_in, AreRuns, goes_on, with_more, with_more_by, shortened, ids_from, IsHeldAt};
+ghost use Rattle.agent_ids.specs.IdRuns.{id_runs, id_with, last_in, ids_in, AreRuns, goes_on, with_more, with_more_by, shortened, ids_from, AreNextFrom, IsHeldAt};
 
 use ew_model::NoMem;
 use ew_model::id::Id;
@@ -82,6 +82,18 @@ impl IdRuns {
             agent: run.agent,
             seq: run.seq + (place - run.start),
         }
+    }
+
+    /// A number of ids right behind the one at a place that are all the next ones of its agent: those of its run. It is sought as by `get_near`.
+    pub fn next_near(&self, place: u32, near: &mut usize) -> u32
+        requires { place < length self.now }
+        ensures { AreNextFrom self.now place result }
+    {
+        let _count = self.count;
+        let found = find_run_near(&self.runs, place, *near);
+        *near = found;
+        let run = self.runs[found];
+        run.more - (place - run.start)
     }
 
     /// Puts one more id behind the others.

@@ -8,7 +8,7 @@ ghost use Rattle.indexmap.specs.IndexSet.{contains};
 ghost use Rattle.ew_model.specs.declared.id.Id.{Id};
 ghost use Rattle.ew_model.specs.Ids.{name_eq, id_eq};
 ghost use Rattle.history_definitions.specs.Agents.{agents_of, count_of, AreNumbered};
-ghost use Rattle.agent_ids.specs.IdRuns.{id_runs, id_with, ids_from, last_in};
+ghost use Rattle.agent_ids.specs.IdRuns.{id_runs, id_with, ids_from, last_in, AreNextFrom};
 ghost use Rattle.agent_ids.specs.Table.{AreAgents, IsNumberOfLast, positions_of};
 
 use crate::positions::PositionRuns;
@@ -120,6 +120,14 @@ impl AgentTable {
         ensures { slice_get self.now lv ≡ Some result }
     {
         self.ids.get_near(lv, near)
+    }
+
+    /// A number of ids right behind the one at a position that are all the next ones of its agent: those of its run. It is sought as by `id_near`.
+    pub fn next_near(&self, lv: u32, near: &mut usize) -> u32
+        requires { lv < length self.now }
+        ensures { AreNextFrom self.now lv result }
+    {
+        self.ids.next_near(lv, near)
     }
 
     /// How many runs of neighbours of one agent there are. In a table the numbers in a run follow on each other, so an id goes on

@@ -83,7 +83,7 @@ module _ (ps : List (ℕ × Stretch)) (rising : IsRising ps) (label : ℕ) (run 
   front_chars : chars_in (up_to ps label) ≡ chars_in at.front ++ records_of run
   front_chars = up_to_chars ps rising label run held
 
-  old_chars : chars_in ps ≡ chars_in (up_to ps label) ++ chars_in at.back
+  pub old_chars : chars_in ps ≡ chars_in (up_to ps label) ++ chars_in at.back
   old_chars =
       ap chars_in at.is ∙ chars-append at.front (((label, run) ∷ []) ++ at.back) ∙ sym (append_assoc (chars_in at.front) (records_of run) (chars_in at.back))
       ∙ ap (λ (xs : List Stretch). xs ++ chars_in at.back) (sym front_chars)

@@ -52,3 +52,4 @@ pub mod StruckEnds
 pub mod StruckFirsts
 pub mod Typing
 pub mod VisiblePlaces
+pub mod TypedOn

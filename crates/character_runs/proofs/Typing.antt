@@ -32,7 +32,7 @@ typed_at c child = record { label = c.label; run = joined_of c.run (run_of child
 
 module _ (ps : List (ℕ × Stretch)) (rising : IsRising ps) (c : Cursor) (at : IsCursor ps c) where
   -- its index is at most the number of visible characters
-  index_most : c.index ≤ visible_in (chars_in ps)
+  pub index_most : c.index ≤ visible_in (chars_in ps)
   index_most =
       let most = run_below prepared_of ps c.label c.run rising at.held in
       let own : prepared_of c.run ≡ c.run.len = ap (λ (n : ℕ). prepared_of (record { from = c.run.from; len = c.run.len; prepared = n; effect = c.run.effect })) at.prepared in

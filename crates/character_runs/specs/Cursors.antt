@@ -16,6 +16,14 @@ last_of r = node_on r.from (r.len - 1)
 abbrev pub shorter : Stretch → Stretch
 shorter r = first_part r (r.len - 1)
 
+-- the run with so many characters more, of the next nodes
+abbrev pub longer_by : Stretch → ℕ → Stretch
+longer_by r n = record { from = r.from; len = r.len + n; prepared = r.prepared; effect = r.effect }
+
+-- where a cursor is once so many characters came to the end of its run: it lets go of what was deleted from there
+abbrev pub longer_at : Cursor → ℕ → Cursor
+longer_at c n = record { label = c.label; run = longer_by c.run n; before = c.before; index = c.index + n; struck = None }
+
 -- the run of a node's character and n more behind it, all deleted once and not in the text
 abbrev pub struck_with : Node → ℕ → Stretch
 struck_with v n = record { from = v; len = n + 1; prepared = 2; effect = false }

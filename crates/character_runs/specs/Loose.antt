@@ -1,6 +1,7 @@
 -- Runs that stand apart for none of some characters.
 use Rattle.std.specs.Prelude.{◌≡◌, ℕ, ◌+◌, ◌-◌, ◌<◌, ◌⊎◌, nat_lt, Bool, true, false, ◌&&◌, ◌||◌, if◌then◌else◌, List, [], ◌∷◌, ◌++◌, take, drop}
 use Rattle.ew_model.specs.declared.node.Node.{Node}
+use Rattle.ew_model.specs.declared.node.Node.TheVariants.{Event}
 use Rattle.walker_record.specs.Stretches.{Stretch, node_on, first_part, second_part}
 
 -- the run has characters, and the first or the last of them is one of these
@@ -41,3 +42,7 @@ MayBeCut old new v = (new ≡ old) ⊎ IsCutBefore old new v
 abbrev pub is_one : {X : Type 0} → (X → Node → Bool) → List X → Node → Bool
 is_one eq [] v = false
 is_one eq (x ∷ xs) v = eq x v || is_one eq xs v
+
+-- the nodes of so many events behind the one at a position are among these characters
+abbrev pub AreAmong : (Node → Bool) → ℕ → ℕ → Type 0
+AreAmong among position n = (k : ℕ) → k < n → among (Event (position + k + 1)) ≡ true

@@ -1,5 +1,5 @@
 -- Where a new character goes, by what is kept.
-use Rattle.std.specs.Prelude.{◌≡◌, ℕ, suc, ◌≤◌, Bool, true, false, ◌⊎◌, List, length, take, drop, find, insert, Option, Some, None, option_map, slice_get}
+use Rattle.std.specs.Prelude.{◌≡◌, ℕ, zero, suc, ◌+◌, ◌≤◌, Bool, true, false, ◌⊎◌, List, length, take, drop, find, insert, Option, Some, None, option_map, slice_get}
 use Rattle.std.specs.List.{list_any}
 use Rattle.ew_model.specs.declared.node.Node.{Node}
 use Rattle.ew_model.specs.declared.node.Node.TheVariants.{Root, Event}
@@ -67,3 +67,12 @@ pub record Comes (old new : List Stretch) (place : Place) (position n : ℕ) : T
   pub within : index ≤ length old
   pub before : n ≡ shown_in (take index old)
   pub after : new ≡ insert old index (single (Event position) 1 true)
+
+-- so it came right behind that of a node, and behind so many visible characters of what is prepared
+abbrev pub ComesBehind : List Stretch → List Stretch → Node → ℕ → ℕ → ℕ → Type 0
+ComesBehind old new v position seen n = (came : Comes old new (After v) position n) × (visible_in (take came.index old) ≡ seen)
+
+-- The characters of so many events behind the one at a position came one after another, each right behind that of the event before it. The first came behind so many visible characters of what is prepared, and so many of the text.
+abbrev pub ComeEach : List Stretch → List Stretch → ℕ → ℕ → ℕ → ℕ → Type 0
+ComeEach old new position seen zero n = new ≡ old
+ComeEach old new position seen (suc k) n = (now : List Stretch) × ComeEach old now position seen k n × ComesBehind now new (Event (position + k)) (position + k + 1) (seen + k) (n + k)

@@ -1,12 +1,13 @@
 //! The characters that a state keeps, in order.
 
-ghost use Rattle.std.specs.Prelude.{◌≡◌, ℕ, ◌+◌, ◌*◌, ◌<◌, ◌≤◌, ◌^◌, Bool, List, true, false, ◌∷◌, [], ◌++◌, length, map, Contains, IfSome, IfNone, IfOk, OnOk, OnErr, Some};
+ghost use Rattle.std.specs.Prelude.{◌≡◌, ℕ, ◌+◌, ◌-◌, ◌*◌, ◌<◌, ◌≤◌, ◌^◌, Bool, List, true, false, ◌∷◌, [], ◌++◌, length, map, Contains, IfSome, IfNone, IfOk, OnOk, OnErr, Some};
 ghost use Rattle.std.specs.List.{AllByRecursion, list_any};
 ghost use Rattle.ew_model.specs.declared.node.Node.{Node as Nodes};
 ghost use Rattle.ew_model.specs.declared.node.Node.TheVariants as nodes;
 ghost use Rattle.fugue_place.specs.declared.neighbour.Place.TheVariants as places;
 ghost use Rattle.walker_record.specs.Stretches.{Stretch, is_continued, prepared_of, effect_of};
 ghost use Rattle.fugue_place.specs.Attachments.{is_attached, is_there, has_id, node_eq};
+ghost use Rattle.fugue_place.specs.Heirs.{AreNew, HaveHeirs};
 ghost use Rattle.order_tree.specs.Pairs.{IsPlace, changed, lower, total};
 ghost use Rattle.character_runs.specs.declared.change.Change.TheVariants as changes;
 ghost use Rattle.character_runs.specs.Cursors.{IsCursor, MayBeCursor, GaveEnd, SettleSame, last_of, shorter, with_end, settled};
@@ -14,10 +15,10 @@ ghost use Rattle.character_runs.specs.States.{is_of, knows, visible_in, shown_in
 ghost use Rattle.character_runs.specs.Entering.{attached_by, run_of, IsNewChild};
 ghost use Rattle.character_runs.specs.EventPositions.{event_positions};
 ghost use Rattle.character_runs.specs.Laid.{AreLabelled, chars_in, records_in};
-ghost use Rattle.character_runs.specs.Loose.{loose_in, is_one};
+ghost use Rattle.character_runs.specs.Loose.{loose_in, is_one, AreAmong};
 ghost use Rattle.character_runs.specs.Replacing.{ArePart, changed_in};
 ghost use Rattle.character_runs.specs.Resting.{rested};
-ghost use Rattle.character_runs.specs.Spots.{IsSlot, IsDeletion, Comes};
+ghost use Rattle.character_runs.specs.Spots.{IsSlot, IsDeletion, Comes, ComeEach};
 
 use crate::change::{Change, Positions};
 use crate::cursor::{Cursor, Struck};
@@ -180,6 +181,30 @@ impl Characters {
     {
         let child = Child { slot, id, position };
         self.insert_by::<Brand>(siblings, &child, place, Blank::new(1))
+    }
+
+    /// Attaches the nodes of so many new events behind one, each on the right of that of the event before it, and puts their characters
+    /// right behind that one's, the first at an index of what is prepared. Answers its index in the text. None where the cursor
+    /// isn't there, or the siblings don't take the nodes in one go (`attach_heirs`): then nothing has changed.
+    pub fn type_on(
+        &mut self,
+        siblings: &mut Siblings,
+        newest: u32,
+        count: u32,
+        at: u32,
+    ) -> Option<u32>
+        requires few { newest + count < 2 ^ 32 }
+        requires new { AreNew siblings.old newest count }
+        requires unrecorded { (k : ℕ) → k < count → list_any (is_of (nodes.Event (newest + k + 1))) self.old.records ≡ false }
+        requires room { length self.old.records + count ≤ 2 ^ 25 }
+        ensures come { IfSome result (ComeEach self.old.records self.new.records newest at count) }
+        ensures few { IfSome result (λ first. first ≤ 2 ^ 25) }
+        ensures attached { IfSome result (λ first. HaveHeirs siblings.old siblings.new newest count) }
+        ensures told { IfSome result (λ first. (among : Nodes → Bool) → AreAmong among newest count → loose_in among self.new.runs ≤ loose_in among self.old.runs) }
+        ensures same { IfNone result (self.new ≡ self.old) }
+        ensures detached { IfNone result (siblings.new ≡ siblings.old) }
+    {
+        self.type_on_by::<Brand>(siblings, newest, count, at, Blank::new(1))
     }
 
     /// Has the states of all characters as they are where no event is prepared.
@@ -455,6 +480,44 @@ impl Characters {
         Ok(Some(at))
     }
 
+    fn type_on_by<L: Ledger>(
+        &mut self,
+        siblings: &mut Siblings,
+        newest: u32,
+        count: u32,
+        at: u32,
+        blank: Blank,
+    ) -> Option<u32>
+        requires name { blank.name ≡ L.name }
+        requires parts { blank.parts ≡ L.parts }
+        requires some { 0 < blank.parts }
+        requires few { newest + count < 2 ^ 32 }
+        requires new { AreNew siblings.old newest count }
+        requires unrecorded { (k : ℕ) → k < count → list_any (is_of (nodes.Event (newest + k + 1))) self.old.records ≡ false }
+        requires room { length self.old.records + count ≤ 2 ^ 25 }
+        ensures come { IfSome result (ComeEach self.old.records self.new.records newest at count) }
+        ensures few { IfSome result (λ first. first ≤ 2 ^ 25) }
+        ensures attached { IfSome result (λ first. HaveHeirs siblings.old siblings.new newest count) }
+        ensures told { IfSome result (λ first. (among : Nodes → Bool) → AreAmong among newest count → loose_in among self.new.runs ≤ loose_in among self.old.runs) }
+        ensures same { IfNone result (self.new ≡ self.old) }
+        ensures detached { IfNone result (siblings.new ≡ siblings.old) }
+    {
+        let mut visits: Steps<L> = Steps::new(blank);
+        self.runs.facts();
+        let cursor = cursor_behind(&self.cursor, newest, at)?;
+        if !siblings.attach_heirs(newest, count) {
+            return None;
+        }
+        let first = cursor.shown();
+        settle_struck(&mut self.runs, &cursor, &mut self.pending, &mut visits);
+        self.runs.facts();
+        self.visible += count;
+        self.shown += count;
+        self.cursor = Some(cursor.longer(count));
+        self.pending = true;
+        Some(first)
+    }
+
     /// Puts the character of a new child at a place, which is searched for, and attaches its node. There is no cursor after it.
     fn insert_found<L: Ledger>(
         &mut self,
@@ -637,6 +700,21 @@ fn at_cursor(cursor: &Option<Cursor>, at: u32) -> Option<Counted>
 {
     match cursor {
         Some(cursor) if cursor.index == at + 1 && cursor.run.len > 0 => Some(cursor.last()),
+        _ => None,
+    }
+}
+
+/// The cursor, where it stands behind the character of an event, at an index of what is prepared.
+fn cursor_behind(cursor: &Option<Cursor>, event: u32, at: u32) -> Option<Cursor>
+    requires { IfSome cursor.now (λ c. 0 < c.run.len) }
+    ensures is { IfSome result (λ c. cursor.now ≡ Some c) }
+    ensures last { IfSome result (λ c. last_of c.run ≡ nodes.Event event) }
+    ensures index { IfSome result (λ c. c.index ≡ at) }
+{
+    match cursor {
+        Some(cursor) if cursor.index == at && cursor.last_node() == Node::Event(event) => {
+            Some(*cursor)
+        }
         _ => None,
     }
 }

@@ -2,10 +2,10 @@
 
 ghost use Rattle.std.specs.Prelude.{◌≡◌, ◌+◌, ◌<◌, ◌^◌, ℕ, List, IsTrue, Contains, true};
 ghost use Rattle.fugue_place.specs.declared.neighbour.Place.TheVariants as places;
-ghost use Rattle.walker_record.specs.Stretches.{Stretch, is_continued, joined_of, prepared_of, effect_of};
+ghost use Rattle.walker_record.specs.Stretches.{Stretch, HasNumbers, is_continued, joined_of, prepared_of, effect_of};
 ghost use Rattle.order_tree.specs.Pairs.{IsPlace, lower, total};
 ghost use Rattle.character_runs.specs.declared.change.Change.TheVariants as changes;
-ghost use Rattle.character_runs.specs.Cursors.{MayBeCursor, last_of, shorter};
+ghost use Rattle.character_runs.specs.Cursors.{MayBeCursor, last_of, shorter, longer_by};
 ghost use Rattle.character_runs.specs.Entering.{run_of};
 
 use crate::change::Change;
@@ -120,6 +120,29 @@ impl Cursor {
             run: self.run.join(&child.run()),
             before: self.before,
             index: self.index + 1,
+            struck: None,
+        }
+    }
+
+    /// Where it is once so many characters of the next events came to the end of its run.
+    pub fn longer(&self, count: u32) -> Cursor
+        requires few { self.now.run.len + count < 2 ^ 32 }
+        requires index { self.now.index + count < 2 ^ 32 }
+        requires numbers { HasNumbers self.now.run.from (self.now.run.len + count) }
+        ensures label { result.label ≡ self.now.label }
+        ensures run { result.run ≡ longer_by self.now.run count }
+        ensures before { result.before ≡ self.now.before }
+        ensures index { result.index ≡ self.now.index + count }
+        ensures struck { result.struck ≡ None }
+    {
+        Cursor {
+            label: self.label,
+            run: Record {
+                len: self.run.len + count,
+                ..self.run
+            },
+            before: self.before,
+            index: self.index + count,
             struck: None,
         }
     }

@@ -1,7 +1,8 @@
 //! Where a new character hangs.
 
-ghost use Rattle.std.specs.Prelude.{◌≡◌, Option, Bool, true, false};
+ghost use Rattle.std.specs.Prelude.{◌≡◌, Option, None, Bool, true, false, IsTrue};
 ghost use Rattle.ew_model.specs.declared.node.Node.{Node as Nodes};
+ghost use Rattle.ew_model.specs.declared.node.Node.TheVariants as nodes;
 ghost use Rattle.character_runs.specs.Spots.{slot_by};
 
 use ew_model::node::Node;
@@ -23,6 +24,13 @@ impl Slot {
             parent: node,
             side: Side::Right,
         }
+    }
+
+    /// Whether it is on the right of the node of the event at a position.
+    pub fn is_right_of_event(self, position: u32) -> bool
+        ensures { IsTrue result → self ≡ slot_by false None (nodes.Event position) }
+    {
+        self.side == Side::Right && self.parent == Node::Event(position)
     }
 
     /// Behind a node that has a right child: a left child of the node that follows in what is prepared, where one does.

@@ -7,6 +7,8 @@ pub mod HalvingLaws
 pub mod HeadLaws
 pub mod HeadSearch
 pub mod HeirLaws
+pub mod HeirRuns
+pub mod HeirStates
 pub mod IndexLaws
 pub mod KeptLaws
 pub mod KnownLaws

@@ -6,7 +6,7 @@ use Rattle.std.proofs.lemmas.Bool.{cases_lt, and_parts}
 use Rattle.std.proofs.lemmas.List.{length-map, map-append}
 use Rattle.std.proofs.lemmas.List.FromFn.{length-range_with_len}
 use Rattle.std.proofs.lemmas.Option.{same_Some, slice_get-get_or, get_or_from_slice_get, slice_get_within, slice_get_cases}
-use Rattle.ew_model.proofs.Ranges.{range_more}
+use Rattle.ew_model.proofs.Ranges.{range_joined}
 use Rattle.ew_model.specs.declared.node.Node.TheVariants.{Event}
 use Rattle.fugue_place.specs.declared.child.Side.TheVariants.{Right}
 use Rattle.fugue_place.specs.declared.child.Attached.{Attached}
@@ -14,7 +14,7 @@ use Rattle.fugue_place.specs.declared.children.Run.{Run}
 use Rattle.fugue_place.specs.Attachments.{is_newest}
 use Rattle.fugue_place.specs.Heirs.{is_heir}
 use Rattle.fugue_place.specs.Neighbours.{side_eq}
-use Rattle.fugue_place.specs.Members.{child_by, child_of, children_of, IsRun, AreRuns, IsLastRun, GoesOn, with_heir}
+use Rattle.fugue_place.specs.Members.{child_by, child_of, children_of, IsRun, AreRuns, IsLastRun, GoesOn, with_heirs}
 use Rattle.fugue_place.proofs.NodeLaws.{side_same}
 use Rattle.fugue_place.proofs.PlaceLaws.{newest_last}
 
@@ -30,13 +30,13 @@ later_child agent r (suc i) e =
     ap (λ (k : ℕ). record { parent = Event k; side = Right; id = record { agent = agent; seq = r.seq + suc i }; node = Event (r.event + suc i) }) same
 
 -- so many children of a run, from a place in it on
-abbrev block : List (List ℕ) → Run → ℕ → ℕ → List Attached
+abbrev pub block : List (List ℕ) → Run → ℕ → ℕ → List Attached
 block names r from n = map (child_of names r) (range_with_len from n)
 
-block_more : (names : List (List ℕ)) (r : Run) (n : ℕ) → block names r 0 (suc n) ≡ block names r 0 n ++ child_of names r n ∷ []
-block_more names r n =
-    let same : 0 + n ≡ n = omega arith in
-    ap (map (child_of names r)) (range_more 0 n) ∙ map-append (child_of names r) (range_with_len 0 n) ((0 + n) ∷ []) ∙ ap (λ (k : ℕ). block names r 0 n ++ child_of names r k ∷ []) same
+block_joined : (names : List (List ℕ)) (r : Run) (m n : ℕ) → block names r 0 (m + n) ≡ block names r 0 m ++ block names r m n
+block_joined names r m n =
+    let same : 0 + m ≡ m = omega arith in
+    ap (map (child_of names r)) (range_joined 0 m n) ∙ map-append (child_of names r) (range_with_len 0 m) (range_with_len (0 + m) n) ∙ ap (λ (k : ℕ). block names r 0 m ++ block names r k n) same
 
 read_block : (names : List (List ℕ)) (r : Run) (from n : ℕ) (rest : List Attached) (p : ℕ) → p < n → slice_get (block names r from n ++ rest) p ≡ Some (child_of names r (from + p))
 read_block names r from zero rest p l = absurd (omega (arith, l))
@@ -233,26 +233,30 @@ newest_in names runs end x are e =
     let stop = last_ends names runs 0 end (length runs - 1) x are (some_runs runs x e) e in
     read_run names runs 0 end (length runs - 1) x.heirs (length (children_of names runs) - 1) x are e (omega arith) (omega (arith, all, stop))
 
--- ONE MORE CHILD, in the last run
-pub heir_in : (names : List (List ℕ)) (runs : List Run) (start end at : ℕ) (x : Run) → AreRuns names start runs end → length runs ≡ suc at → slice_get runs at ≡ Some x → x.seq + suc x.heirs < 2 ^ 32 → x.event + suc x.heirs < 2 ^ 32
-    → (children_of names (with_heir runs) ≡ children_of names runs ++ child_of names x (suc x.heirs) ∷ []) × AreRuns names start (with_heir runs) (end + 1)
-heir_in names [] start end at x are long e s v = absurd (omega (arith, long))
-heir_in names (y ∷ []) start end (suc at) x are long e s v = absurd (omega (arith, long))
-heir_in names (y ∷ z ∷ runs) start end zero x are long e s v = absurd (omega (arith, long))
-heir_in names (y ∷ []) start end zero x are long e s v =
+-- MORE CHILDREN, in the last run
+pub heirs_in : (names : List (List ℕ)) (runs : List Run) (start end at n : ℕ) (x : Run) → AreRuns names start runs end → length runs ≡ suc at → slice_get runs at ≡ Some x → x.seq + x.heirs + n < 2 ^ 32 → x.event + x.heirs + n < 2 ^ 32
+    → (children_of names (with_heirs runs n) ≡ children_of names runs ++ block names x (suc x.heirs) n) × AreRuns names start (with_heirs runs n) (end + n)
+heirs_in names [] start end at n x are long e s v = absurd (omega (arith, long))
+heirs_in names (y ∷ []) start end (suc at) n x are long e s v = absurd (omega (arith, long))
+heirs_in names (y ∷ z ∷ runs) start end zero n x are long e s v = absurd (omega (arith, long))
+heirs_in names (y ∷ []) start end zero n x are long e s v =
     let same = same_Some y x e in
-    let more : suc (y.heirs + 1) ≡ suc (suc y.heirs) = omega arith in
-    let seqs : y.seq + suc y.heirs < 2 ^ 32 = subst (λ (z : Run). z.seq + suc z.heirs < 2 ^ 32) (sym same) s in
-    let events : y.event + suc y.heirs < 2 ^ 32 = subst (λ (z : Run). z.event + suc z.heirs < 2 ^ 32) (sym same) v in (
-      append-nil (block names y 0 (suc (y.heirs + 1))) ∙ ap (block names y 0) more ∙ block_more names y (suc y.heirs)
-          ∙ (λ i. sym (append-nil (block names y 0 (suc y.heirs))) i ++ child_of names (same i) (suc (same i).heirs) ∷ []),
+    let more : suc (y.heirs + n) ≡ suc y.heirs + n = omega arith in
+    let seqs : y.seq + y.heirs + n < 2 ^ 32 = subst (λ (z : Run). z.seq + z.heirs + n < 2 ^ 32) (sym same) s in
+    let events : y.event + y.heirs + n < 2 ^ 32 = subst (λ (z : Run). z.event + z.heirs + n < 2 ^ 32) (sym same) v in (
+      append-nil (block names y 0 (suc (y.heirs + n))) ∙ ap (block names y 0) more ∙ block_joined names y (suc y.heirs) n
+          ∙ (λ i. sym (append-nil (block names y 0 (suc y.heirs))) i ++ block names (same i) (suc (same i).heirs) n),
       (record { place = are.0.place; agent = are.0.agent; seqs = omega (arith, seqs); events = omega (arith, events) }, (let last = are.1 in omega (arith, last))),
     )
-heir_in names (y ∷ z ∷ runs) start end (suc at) x are long e s v =
-    let ih = heir_in names (z ∷ runs) (start + suc y.heirs) end at x are.1 (omega (arith, long)) e s v in (
-      ap (λ xs. block names y 0 (suc y.heirs) ++ xs) ih.0 ∙ sym (append_assoc (block names y 0 (suc y.heirs)) (children_of names (z ∷ runs)) (child_of names x (suc x.heirs) ∷ [])),
+heirs_in names (y ∷ z ∷ runs) start end (suc at) n x are long e s v =
+    let ih = heirs_in names (z ∷ runs) (start + suc y.heirs) end at n x are.1 (omega (arith, long)) e s v in (
+      ap (λ xs. block names y 0 (suc y.heirs) ++ xs) ih.0 ∙ sym (append_assoc (block names y 0 (suc y.heirs)) (children_of names (z ∷ runs)) (block names x (suc x.heirs) n)),
       (are.0, ih.1),
     )
+
+pub heir_in : (names : List (List ℕ)) (runs : List Run) (start end at : ℕ) (x : Run) → AreRuns names start runs end → length runs ≡ suc at → slice_get runs at ≡ Some x → x.seq + suc x.heirs < 2 ^ 32 → x.event + suc x.heirs < 2 ^ 32
+    → (children_of names (with_heirs runs 1) ≡ children_of names runs ++ child_of names x (suc x.heirs) ∷ []) × AreRuns names start (with_heirs runs 1) (end + 1)
+heir_in names runs start end at x are long e s v = heirs_in names runs start end at 1 x are long e (omega (arith, s)) (omega (arith, v))
 
 -- in a run of its own
 pub run_in : (names : List (List ℕ)) (runs : List Run) (start end : ℕ) (x : Run) → AreRuns names start runs end → IsRun names end x → x.heirs ≡ 0
@@ -298,11 +302,11 @@ module _ (names more : List (List ℕ)) where
       let low = are.0.agent in
       (record { place = are.0.place; agent = omega (arith, long, low); seqs = are.0.seqs; events = are.0.events }, runs_stay runs (start + suc y.heirs) end are.1)
 
--- a run that is given one heir more, in place
-pub last_more : (runs : List Run) (at : ℕ) (x : Run) → length runs ≡ suc at → x ≡ slice_index_or runs at x
-    → set runs at (record { place = x.place; parent = x.parent; side = x.side; agent = x.agent; seq = x.seq; event = x.event; heirs = x.heirs + 1 }) ≡ with_heir runs
-last_more [] at x long e = absurd (omega (arith, long))
-last_more (y ∷ []) zero x long e = ap (λ (z : Run). record { place = z.place; parent = z.parent; side = z.side; agent = z.agent; seq = z.seq; event = z.event; heirs = z.heirs + 1 } ∷ []) e
-last_more (y ∷ []) (suc at) x long e = absurd (omega (arith, long))
-last_more (y ∷ z ∷ runs) zero x long e = absurd (omega (arith, long))
-last_more (y ∷ z ∷ runs) (suc at) x long e = ap (λ rs. y ∷ rs) (last_more (z ∷ runs) at x (omega (arith, long)) e)
+-- a run that is given more heirs, in place
+pub last_more : (runs : List Run) (at n : ℕ) (x : Run) → length runs ≡ suc at → x ≡ slice_index_or runs at x
+    → set runs at (record { place = x.place; parent = x.parent; side = x.side; agent = x.agent; seq = x.seq; event = x.event; heirs = x.heirs + n }) ≡ with_heirs runs n
+last_more [] at n x long e = absurd (omega (arith, long))
+last_more (y ∷ []) zero n x long e = ap (λ (z : Run). record { place = z.place; parent = z.parent; side = z.side; agent = z.agent; seq = z.seq; event = z.event; heirs = z.heirs + n } ∷ []) e
+last_more (y ∷ []) (suc at) n x long e = absurd (omega (arith, long))
+last_more (y ∷ z ∷ runs) zero n x long e = absurd (omega (arith, long))
+last_more (y ∷ z ∷ runs) (suc at) n x long e = ap (λ rs. y ∷ rs) (last_more (z ∷ runs) at n x (omega (arith, long)) e)

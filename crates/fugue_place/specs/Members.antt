@@ -63,11 +63,16 @@ pub record GoesOn (r : Run) (number next position : ℕ) : Type 0 where
   pub seq : next ≡ r.seq + suc r.heirs
   pub event : position ≡ r.event + suc r.heirs
 
--- the last of the runs has one heir more
-abbrev pub with_heir : List Run → List Run
-with_heir [] = []
-with_heir (r ∷ []) = record { place = r.place; parent = r.parent; side = r.side; agent = r.agent; seq = r.seq; event = r.event; heirs = r.heirs + 1 } ∷ []
-with_heir (r ∷ s ∷ runs) = r ∷ with_heir (s ∷ runs)
+-- the run ends with the node of the event, and its numbers leave room for so many heirs more
+pub record TakesHeirs (r : Run) (newest n : ℕ) : Type 0 where
+  pub event : r.event + r.heirs ≡ newest
+  pub seqs : r.seq + r.heirs + n < 2 ^ 32
+
+-- the last of the runs has so many heirs more
+abbrev pub with_heirs : List Run → ℕ → List Run
+with_heirs [] n = []
+with_heirs (r ∷ []) n = record { place = r.place; parent = r.parent; side = r.side; agent = r.agent; seq = r.seq; event = r.event; heirs = r.heirs + n } ∷ []
+with_heirs (r ∷ s ∷ runs) n = r ∷ with_heirs (s ∷ runs) n
 
 -- the run begins ahead of a place, at an event or before it
 abbrev pub is_ahead : ℕ → ℕ → Run → Bool

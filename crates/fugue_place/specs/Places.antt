@@ -27,3 +27,7 @@ pub record ArePlaces (children : List Attached) (places : Places) : Type 0 where
   pub rise : AreRising (take places.rising children)
   pub tells : (k : ℕ) (a : Attached) → slice_get children k ≡ Some a → places.rising ≤ k → get node_cmp places.others a.node ≡ Some k
   pub told : (v : Node) (k : ℕ) → get node_cmp places.others v ≡ Some k → HasNodeAt children v k
+
+-- so many children more stand ahead of the first whose node doesn't rise
+abbrev pub with_rising : Places → ℕ → Places
+with_rising places n = record { rising = places.rising + n; others = places.others }

@@ -138,3 +138,7 @@ pub record IsOneMore (v w : Ways) (behind : Option ℕ) : Type 0 where
   pub end : w.end ≡ v.end
   pub count : w.count ≡ v.count + 1
   pub led : IsLedBy v.count (way_of v) behind (way_of w)
+
+-- the ways with so many children more, each an heir of the one before it
+abbrev pub with_heirs : Ways → ℕ → Ways
+with_heirs w n = record { end = w.end; count = w.count + n; heads = w.heads; links = w.links; free = w.free; chains = w.chains }

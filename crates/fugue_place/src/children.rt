@@ -5,8 +5,8 @@ ghost use Rattle.std.specs.List.{AllWithin};
 ghost use Rattle.ew_model.specs.declared.node.Node.TheVariants.{Event};
 ghost use Rattle.fugue_place.specs.declared.children.Run.{Run as Runs};
 ghost use Rattle.fugue_place.specs.Attachments.{is_event, is_attached, newest_node};
-ghost use Rattle.fugue_place.specs.Heirs.{is_heir};
-ghost use Rattle.fugue_place.specs.Members.{child_by, children_of, AreRuns, AreSomeRuns, IsLastRun, GoesOn, with_heir, is_ahead};
+ghost use Rattle.fugue_place.specs.Heirs.{is_heir, HaveHeirs};
+ghost use Rattle.fugue_place.specs.Members.{child_by, children_of, AreRuns, AreSomeRuns, IsLastRun, GoesOn, TakesHeirs, with_heirs, is_ahead};
 ghost use Rattle.fugue_place.specs.Places.{HasNodeAt, AreRising};
 
 use crate::child::{Attached, Side};
@@ -176,12 +176,49 @@ impl Children {
     {
         let event = event_of(child.node);
         if goes_on(&self.runs, agent, child.id.seq, event) {
-            lengthen_last(&mut self.runs);
+            lengthen_last(&mut self.runs, 1);
             self.count += 1;
         } else {
             self.push_reserved(child, agent);
         }
     }
+
+    /// Puts so many heirs behind the others, each of the one before: they are the nodes of the next events, under the next ids of the
+    /// agent. Answers whether it did: the newest of the others has to be the node of the event at this position, and there has to be
+    /// room. Else nothing has changed.
+    pub fn push_heirs(&mut self, newest: u32, count: u32) -> bool
+        requires few { newest + count < 2 ^ 32 }
+        ensures yes { IsTrue result → HaveHeirs self.old.items self.new.items newest count }
+        ensures few { IsTrue result → length self.new.items < 2 ^ 32 }
+        ensures no { result ≡ false → self.new.items ≡ self.old.items }
+    {
+        if count > MOST - self.count || !takes_heirs(&self.runs, newest, count) {
+            return false;
+        }
+        lengthen_last(&mut self.runs, count);
+        self.count += count;
+        true
+    }
+}
+
+/// Whether the last run ends with an event, and has room for so many heirs more.
+fn takes_heirs(runs: &[Run], newest: u32, count: u32) -> bool
+    requires { AreSomeRuns runs.now }
+    ensures { IsTrue result → (r : Runs) × IsLastRun runs.now r × TakesHeirs r newest count }
+{
+    match runs.last() {
+        Some(run) => ends_with(run, newest, count),
+        None => false,
+    }
+}
+
+/// Whether the run ends with an event, and has room for so many heirs more.
+fn ends_with(run: &Run, newest: u32, count: u32) -> bool
+    requires seqs { run.now.seq + run.now.heirs < 2 ^ 32 }
+    requires events { run.now.event + run.now.heirs < 2 ^ 32 }
+    ensures { IsTrue result → TakesHeirs run.now newest count }
+{
+    run.event + run.heirs == newest && count <= MOST - (run.seq + run.heirs)
 }
 
 /// The position of the event whose node it is.
@@ -279,14 +316,14 @@ fn is_next(first: u32, more: u32, number: u32) -> bool
     last < number && number - last == 1
 }
 
-/// Gives the last run one heir more.
-fn lengthen_last(runs: &mut Vec<Run>)
-    requires { (names : List (List ℕ)) × (end : ℕ) × AreRuns names 0 runs.old.items end × (end < 2 ^ 32) }
-    ensures { runs.new.items ≡ with_heir runs.old.items }
+/// Gives the last run so many heirs more.
+fn lengthen_last(runs: &mut Vec<Run>, more: u32)
+    requires { (names : List (List ℕ)) × (end : ℕ) × AreRuns names 0 runs.old.items end × (end + more ≤ 2 ^ 32) }
+    ensures { runs.new.items ≡ with_heirs runs.old.items more }
 {
     let count = runs.len();
     if count > 0 {
-        runs[count - 1].heirs += 1;
+        runs[count - 1].heirs += more;
     }
 }
 

@@ -1,10 +1,10 @@
 //! Where children stand in the list of all, by their nodes.
 
-ghost use Rattle.std.specs.Prelude.{◌≡◌, true, false, [], ◌∷◌, ◌++◌, Some, IfSome, IfNone, OnOk, OnErr, if◌then◌else◌};
+ghost use Rattle.std.specs.Prelude.{◌≡◌, ◌+◌, ◌<◌, ◌^◌, true, false, [], ◌∷◌, ◌++◌, length, Some, IfSome, IfNone, IsTrue, OnOk, OnErr, if◌then◌else◌};
 ghost use Rattle.std.specs.BTreeMap.{get, is_at};
 ghost use Rattle.ew_model.specs.declared.node.Node.{Node as Nodes};
 ghost use Rattle.fugue_place.specs.Attachments.{is_attached};
-ghost use Rattle.fugue_place.specs.Places.{HasNodeAt, ArePlaces, is_above_newest};
+ghost use Rattle.fugue_place.specs.Places.{HasNodeAt, ArePlaces, is_above_newest, with_rising};
 ghost use Rattle.fugue_place.specs.Spots.{node_cmp};
 
 use crate::child::{Attached, is_newest};
@@ -64,6 +64,21 @@ impl Places {
             self.keep(child.node, count)?;
         }
         Ok(())
+    }
+
+    /// Whether the nodes of all children rise.
+    pub fn all_rise(&self, children: &Children) -> bool
+        ensures { IsTrue result → self.now.rising ≡ length children.now.items }
+    {
+        self.rising == children.len()
+    }
+
+    /// Keeps the places of so many more children, whose nodes rise behind those of all others.
+    pub fn add_rising(&mut self, count: u32)
+        requires few { self.old.rising + count < 2 ^ 32 }
+        ensures { self.new ≡ with_rising self.old count }
+    {
+        self.rising += count as usize;
     }
 
     /// Keeps the place of a node that doesn't rise.

@@ -1,8 +1,8 @@
 //! The attached children.
 
-ghost use Rattle.std.specs.Prelude.{◌≡◌, true, false, [], ◌∷◌, ◌++◌, IfOk, OnOk, OnErr};
+ghost use Rattle.std.specs.Prelude.{◌≡◌, ◌+◌, ◌<◌, ◌^◌, true, false, [], ◌∷◌, ◌++◌, IsTrue, IfOk, OnOk, OnErr};
 ghost use Rattle.fugue_place.specs.Attachments.{is_event, is_attached, is_there, has_id, MayAttach};
-ghost use Rattle.fugue_place.specs.Heirs.{is_heir};
+ghost use Rattle.fugue_place.specs.Heirs.{is_heir, HaveHeirs, AreNew};
 ghost use Rattle.fugue_place.specs.Neighbours.{has_beyond, SomeRightChild, EveryRightChild, IsPlaceOfNew};
 
 use crate::child::{Attached, Side, is_heir};
@@ -133,6 +133,24 @@ impl Siblings {
         self.left.go_on();
         self.right.go_on();
         Ok(())
+    }
+
+    /// Attaches the nodes of so many events behind one, each on the right of that of the event before it, under the next id of its
+    /// agent. Answers whether it did: the node of the event at this position has to be the one that was attached last, the nodes of
+    /// all have to rise, and there has to be room. Else nothing has changed.
+    pub fn attach_heirs(&mut self, newest: u32, count: u32) -> bool
+        requires few { newest + count < 2 ^ 32 }
+        requires new { AreNew self.old newest count }
+        ensures yes { IsTrue result → HaveHeirs self.old self.new newest count }
+        ensures no { result ≡ false → self.new ≡ self.old }
+    {
+        if !self.places.all_rise(&self.children) || !self.children.push_heirs(newest, count) {
+            return false;
+        }
+        self.places.add_rising(count);
+        self.left.go_on_by(count);
+        self.right.go_on_by(count);
+        true
     }
 
     /// Attaches any child.

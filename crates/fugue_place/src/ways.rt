@@ -4,7 +4,7 @@ ghost use Rattle.std.specs.Prelude.{◌≡◌, ℕ, ◌<◌, ◌≤◌, ◌+◌,
 ghost use Rattle.fugue_place.specs.declared.child.Side.TheVariants.{Left, Right};
 ghost use Rattle.fugue_place.specs.declared.ways.Ways.{Ways as AnyWays};
 ghost use Rattle.fugue_place.specs.Chains.{IsEndOf};
-ghost use Rattle.fugue_place.specs.Ways.{head_at, link_at, stop_of, next_head, next_in_run, way_of, IsWays, IsSound, IsFirstLink, KnowsLinks, IsInRun, IsInNoRun, IsFirstIn, IsFirstInNone, IsSameWays, IsPrepared, IsReady, IsOneMore};
+ghost use Rattle.fugue_place.specs.Ways.{head_at, link_at, stop_of, next_head, next_in_run, way_of, IsWays, IsSound, IsFirstLink, KnowsLinks, IsInRun, IsInNoRun, IsFirstIn, IsFirstInNone, IsSameWays, IsPrepared, IsReady, IsOneMore, with_heirs};
 
 use crate::chains::Chains;
 use crate::child::Side;
@@ -89,6 +89,14 @@ impl Ways {
         ensures right { self.old.end ≡ Right → IsOneMore self.old self.new (Some (self.old.count - 1)) }
     {
         self.count += 1;
+    }
+
+    /// Adds so many heirs, the first of the newest one, which nothing follows, and each other one of the one before.
+    pub fn go_on_by(&mut self, count: u32)
+        requires few { self.old.count + count < 2 ^ 32 }
+        ensures { self.new ≡ with_heirs self.old count }
+    {
+        self.count += count as usize;
     }
 
     /// Makes room for one more head, and links to it the place that it is to follow, if any. It gives what that place was linked

@@ -8,7 +8,7 @@ use Rattle.right_children.specs.declared.chains.Chain.{Chain}
 use Rattle.right_children.specs.Chains.{holds, parent_by, parent_in, AreInOrder, AreBelow, HasAt, IsPlaceOf, IsHeldBy, Tells, IsNextOf}
 
 -- THEIR ORDER
-chain_within : (cs : List Chain) (low k : ℕ) (c : Chain) → AreInOrder low cs → slice_get cs k ≡ Some c → (low ≤ c.first) × (c.first ≤ c.last)
+pub chain_within : (cs : List Chain) (low k : ℕ) (c : Chain) → AreInOrder low cs → slice_get cs k ≡ Some c → (low ≤ c.first) × (c.first ≤ c.last)
 chain_within [] low k c are e = absurd cc
 chain_within (d ∷ cs) low zero c are e = subst (λ (x : Chain). (low ≤ x.first) × (x.first ≤ x.last)) (same_Some d c e) (are.0, are.1)
 chain_within (d ∷ cs) low (suc k) c are e =
@@ -56,10 +56,10 @@ all_below cs n c are e lt k d f =
     omega (arith, rise, lt)
 
 -- WHICH ONE HAS A POSITION
-held : (c : Chain) (n : ℕ) → c.first ≤ n → n ≤ c.last → holds c n ≡ true
+pub held : (c : Chain) (n : ℕ) → c.first ≤ n → n ≤ c.last → holds c n ≡ true
 held c n low high = λ i. le-leb c.first n low i && le-leb n c.last high i
 
-unheld : (c : Chain) (n : ℕ) → (c.first ≤ n → n ≤ c.last → ⊥) → holds c n ≡ false
+pub unheld : (c : Chain) (n : ℕ) → (c.first ≤ n → n ≤ c.last → ⊥) → holds c n ≡ false
 unheld c n none = false_from_ne_true (holds c n) (λ h.
     let parts = and_parts (nat_le c.first n) (nat_le n c.last) h in
     none (leb-true c.first n parts.0) (leb-true n c.last parts.1))

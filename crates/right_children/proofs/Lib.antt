@@ -1,4 +1,6 @@
 pub mod ChainLaws
+pub mod HeirChains
+pub mod HeirNotes
 pub mod RestingRights
 pub mod RightCounts
 pub mod RightKeeping

@@ -1,5 +1,5 @@
 -- Right children of the events before them, in chains.
-use Rattle.std.specs.Prelude.{◌≡◌, ℕ, suc, ◌+◌, ◌-◌, ◌<◌, ◌≤◌, nat_eq, nat_le, Bool, ◌&&◌, if◌then◌else◌, List, [], ◌∷◌, Option, Some, None, slice_get}
+use Rattle.std.specs.Prelude.{◌≡◌, ◌⊎◌, ℕ, suc, ◌+◌, ◌-◌, ◌<◌, ◌≤◌, nat_eq, nat_le, Bool, ◌&&◌, if◌then◌else◌, List, [], ◌∷◌, Option, Some, None, slice_get}
 use Rattle.ew_model.specs.declared.node.Node.{Node}
 use Rattle.ew_model.specs.declared.node.Node.TheVariants.{Event}
 use Rattle.right_children.specs.declared.chains.Chain.{Chain}
@@ -49,6 +49,23 @@ pub record IsNextOf (c : Chain) (n : ℕ) (parent : Node) : Type 0 where
 -- the nodes at the positions from the first on that are below the second are each a right child of the one before
 abbrev pub AreLinked : (ℕ → Option Node) → ℕ → ℕ → Type 0
 AreLinked parent_at from to = (n : ℕ) → from ≤ n → n < to → (0 < n) × (parent_at n ≡ Some (Event (n - 1)))
+
+-- the position is none of so many right behind the first one
+abbrev pub IsApart : ℕ → ℕ → ℕ → Type 0
+IsApart first count n = (k : ℕ) → k < count → n ≡ first + k + 1 → ⊥
+
+-- the nodes of so many positions right behind the first one are each a right child of the one before
+abbrev pub HangInLine : (ℕ → Option Node) → ℕ → ℕ → Type 0
+HangInLine parent_at first count = (k : ℕ) → k < count → parent_at (first + k + 1) ≡ Some (Event (first + k))
+
+-- of each position it is told what was, or else it is one of those, and it is told that its node hangs so
+abbrev pub AreToldOn : (ℕ → Option Node) → (ℕ → Option Node) → ℕ → ℕ → Type 0
+AreToldOn old new first count = (n : ℕ) → (new n ≡ old n) ⊎ ((k : ℕ) × (k < count) × (n ≡ first + k + 1) × (new n ≡ Some (Event (first + k))))
+
+-- of the nodes of so many positions right behind the first one it is told that they hang in line, and nothing is told anew of any other
+pub record HangOn (old new : ℕ → Option Node) (first count : ℕ) : Type 0 where
+  pub each : HangInLine new first count
+  pub told : AreToldOn old new first count
 
 -- the chain has the position, and it is what is told of that and of those behind it
 pub record Tells (chains : List Chain) (n : ℕ) (c : Chain) : Type 0 where

@@ -1,9 +1,9 @@
 //! Right children of the events before them, in chains.
 
-ghost use Rattle.std.specs.Prelude.{◌≡◌, ◌≤◌, ◌<◌, ℕ, [], None, Some, IsTrue, OnOk, OnErr, IfSome, IfNone, length, nat_eq, if◌then◌else◌};
+ghost use Rattle.std.specs.Prelude.{◌≡◌, ◌≤◌, ◌<◌, ◌+◌, ◌^◌, ℕ, [], None, Some, IsTrue, OnOk, OnErr, IfSome, IfNone, length, nat_eq, if◌then◌else◌};
 ghost use Rattle.std.specs.List.{AllWithin};
 ghost use Rattle.ew_model.specs.declared.node.Node.TheVariants as nodes;
-ghost use Rattle.right_children.specs.Chains.{parent_by, parent_in, AreInOrder, AreBelow, HasAt, IsPlaceOf, IsHeldBy, Tells, IsNextOf};
+ghost use Rattle.right_children.specs.Chains.{parent_by, parent_in, AreInOrder, AreBelow, HasAt, IsPlaceOf, IsHeldBy, Tells, IsNextOf, HangOn};
 
 use ew_model::NoMem;
 use ew_model::node::Node;
@@ -80,6 +80,19 @@ impl Chains {
         ensures err { OnErr result (self.new ≡ self.old) }
     {
         put(&mut self.chains, position, parent)?;
+        self.near = self.chains.len().saturating_sub(1);
+        Ok(())
+    }
+
+    /// Puts so many positions behind one behind the chains: the node of each is a right child of that of the position before it.
+    pub fn put_heirs(&mut self, newest: u32, count: u32) -> Result<(), NoMem>
+        requires some { 0 < count }
+        requires few { newest + count < 2 ^ 32 }
+        requires below { AreBelow (newest + 1) self.old }
+        ensures ok { OnOk result (HangOn (parent_in self.old) (parent_in self.new) newest count) }
+        ensures err { OnErr result (self.new ≡ self.old) }
+    {
+        put_heirs(&mut self.chains, newest, count)?;
         self.near = self.chains.len().saturating_sub(1);
         Ok(())
     }
@@ -187,6 +200,33 @@ fn all_begin_to(chains: &[Chain], position: u32) -> bool
         Some(chain) => chain.first <= position,
         None => false,
     }
+}
+
+/// Puts right children, each of the node of the position before it, behind the chains: into the last one, where that ends there, or
+/// else into one of their own.
+fn put_heirs(chains: &mut Vec<Chain>, newest: u32, count: u32) -> Result<(), NoMem>
+    requires some { 0 < count }
+    requires few { newest + count < 2 ^ 32 }
+    requires order { AreInOrder 0 chains.old.items }
+    requires below { AreBelow (newest + 1) chains.old.items }
+    ensures ok { OnOk result (HangOn (parent_in chains.old.items) (parent_in chains.new.items) newest count) }
+    ensures err { OnErr result (chains.new.items ≡ chains.old.items) }
+    ensures order { AreInOrder 0 chains.new.items }
+{
+    let first = newest + 1;
+    let last = newest + count;
+    let parent = Node::Event(newest);
+    let len = chains.len();
+    if len > 0 && chains[len - 1].goes_on(first, parent) {
+        chains[len - 1].last = last;
+        return Ok(());
+    }
+    chains.push(Chain {
+        first,
+        last,
+        parent,
+    })?;
+    Ok(())
 }
 
 /// Puts a right child of a node behind the chains: into the last one, where that goes on with it, or else into one of its own.

@@ -1,9 +1,9 @@
 //! The parents of right children, by the positions of the events whose nodes they are.
 
-ghost use Rattle.std.specs.Prelude.{◌≡◌, ◌⊎◌, ◌+◌, ◌≤◌, ℕ, None, Some, OnOk, OnErr, nat_eq, if◌then◌else◌};
+ghost use Rattle.std.specs.Prelude.{◌≡◌, ◌⊎◌, ◌+◌, ◌≤◌, ◌<◌, ◌^◌, ℕ, None, Some, OnOk, OnErr, nat_eq, if◌then◌else◌};
 ghost use Rattle.std.specs.Ordering.{nat_cmp};
 ghost use Rattle.std.specs.BTreeMap.{get};
-ghost use Rattle.right_children.specs.Chains.{AreBelow, AreLinked};
+ghost use Rattle.right_children.specs.Chains.{AreBelow, AreLinked, HangInLine, AreToldOn};
 ghost use Rattle.right_children.specs.Parents.{parent_at};
 
 use crate::chains::{Chain, Chains};
@@ -68,6 +68,31 @@ impl Parents {
         } else {
             keep(&mut self.others, position, parent)
         }
+    }
+
+    /// Notes of the nodes of so many positions behind one that each is a right child of the one of the position before it.
+    pub fn note_heirs(&mut self, newest: u32, count: u32) -> Result<(), NoMem>
+        requires few { newest + count < 2 ^ 32 }
+        ensures ok { OnOk result (HangInLine (parent_at self.new) newest count) }
+        ensures told { AreToldOn (parent_at self.old) (parent_at self.new) newest count }
+    {
+        if count > 0 && self.chains.is_behind(newest + 1) && self.others.is_empty() {
+            return self.chains.put_heirs(newest, count);
+        }
+        self.note_each(newest, count)
+    }
+
+    /// The same, one position after another.
+    #[inline(never)]
+    fn note_each(&mut self, newest: u32, count: u32) -> Result<(), NoMem>
+        requires few { newest + count < 2 ^ 32 }
+        ensures ok { OnOk result (HangInLine (parent_at self.new) newest count) }
+        ensures told { AreToldOn (parent_at self.old) (parent_at self.new) newest count }
+    {
+        for k in 0..count {
+            self.note(newest + k + 1, Some(Node::Event(newest + k)))?;
+        }
+        Ok(())
     }
 
     /// The same for a position behind the chains, of which nothing else is noted.

@@ -8,7 +8,7 @@ ghost use Rattle.fugue_place.specs.declared.child.Attached.{Attached};
 ghost use Rattle.fugue_place.specs.declared.child.Side.TheVariants.{Right as right};
 ghost use Rattle.fugue_place.specs.Neighbours.{side_eq};
 ghost use Rattle.fugue_place.specs.Spots.{node_cmp};
-ghost use Rattle.right_children.specs.Chains.{AreLinked};
+ghost use Rattle.right_children.specs.Chains.{AreLinked, IsApart, HangInLine};
 ghost use Rattle.right_children.specs.Rows.{stepped, MayStep};
 ghost use Rattle.right_children.specs.Rights.{or_none, counted, AreRights, HasCount, IsWhole, Shifts, ShiftEach, MayShift, Resets, HangWithin, none_known};
 
@@ -65,6 +65,20 @@ impl Rights {
                 self.parents.note(position, Some(parent))
             }
         }
+    }
+
+    /// Notes that the new nodes of so many events behind one hang, each on the right of the node of the event before it. An error for
+    /// want of memory leaves what is told of the others as it was.
+    pub fn note_heirs(&mut self, newest: u32, count: u32) -> Result<(), NoMem>
+        requires few { newest + count < 2 ^ 32 }
+        requires whole { IsWhole self.old }
+        ensures whole { IsWhole self.new }
+        ensures parents { OnOk result (HangInLine (counted self.new).parent_at newest count) }
+        ensures others { (n : ℕ) → IsApart newest count n → (counted self.new).parent_at n ≡ (counted self.old).parent_at n }
+        ensures counts { (v : Nodes) → (counted self.new).count v ≡ (counted self.old).count v }
+    {
+        self.rows.begin_each(newest, count)?;
+        self.parents.note_heirs(newest, count)
     }
 
     /// A node that was known or not is so now.

@@ -1,6 +1,6 @@
 //! How many right children of the nodes of events are known, by the events' positions.
 
-ghost use Rattle.std.specs.Prelude.{◌≡◌, ◌+◌, ◌-◌, ◌≤◌, ℕ, true, None, Some, IsSome, OnOk, OnErr, length, nat_eq, unwrap_or, if◌then◌else◌};
+ghost use Rattle.std.specs.Prelude.{◌≡◌, ◌+◌, ◌-◌, ◌≤◌, ◌<◌, ◌^◌, ℕ, true, None, Some, IsSome, OnOk, OnErr, length, nat_eq, unwrap_or, if◌then◌else◌};
 ghost use Rattle.std.specs.Ordering.{nat_cmp};
 ghost use Rattle.std.specs.BTreeMap.{get};
 ghost use Rattle.right_children.specs.Rows.{in_line, kept_at, row_at, stepped, KeepsRows, MayStep};
@@ -91,6 +91,18 @@ impl Rows {
             return self.push(position);
         }
         self.begin_out_of_line(position)
+    }
+
+    /// Sees to it that so many positions from one on have rows.
+    pub fn begin_each(&mut self, from: u32, count: u32) -> Result<(), NoMem>
+        requires few { from + count < 2 ^ 32 }
+        ensures begun { OnOk result ((k : ℕ) → k < count → IsSome (kept_at self.new (from + k))) }
+        ensures rows { KeepsRows self.old self.new }
+    {
+        for k in 0..count {
+            self.begin(from + k)?;
+        }
+        Ok(())
     }
 
     /// Sees to it that a position out of line has a row.

@@ -15,4 +15,4 @@ overflow_add-index_mut c =
 
 pub returns-then-count-gt0 : goal.returns-then-count-gt0
 returns-then-count-gt0 c =
-    last_more c.args.runs.now.items (c.len-count.result - 1) c.index_mut.result.now (omega (arith, c.len-count.ensures, c.args.runs.now.ok.0, c.if-count-gt0.true)) c.index_mut.ensures.value
+    last_more c.args.runs.now.items (c.len-count.result - 1) c.args.more c.index_mut.result.now (omega (arith, c.len-count.ensures, c.args.runs.now.ok.0, c.if-count-gt0.true)) c.index_mut.ensures.value

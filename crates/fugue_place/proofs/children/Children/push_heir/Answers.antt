@@ -4,13 +4,13 @@ use Rattle.ew_model.specs.declared.node.Node.TheVariants.{Event}
 use Rattle.fugue_place.specs.declared.child.Attached.{Attached}
 use Rattle.fugue_place.specs.declared.children.Run.{Run}
 use Rattle.fugue_place.specs.Heirs.{is_heir}
-use Rattle.fugue_place.specs.Members.{Listed, children_of, AreRuns, IsLastRun, GoesOn, with_heir}
+use Rattle.fugue_place.specs.Members.{Listed, children_of, AreRuns, IsLastRun, GoesOn, with_heirs}
 use Rattle.fugue_place.proofs.RunLaws.{length_in, heir_in, some_runs, child_next}
 use Rattle.fugue_place.proofs.children.Children.push_heir.Goals as goal
 
 more : (names : List (List ℕ)) (runs : List Run) (count number event : ℕ) (a : Attached) → AreRuns names 0 runs count → slice_get names number ≡ Some a.id.agent → a.node ≡ Event event → a.id.seq < 2 ^ 32 → event < 2 ^ 32
     → is_heir (children_of names runs) a ≡ true → (r : Run) × IsLastRun runs r × GoesOn r number a.id.seq event
-    → (children_of names (with_heir runs) ≡ children_of names runs ++ a ∷ []) × AreRuns names 0 (with_heir runs) (count + 1)
+    → (children_of names (with_heirs runs 1) ≡ children_of names runs ++ a ∷ []) × AreRuns names 0 (with_heirs runs 1) (count + 1)
 more names runs count number event a are known node seqs events heir last =
     let r = last.0 in
     let on = last.2 in
@@ -31,8 +31,8 @@ overflow_add-self c =
     omega (arith, all, long, c.requires.few)
 
 module _ (names : List (List ℕ)) (runs seen longer : List Run) (count number event : ℕ) (a : Attached) (now : Listed) (are : AreRuns names 0 runs count) (items : children_of names runs ≡ now.items) (known : slice_get names number ≡ Some a.id.agent) (node : a.node ≡ Event event) (seqs : a.id.seq < 2 ^ 32)
-    (events : event < 2 ^ 32) (heir : is_heir now.items a ≡ true) (same : seen ≡ runs) (last : (r : Run) × IsLastRun seen r × GoesOn r number a.id.seq event) (is : longer ≡ with_heir runs) where
-  made : (children_of names (with_heir runs) ≡ children_of names runs ++ a ∷ []) × AreRuns names 0 (with_heir runs) (count + 1)
+    (events : event < 2 ^ 32) (heir : is_heir now.items a ≡ true) (same : seen ≡ runs) (last : (r : Run) × IsLastRun seen r × GoesOn r number a.id.seq event) (is : longer ≡ with_heirs runs 1) where
+  made : (children_of names (with_heirs runs 1) ≡ children_of names runs ++ a ∷ []) × AreRuns names 0 (with_heirs runs 1) (count + 1)
   made =
       more names runs count number event a are known node seqs events (ap (λ (xs : List Attached). is_heir xs a) items ∙ heir)
       (subst (λ (rs : List Run). (r : Run) × IsLastRun rs r × GoesOn r number a.id.seq event) same last)
