@@ -1,6 +1,5 @@
 -- A walk that takes a chain of events at once.
-use Rattle.std.proofs.Common.{◌≡◌, ℕ, zero, suc, ◌+◌, ◌-◌, ◌<◌, ◌≤◌, ◌⊎◌, inl, inr, ⊎_elim, Bool, true, false, cond, ◌&&◌, ◌||◌, nat_eq, nat_cmp, is_lt, is_eq, List, [], ◌∷◌, ◌++◌, length, reverse, refl, sym, ap, ◌∙◌, subst, arith, length-append, ne_eqb}
-use Rattle.std.specs.BTreeSet.{BTreeSet, contains}
+use Rattle.std.proofs.Common.{◌≡◌, ℕ, zero, suc, ◌+◌, ◌-◌, ◌<◌, ◌≤◌, ◌⊎◌, inl, inr, ⊎_elim, Bool, true, false, cond, ◌&&◌, ◌||◌, nat_eq, List, [], ◌∷◌, ◌++◌, length, reverse, refl, sym, ap, ◌∙◌, subst, arith, length-append, ne_eqb}
 use Rattle.std.specs.List.{range_with_len}
 use Rattle.std.proofs.Math.Bool.{or-false, and-false}
 use Rattle.std.proofs.lemmas.Bool.{false_from_ne_true, eqb-true, eqb-false, or_left, or_right}
@@ -10,7 +9,6 @@ use Rattle.std.proofs.lemmas.List.Folds.{list_any-append}
 use Rattle.std.proofs.lemmas.List.FromFn.{length-range_with_len}
 use Rattle.ew_model.specs.Graph.{is_named}
 use Rattle.ew_model.specs.Positions.{parents_at, IsHistoryOfParents}
-use Rattle.ew_model.proofs.RisingLists.{cmp_same, cmp_not_above}
 use Rattle.ew_model.proofs.PositionWalk.{taken, after_taking, turn, taken_below}
 use Rattle.ew_model.proofs.PositionSides.{any_reversed}
 use Rattle.frontier.specs.Chains.{IsChain}
@@ -105,20 +103,6 @@ pub record Reached (history : List (List ℕ)) (first n : ℕ) (pending : ℕ �
   pub above : (m : ℕ) → n < m → pending m ≡ false
   pub clear : (m : ℕ) → first ≤ m → m < n → pending m ≡ false
 
--- The same, as a set of pending positions makes it, from which n was taken off.
-pub reached_of_sets : (history : List (List ℕ)) (first n : ℕ) (old mid : BTreeSet ℕ) → n < length history → IsChain history first n
-    → contains nat_cmp old n ≡ true → ((m : ℕ) → contains nat_cmp old m ≡ true → is_lt (nat_cmp n m) ≡ false) → ((m : ℕ) → contains nat_cmp mid m ≡ cond (is_eq (nat_cmp n m)) false (contains nat_cmp old m))
-    → ((m : ℕ) → contains nat_cmp mid m ≡ true → m < first) → Reached history first n (contains nat_cmp old)
-reached_of_sets history first n old mid within chain here highest without lower = record {
-  within = within;
-  chain = chain;
-  here = here;
-  above = λ m l. false_from_ne_true (contains nat_cmp old m) (λ e. let low = cmp_not_above n m (highest m e) in omega (arith, low, l));
-  clear = λ m low high.
-      let other : is_eq (nat_cmp n m) ≡ false = cmp_same n m ∙ ne_eqb n m (λ s. omega (arith, s, high)) in
-      false_from_ne_true (contains nat_cmp old m) (λ e. let less = lower m (without m ∙ (λ i. cond (other i) false (e i))) in omega (arith, less, low));
-}
-
 -- what a walk takes that comes to n: the chain from n down to its first event, and then what is pending below that
 pub record Stretch (history : List (List ℕ)) (first n : ℕ) (old new : ℕ → Bool) : Type 0 where
   pub order : first ≤ n
@@ -168,14 +152,6 @@ pub stretch_of : (history : List (List ℕ)) → IsHistoryOfParents history → 
 stretch_of history good first n old new r next =
     let order = r.chain.order in
     stretch_by history good first (n - first) n old new (omega (arith, order)) r next
-
--- The same, as a set of pending positions makes it: n is taken off it, and the parents of the first event are put in.
-pub stretch_of_sets : (history : List (List ℕ)) → IsHistoryOfParents history → (first n : ℕ) (old mid new : BTreeSet ℕ) → Reached history first n (contains nat_cmp old)
-    → ((m : ℕ) → contains nat_cmp mid m ≡ cond (is_eq (nat_cmp n m)) false (contains nat_cmp old m))
-    → ((m : ℕ) → contains nat_cmp new m ≡ (contains nat_cmp mid m || is_named nat_eq (parents_at history first) m)) → Stretch history first n (contains nat_cmp old) (contains nat_cmp new)
-stretch_of_sets history good first n old mid new r without with =
-    stretch_of history good first n (contains nat_cmp old) (contains nat_cmp new) r
-    (λ m. with m ∙ (λ i. (without m ∙ ap (λ b. cond b false (contains nat_cmp old m)) (cmp_same n m)) i || (sym r.here i && is_named nat_eq (parents_at history first) m)))
 
 -- A position is taken in the chain or later.
 taken_of : (history : List (List ℕ)) (first n p : ℕ) (old new : ℕ → Bool) → Stretch history first n old new

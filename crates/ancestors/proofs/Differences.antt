@@ -1,8 +1,7 @@
 -- Two walks side by side, down to a floor.
-use Rattle.std.proofs.Common.{◌≡◌, ℕ, zero, suc, ◌+◌, ◌-◌, ◌<◌, ◌≤◌, Bool, true, false, not, cond, ◌&&◌, ◌||◌, if◌then◌else◌, inl, ⊎_elim, nat_lt, nat_le, nat_eq, Option, None, Some, List, [], ◌∷◌, ◌++◌, length, reverse, All, refl, sym, ap, ◌∙◌, subst, arith, append-nil, append_assoc, ne_eqb}
-use Rattle.std.specs.Prelude.{IfSome, IfNone}
+use Rattle.std.proofs.Common.{◌≡◌, ℕ, zero, suc, ◌+◌, ◌-◌, ◌<◌, ◌≤◌, Bool, true, false, not, cond, ◌&&◌, ◌||◌, if◌then◌else◌, inl, ⊎_elim, nat_lt, nat_le, nat_eq, List, [], ◌∷◌, ◌++◌, length, reverse, All, refl, sym, ap, ◌∙◌, subst, arith, append-nil, append_assoc, ne_eqb}
 use Rattle.std.specs.List.{range_with_len}
-use Rattle.std.proofs.lemmas.Bool.{false≢true, false_from_ne_true, ltb-true, ltb-false, leb-true, leb-false, or_cases, or_parts}
+use Rattle.std.proofs.lemmas.Bool.{false≢true, false_from_ne_true, ltb-true, ltb-false, leb-true, leb-false, eqb-false, or_cases, or_parts}
 use Rattle.std.proofs.lemmas.List.{reverse-reverse, reverse-append}
 use Rattle.std.proofs.lemmas.List.Elements.{All-cons, recursion_from_All}
 use Rattle.ew_model.specs.Sets.{Among}
@@ -18,7 +17,7 @@ use Rattle.ancestors.specs.Floors.{HasAllBelow}
 use Rattle.ancestors.specs.Sides.{AgreeFrom, IsHighest}
 use Rattle.frontier.specs.Chains.{IsChain}
 use Rattle.ancestors.proofs.Chains.{range_one, range_up, down_at, down_clear, down_next}
-use Rattle.ancestors.proofs.Walks.{start_within}
+use Rattle.ancestors.proofs.Walks.{start_within, taken_from}
 
 -- What was found on each side and what the two walks still take there alone are what is there alone; all that is pending
 -- lies below what was found.
@@ -176,46 +175,33 @@ parting_goes history good a b first n left right new_left new_right xs ys h g =
     let order = g.chain.order in
     parted_by history good a b first (n - first) n left right new_left new_right xs ys (omega (arith, order)) h g
 
--- Above the highest that is left once n was taken off, nothing is pending below n.
-pub clear_above : (left right mid_left mid_right : ℕ → Bool) (highest : Option ℕ) (first n : ℕ) → ((q : ℕ) → mid_left q ≡ (if nat_eq n q then false else left q)) → ((q : ℕ) → mid_right q ≡ (if nat_eq n q then false else right q))
-    → IfNone highest ((q : ℕ) → (mid_left q || mid_right q) ≡ false) → IfSome highest (λ h. IsHighest mid_left mid_right h) → IfSome highest (λ h. h < first)
-    → ((m : ℕ) → first ≤ m → m < n → left m ≡ false) × ((m : ℕ) → first ≤ m → m < n → right m ≡ false)
-clear_above left right mid_left mid_right highest first n off_left off_right none top above = (
-  λ m low high. sym (off_left m ∙ ap (λ b. cond b false (left m)) (ne_eqb n m (λ e. omega (arith, e, high)))) ∙ (free highest none top above m low).0,
-  λ m low high. sym (off_right m ∙ ap (λ b. cond b false (right m)) (ne_eqb n m (λ e. omega (arith, e, high)))) ∙ (free highest none top above m low).1,
+-- Where what is left once n was taken off lies below the first event of the chain, nothing is pending in the chain but n.
+pub clear_above : (left right mid_left mid_right : ℕ → Bool) (first n : ℕ) → ((q : ℕ) → mid_left q ≡ (if nat_eq n q then false else left q)) → ((q : ℕ) → mid_right q ≡ (if nat_eq n q then false else right q))
+    → ((q : ℕ) → (mid_left q || mid_right q) ≡ true → q < first) → ((m : ℕ) → first ≤ m → m < n → left m ≡ false) × ((m : ℕ) → first ≤ m → m < n → right m ≡ false)
+clear_above left right mid_left mid_right first n off_left off_right above = (
+  λ m low high. sym (off_left m ∙ ap (λ b. cond b false (left m)) (ne_eqb n m (λ e. omega (arith, e, high)))) ∙ (free m low).0,
+  λ m low high. sym (off_right m ∙ ap (λ b. cond b false (right m)) (ne_eqb n m (λ e. omega (arith, e, high)))) ∙ (free m low).1,
 )
   where
-    free : (highest : Option ℕ) → IfNone highest ((q : ℕ) → (mid_left q || mid_right q) ≡ false) → IfSome highest (λ h. IsHighest mid_left mid_right h) → IfSome highest (λ h. h < first)
-        → (m : ℕ) → first ≤ m → (mid_left m ≡ false) × (mid_right m ≡ false)
-    free None none top above m low = or_parts (mid_left m) (mid_right m) (none m)
-    free (Some h) none top above m low = (top.left_above m (omega (arith, low, above)), top.right_above m (omega (arith, low, above)))
+    free : (m : ℕ) → first ≤ m → (mid_left m ≡ false) × (mid_right m ≡ false)
+    free m low = or_parts (mid_left m) (mid_right m) (false_from_ne_true (mid_left m || mid_right m) (λ e. let less = above m e in omega (arith, less, low)))
 
--- nothing is taken that isn't a position there
-taken_short : (r : List (List ℕ)) (pending : ℕ → Bool) (p : ℕ) → length r ≤ p → is_named nat_eq (taken r pending) p ≡ false
-taken_short [] pending p l = refl
-taken_short (ps ∷ r) pending p l = at (pending (length r)) (λ S. taken_short r S p (omega (arith, l)))
+-- Once the highest was taken off, all that is left lies below it.
+pub left_below : (left right mid_left mid_right : ℕ → Bool) (n : ℕ) → IsHighest left right n → ((q : ℕ) → mid_left q ≡ (if nat_eq n q then false else left q)) → ((q : ℕ) → mid_right q ≡ (if nat_eq n q then false else right q))
+    → (q : ℕ) → (mid_left q || mid_right q) ≡ true → q < n
+left_below left right mid_left mid_right n top off_left off_right q e =
+    ⊎_elim (λ k. by left mid_left top.left_above off_left k) (λ k. by right mid_right top.right_above off_right k) (or_cases (mid_left q) (mid_right q) e)
   where
-    at : (b : Bool) → ((S : ℕ → Bool) → is_named nat_eq (taken r S) p ≡ false) → is_named nat_eq (cond b (length r ∷ taken r (λ q. pending q || is_named nat_eq ps q)) (taken r pending)) p ≡ false
-    at true later = ap (λ b. b || is_named nat_eq (taken r (λ q. pending q || is_named nat_eq ps q)) p) (ne_eqb p (length r) (λ e. omega (arith, l, e))) ∙ later (λ q. pending q || is_named nat_eq ps q)
-    at false later = later pending
-
--- tests that agree from the floor on take the same from there on
-taken_from : (r : List (List ℕ)) (floor : ℕ) (S T : ℕ → Bool) → AgreeFrom floor S T → (p : ℕ) → floor ≤ p → is_named nat_eq (taken r S) p ≡ is_named nat_eq (taken r T) p
-taken_from [] floor S T h p l = refl
-taken_from (ps ∷ r) floor S T h p l = by (nat_le floor (length r)) refl (λ S T k. taken_from r floor S T k p l)
-  where
-    by : (b : Bool) → nat_le floor (length r) ≡ b → ((S T : ℕ → Bool) → AgreeFrom floor S T → is_named nat_eq (taken r S) p ≡ is_named nat_eq (taken r T) p) → is_named nat_eq (taken (ps ∷ r) S) p ≡ is_named nat_eq (taken (ps ∷ r) T) p
-    by true q later = at (S (length r)) (T (length r)) (h (length r) (leb-true floor (length r) q))
+    by : (old mid : ℕ → Bool) → ((m : ℕ) → n < m → old m ≡ false) → ((q : ℕ) → mid q ≡ (if nat_eq n q then false else old q)) → mid q ≡ true → q < n
+    by old mid above off k = at (nat_eq n q) refl (nat_le n q) refl
       where
-        at : (b c : Bool) → b ≡ c → is_named nat_eq (cond b (length r ∷ taken r (λ q. S q || is_named nat_eq ps q)) (taken r S)) p ≡ is_named nat_eq (cond c (length r ∷ taken r (λ q. T q || is_named nat_eq ps q)) (taken r T)) p
-        at true true e = ap (λ b. nat_eq p (length r) || b) (later (λ q. S q || is_named nat_eq ps q) (λ q. T q || is_named nat_eq ps q) (λ q k. ap (λ b. b || is_named nat_eq ps q) (h q k)))
-        at true false e = absurd (false≢true (sym e))
-        at false true e = absurd (false≢true e)
-        at false false e = later S T h
-    by false q later =
-        let low = leb-false floor (length r) q in
-        let short : length (ps ∷ r) ≤ p = omega (arith, low, l) in
-        taken_short (ps ∷ r) S p short ∙ sym (taken_short (ps ∷ r) T p short)
+        at : (b : Bool) → nat_eq n q ≡ b → (c : Bool) → nat_le n q ≡ c → q < n
+        at true f c l = absurd (false≢true (sym (off q ∙ ap (λ b. cond b false (old q)) f) ∙ k))
+        at false f false l = leb-false n q l
+        at false f true l =
+            let ne = eqb-false n q f in
+            let low = leb-true n q l in
+            absurd (false≢true (sym (off q ∙ ap (λ b. cond b false (old q)) f ∙ above q (omega (arith, ne, low))) ∙ k))
 
 none_among : (xs : List ℕ) → ((p : ℕ) → Among p xs → ⊥) → xs ≡ []
 none_among [] h = refl

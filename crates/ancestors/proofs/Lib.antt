@@ -1,4 +1,5 @@
 pub mod SpanLists
+pub mod PendingLists
 pub mod Chains
 pub mod Walks
 pub mod Differences

@@ -1,13 +1,9 @@
 -- One walk from the highest pending position down.
-use Rattle.std.proofs.Common.{◌≡◌, ℕ, zero, suc, ◌+◌, ◌-◌, ◌<◌, ◌≤◌, ◌⊎◌, inl, inr, Bool, true, false, not, cond, ◌&&◌, ◌||◌, nat_lt, nat_le, nat_eq, nat_cmp, is_lt, is_eq, Option, None, Some, List, [], ◌∷◌, ◌++◌, flat_map, take, drop, slice_index_or, length, reverse, All, refl, sym, ap, ◌∙◌, subst, arith, append-nil, append_assoc}
-use Rattle.std.specs.Prelude.{IfSome, IfNone}
-use Rattle.std.specs.BTreeMap.{is_at}
-use Rattle.std.specs.BTreeSet.{BTreeSet, contains}
+use Rattle.std.proofs.Common.{◌≡◌, ℕ, suc, ◌+◌, ◌-◌, ◌<◌, ◌≤◌, ◌⊎◌, inl, inr, Bool, true, false, not, cond, ◌&&◌, ◌||◌, nat_le, nat_eq, List, [], ◌∷◌, ◌++◌, flat_map, take, drop, slice_index_or, length, reverse, All, refl, sym, ap, ◌∙◌, subst, arith, append-nil, append_assoc, ne_eqb}
 use Rattle.std.specs.List.{list_any, list_all, range_with_len}
 use Rattle.std.specs.List.Sorted.{IsStrictlyIncreasing}
-use Rattle.std.proofs.lemmas.Bool.{false≢true, ltb-true, ltb-false, leb-true, leb-false, and_parts, or_left, or_right}
-use Rattle.std.proofs.lemmas.Cmp.{nat_eq_equiv}
-use Rattle.std.proofs.lemmas.List.{nil_from_length, take_all, length-reverse, reverse-reverse, reverse-append}
+use Rattle.std.proofs.lemmas.Bool.{false≢true, false_from_ne_true, le-leb, leb-true, leb-false, eqb-false, and_parts, or_left, or_right}
+use Rattle.std.proofs.lemmas.List.{nil_from_length, take_all, reverse-reverse, reverse-append}
 use Rattle.std.proofs.lemmas.List.Elements.{All-append, recursion_from_All}
 use Rattle.std.proofs.lemmas.List.FromFn.{length-range_with_len, get_or-range_with_len}
 use Rattle.ew_model.specs.Sets.{Among}
@@ -17,37 +13,129 @@ use Rattle.ew_model.proofs.ListTests.{any_from, found_by, pass_all, pass_alike, 
 use Rattle.ew_model.proofs.RisingLists.{rise_of, named_low, number_among}
 use Rattle.ew_model.proofs.SetLaws.{among_flat}
 use Rattle.ew_model.proofs.SortingLaws.{all_at}
-use Rattle.ew_model.proofs.PositionWalk.{taken, taken_agree, taken_none, walk_takes}
+use Rattle.ew_model.proofs.PositionWalk.{taken, taken_agree, taken_none, walk_takes, after_taking}
 use Rattle.ew_model.proofs.PositionSides.{any_reversed, not_taken}
 use Rattle.ew_model.proofs.PositionReduced.{known_joined, reduced_by_parents}
 use Rattle.frontier.specs.Chains.{IsChain}
-use Rattle.ancestors.proofs.Chains.{Reached, reached_of_sets, Stretch, taken_there, taken_beside, stretch_within}
+use Rattle.ancestors.specs.Sides.{AgreeFrom}
+use Rattle.ancestors.proofs.Chains.{Reached, Stretch, stretch_of, stretch_lessens, stretch_within, taken_there, taken_beside}
 
--- what lies above the highest pending position lies above all of them
-above_highest : (pending : ℕ → Bool) (highest : Option ℕ) (first : ℕ) → IfNone highest ((q : ℕ) → pending q ≡ false) → IfSome highest (λ h. (q : ℕ) → pending q ≡ true → q ≤ h)
-    → IfSome highest (λ h. h < first) → (q : ℕ) → pending q ≡ true → q < first
-above_highest pending None first none greatest above q e = absurd (false≢true (sym (none q) ∙ e))
-above_highest pending (Some h) first none greatest above q e = let low = greatest q e in omega (arith, low, above)
+-- WHAT LIES BELOW A FLOOR LEADS TO NOTHING ABOVE IT
 
--- so a walk that takes the highest position off the set has come to it
-pub reached_above : (history : List (List ℕ)) (first n : ℕ) (old mid : BTreeSet ℕ) (highest : Option ℕ) → n < length history → IsChain history first n
-    → contains nat_cmp old n ≡ true → ((m : ℕ) → contains nat_cmp old m ≡ true → is_lt (nat_cmp n m) ≡ false) → ((m : ℕ) → contains nat_cmp mid m ≡ cond (is_eq (nat_cmp n m)) false (contains nat_cmp old m))
-    → IfNone highest ((q : ℕ) → contains nat_cmp mid q ≡ false) → IfSome highest (λ h. (q : ℕ) → contains nat_cmp mid q ≡ true → q ≤ h) → IfSome highest (λ h. h < first)
-    → Reached history first n (contains nat_cmp old)
-reached_above history first n old mid highest within chain here top without none greatest above =
-    reached_of_sets history first n old mid within chain here top without (above_highest (contains nat_cmp mid) highest first none greatest above)
-
--- what was put into an empty set
-pub put_first : (positions : List ℕ) (old new : BTreeSet ℕ) → old.keys ≡ [] → ((q : ℕ) → contains nat_cmp new q ≡ (contains nat_cmp old q || is_named nat_eq positions q)) → (q : ℕ) → contains nat_cmp new q ≡ is_named nat_eq positions q
-put_first positions old new none put q = put q ∙ ap (λ ks. list_any (is_at (nat_cmp q)) ks || is_named nat_eq positions q) none
-
--- nothing is pending in a set without keys
-pub none_pending : (set : BTreeSet ℕ) → (0 < length set.keys → false ≡ true) → (q : ℕ) → contains nat_cmp set q ≡ false
-none_pending set none q = ap (λ ks. list_any (is_at (nat_cmp q)) ks) (nil_from_length set.keys (zero_where (length set.keys) none))
+-- nothing is taken that isn't a position there
+taken_short : (r : List (List ℕ)) (pending : ℕ → Bool) (p : ℕ) → length r ≤ p → is_named nat_eq (taken r pending) p ≡ false
+taken_short [] pending p l = refl
+taken_short (ps ∷ r) pending p l = at (pending (length r)) (λ S. taken_short r S p (omega (arith, l)))
   where
-    zero_where : (n : ℕ) → (0 < n → false ≡ true) → n ≡ 0
-    zero_where zero f = refl
-    zero_where (suc n) f = absurd (false≢true (f (omega arith)))
+    at : (b : Bool) → ((S : ℕ → Bool) → is_named nat_eq (taken r S) p ≡ false) → is_named nat_eq (cond b (length r ∷ taken r (λ q. pending q || is_named nat_eq ps q)) (taken r pending)) p ≡ false
+    at true later = ap (λ b. b || is_named nat_eq (taken r (λ q. pending q || is_named nat_eq ps q)) p) (ne_eqb p (length r) (λ e. omega (arith, l, e))) ∙ later (λ q. pending q || is_named nat_eq ps q)
+    at false later = later pending
+
+-- tests that agree from the floor on take the same from there on
+pub taken_from : (r : List (List ℕ)) (floor : ℕ) (S T : ℕ → Bool) → AgreeFrom floor S T → (p : ℕ) → floor ≤ p → is_named nat_eq (taken r S) p ≡ is_named nat_eq (taken r T) p
+taken_from [] floor S T h p l = refl
+taken_from (ps ∷ r) floor S T h p l = by (nat_le floor (length r)) refl (λ S T k. taken_from r floor S T k p l)
+  where
+    by : (b : Bool) → nat_le floor (length r) ≡ b → ((S T : ℕ → Bool) → AgreeFrom floor S T → is_named nat_eq (taken r S) p ≡ is_named nat_eq (taken r T) p) → is_named nat_eq (taken (ps ∷ r) S) p ≡ is_named nat_eq (taken (ps ∷ r) T) p
+    by true q later = at (S (length r)) (T (length r)) (h (length r) (leb-true floor (length r) q))
+      where
+        at : (b c : Bool) → b ≡ c → is_named nat_eq (cond b (length r ∷ taken r (λ q. S q || is_named nat_eq ps q)) (taken r S)) p ≡ is_named nat_eq (cond c (length r ∷ taken r (λ q. T q || is_named nat_eq ps q)) (taken r T)) p
+        at true true e = ap (λ b. nat_eq p (length r) || b) (later (λ q. S q || is_named nat_eq ps q) (λ q. T q || is_named nat_eq ps q) (λ q k. ap (λ b. b || is_named nat_eq ps q) (h q k)))
+        at true false e = absurd (false≢true (sym e))
+        at false true e = absurd (false≢true e)
+        at false false e = later S T h
+    by false q later =
+        let low = leb-false floor (length r) q in
+        let short : length (ps ∷ r) ≤ p = omega (arith, low, l) in
+        taken_short (ps ∷ r) S p short ∙ sym (taken_short (ps ∷ r) T p short)
+
+-- what passes more takes as much or more
+taken_fewer : (r : List (List ℕ)) (S T : ℕ → Bool) → ((q : ℕ) → S q ≡ true → T q ≡ true) → length (taken r S) ≤ length (taken r T)
+taken_fewer [] S T h = omega arith
+taken_fewer (ps ∷ r) S T h = at (S (length r)) (T (length r)) (h (length r)) (λ S T k. taken_fewer r S T k)
+  where
+    wider : (a b c : Bool) → (a ≡ true → b ≡ true) → (a || c) ≡ true → (b || c) ≡ true
+    wider true b c k e = or_left b c (k refl)
+    wider false b c k e = or_right b c e
+
+    at : (b c : Bool) → (b ≡ true → c ≡ true) → ((S T : ℕ → Bool) → ((q : ℕ) → S q ≡ true → T q ≡ true) → length (taken r S) ≤ length (taken r T))
+        → length (cond b (length r ∷ taken r (λ q. S q || is_named nat_eq ps q)) (taken r S)) ≤ length (cond c (length r ∷ taken r (λ q. T q || is_named nat_eq ps q)) (taken r T))
+    at true true k later = let more = later (λ q. S q || is_named nat_eq ps q) (λ q. T q || is_named nat_eq ps q) (λ q e. wider (S q) (T q) (is_named nat_eq ps q) (h q) e) in omega (arith, more)
+    at true false k later = absurd (false≢true (k refl))
+    at false true k later = let more = later S (λ q. T q || is_named nat_eq ps q) (λ q e. or_left (T q) (is_named nat_eq ps q) (h q e)) in omega (arith, more)
+    at false false k later = later S T h
+
+-- A walk takes the highest position off what is pending, and goes down a chain to it that lies above all the others. It
+-- puts in those parents of the first event that aren't below the floor.
+pub record Going (history : List (List ℕ)) (floor first n : ℕ) (old mid new : ℕ → Bool) : Type 0 where
+  pub within : n < length history
+  pub here : old n ≡ true
+  pub top : (q : ℕ) → old q ≡ true → q ≤ n
+  pub without : (q : ℕ) → mid q ≡ cond (nat_eq n q) false (old q)
+  pub chain : IsChain history first n
+  pub above : (q : ℕ) → mid q ≡ true → q < first
+  pub with : (q : ℕ) → new q ≡ (mid q || (nat_le floor q && is_named nat_eq (parents_at history first) q))
+
+-- what is left once the highest was taken off lies below it
+pub rest_below : (old mid : ℕ → Bool) (n : ℕ) → ((q : ℕ) → old q ≡ true → q ≤ n) → ((q : ℕ) → mid q ≡ cond (nat_eq n q) false (old q)) → (q : ℕ) → mid q ≡ true → q < n
+rest_below old mid n top without q e = at (nat_eq n q) refl
+  where
+    at : (b : Bool) → nat_eq n q ≡ b → q < n
+    at true f = absurd (false≢true (sym (without q ∙ ap (λ b. cond b false (old q)) f) ∙ e))
+    at false f =
+        let low = top q (sym (without q ∙ ap (λ b. cond b false (old q)) f) ∙ e) in
+        let ne = eqb-false n q f in
+        omega (arith, low, ne)
+
+module _ (history : List (List ℕ)) (good : IsHistoryOfParents history) (floor first n : ℕ) (old mid new : ℕ → Bool) (g : Going history floor first n old mid new) where
+  -- the walk has come to it
+  pub going_reached : Reached history first n old
+  going_reached = record {
+    within = g.within;
+    chain = g.chain;
+    here = g.here;
+    above = λ m l. false_from_ne_true (old m) (λ e. let low = g.top m e in omega (arith, low, l));
+    clear = λ m low high. false_from_ne_true (old m) (λ e. let less = g.above m (g.without m ∙ ap (λ b. cond b false (old m)) (ne_eqb n m (λ s. omega (arith, s, high))) ∙ e) in omega (arith, less, low));
+  }
+
+  -- what is pending where all the parents are put in
+  abbrev whole : ℕ → Bool
+  whole = after_taking old (parents_at history first) n
+
+  whole_stretch : Stretch history first n old whole
+  whole_stretch = stretch_of history good first n old whole going_reached (λ m. refl)
+
+  from_floor : AgreeFrom floor new whole
+  from_floor q l = g.with q ∙ (λ i. g.without q i || ((le-leb floor q l ∙ sym g.here) i && is_named nat_eq (parents_at history first) q))
+
+  part_of_whole : (q : ℕ) → new q ≡ true → whole q ≡ true
+  part_of_whole q e =
+      ap (λ b. cond (nat_eq n q) false (old q) || (b && is_named nat_eq (parents_at history first) q)) g.here
+      ∙ ap (λ b. b || is_named nat_eq (parents_at history first) q) (sym (g.without q))
+      ∙ all_of (mid q) (nat_le floor q) (is_named nat_eq (parents_at history first) q) (sym (g.with q) ∙ e)
+    where
+      all_of : (a b c : Bool) → (a || (b && c)) ≡ true → (a || c) ≡ true
+      all_of true b c k = refl
+      all_of false true c k = k
+      all_of false false c k = absurd (false≢true k)
+
+  -- where nothing lies below the floor
+  pub going_whole : floor ≡ 0 → Stretch history first n old new
+  going_whole none = stretch_of history good first n old new going_reached (λ q. from_floor q (omega (arith, none)))
+
+  -- there is less to take
+  pub going_lessens : length (taken (reverse history) new) < length (taken (reverse history) old)
+  going_lessens =
+      let part = taken_fewer (reverse history) new whole part_of_whole in
+      let less = stretch_lessens history first n old whole whole_stretch in
+      omega (arith, part, less)
+
+  going_within : (q : ℕ) → new q ≡ true → q < length history
+  going_within q e = stretch_within history first n old whole whole_stretch g.within q (part_of_whole q e)
+
+  -- another position that isn't below the floor is taken later or not at all
+  going_beside : (p : ℕ) → floor ≤ p → (p < first) ⊎ (n < p) → is_named nat_eq (taken (reverse history) new) p ≡ is_named nat_eq (taken (reverse history) old) p
+  going_beside p l off = taken_from (reverse history) floor new whole from_floor p l ∙ taken_beside history first n p old whole whole_stretch off
 
 -- what a walk that begins with these positions takes
 pub start_takes : (history : List (List ℕ)) (version : List ℕ) (pending : ℕ → Bool) → ((q : ℕ) → pending q ≡ is_named nat_eq version q)
@@ -105,48 +193,41 @@ closing_ends history version found pending none h =
 pub record Seeking (history : List (List ℕ)) (version : List ℕ) (sought : ℕ) (pending : ℕ → Bool) : Type 0 where
   pub same : is_named nat_eq (taken (reverse history) pending) sought ≡ is_known_at history version sought
   pub within : (q : ℕ) → pending q ≡ true → q < length history
+  pub high : (q : ℕ) → pending q ≡ true → sought ≤ q
 
-pub seeking_starts : (history : List (List ℕ)) (version : List ℕ) (sought : ℕ) (pending : ℕ → Bool) → All (λ v. v < length history) version → ((q : ℕ) → pending q ≡ is_named nat_eq version q) → Seeking history version sought pending
-seeking_starts history version sought pending low same = record {
-  same = start_knows history version pending sought same;
-  within = start_within history version pending low same;
+pub seeking_starts : (history : List (List ℕ)) (version : List ℕ) (sought : ℕ) (pending : ℕ → Bool) → All (λ v. v < length history) version
+    → ((q : ℕ) → pending q ≡ (nat_le sought q && is_named nat_eq version q)) → Seeking history version sought pending
+seeking_starts history version sought pending low from = record {
+  same =
+      taken_from (reverse history) sought pending (is_named nat_eq version) (λ q l. from q ∙ ap (λ b. b && is_named nat_eq version q) (le-leb sought q l)) sought (omega arith)
+      ∙ start_knows history version (is_named nat_eq version) sought (λ q. refl);
+  within = λ q e. start_within history version (is_named nat_eq version) low (λ q. refl) q (and_parts (nat_le sought q) (is_named nat_eq version q) (sym (from q) ∙ e)).1;
+  high = λ q e. leb-true sought q (and_parts (nat_le sought q) (is_named nat_eq version q) (sym (from q) ∙ e)).0;
 }
 
-pub seeking_goes : (history : List (List ℕ)) (version : List ℕ) (sought first n : ℕ) (old new : ℕ → Bool) → Stretch history first n old new → old n ≡ true → sought < first → Seeking history version sought old → Seeking history version sought new
-seeking_goes history version sought first n old new t at low h = record {
-  same = taken_beside history first n sought old new t (inl low) ∙ h.same;
-  within = stretch_within history first n old new t (h.within n at);
+pub seeking_goes : (history : List (List ℕ)) → IsHistoryOfParents history → (version : List ℕ) (sought first n : ℕ) (old mid new : ℕ → Bool) → Going history sought first n old mid new → sought < first → Seeking history version sought old
+    → Seeking history version sought new
+seeking_goes history good version sought first n old mid new g low h = record {
+  same = going_beside history good sought first n old mid new g sought (omega arith) (inl low) ∙ h.same;
+  within = going_within history good sought first n old mid new g;
+  high = λ q e. at q (mid q) (nat_le sought q) refl refl (sym (g.with q) ∙ e);
 }
-
--- what is pending is taken
-taken_here : (r : List (List ℕ)) (pending : ℕ → Bool) (p : ℕ) → p < length r → pending p ≡ true → is_named nat_eq (taken r pending) p ≡ true
-taken_here [] pending p l e = absurd (omega (arith, l))
-taken_here (ps ∷ r) pending p l e = at (pending (length r)) refl (nat_lt p (length r)) refl (λ S k f. taken_here r S p k f)
   where
-    at : (b : Bool) → pending (length r) ≡ b → (c : Bool) → nat_lt p (length r) ≡ c → ((S : ℕ → Bool) → p < length r → S p ≡ true → is_named nat_eq (taken r S) p ≡ true)
-        → is_named nat_eq (cond b (length r ∷ taken r (λ q. pending q || is_named nat_eq ps q)) (taken r pending)) p ≡ true
-    at true f true g later =
-        or_right (nat_eq p (length r)) (is_named nat_eq (taken r (λ q. pending q || is_named nat_eq ps q)) p)
-        (later (λ q. pending q || is_named nat_eq ps q) (ltb-true p (length r) g) (or_left (pending p) (is_named nat_eq ps p) e))
-    at false f true g later = later pending (ltb-true p (length r) g) e
-    at true f false g later =
-        let high = ltb-false p (length r) g in
-        let same : p ≡ length r = omega (arith, l, high) in
-        or_left (nat_eq p (length r)) (is_named nat_eq (taken r (λ q. pending q || is_named nat_eq ps q)) p) (ap (λ q. nat_eq p q) (sym same) ∙ nat_eq_equiv.refl p)
-    at false f false g later =
-        let high = ltb-false p (length r) g in
-        let same : p ≡ length r = omega (arith, l, high) in
-        absurd (false≢true (sym f ∙ ap pending (sym same) ∙ e))
-
-pub seeking_finds : (history : List (List ℕ)) (version : List ℕ) (sought : ℕ) (pending : ℕ → Bool) → sought < length history → pending sought ≡ true → Seeking history version sought pending → true ≡ is_known_at history version sought
-seeking_finds history version sought pending l e h = sym (taken_here (reverse history) pending sought (let same = length-reverse history in omega (arith, l, same)) e) ∙ h.same
+    at : (q : ℕ) (a b : Bool) → mid q ≡ a → nat_le sought q ≡ b → (a || (b && is_named nat_eq (parents_at history first) q)) ≡ true → sought ≤ q
+    at q true b f l e = h.high q (was (nat_eq n q) (sym (g.without q) ∙ f))
+      where
+        was : (c : Bool) → cond c false (old q) ≡ true → old q ≡ true
+        was true k = absurd (false≢true k)
+        was false k = k
+    at q false true f l e = leb-true sought q l
+    at q false false f l e = absurd (false≢true e)
 
 pub seeking_passes : (history : List (List ℕ)) → IsHistoryOfParents history → (version : List ℕ) (sought first n : ℕ) (pending : ℕ → Bool) → Reached history first n pending → first ≤ sought → sought ≤ n → Seeking history version sought pending
     → true ≡ is_known_at history version sought
 seeking_passes history good version sought first n pending r low high h = sym (taken_there history good first n sought pending r low high) ∙ h.same
 
-pub seeking_misses : (history : List (List ℕ)) → IsHistoryOfParents history → (version : List ℕ) (sought : ℕ) (pending : ℕ → Bool) → ((q : ℕ) → pending q ≡ true → q < sought) → Seeking history version sought pending → false ≡ is_known_at history version sought
-seeking_misses history good version sought pending low h = sym (not_taken history good pending sought low) ∙ h.same
+pub seeking_misses : (history : List (List ℕ)) → IsHistoryOfParents history → (version : List ℕ) (sought : ℕ) (pending : ℕ → Bool) → ((q : ℕ) → pending q ≡ false) → Seeking history version sought pending → false ≡ is_known_at history version sought
+seeking_misses history good version sought pending none h = sym (not_taken history good pending sought (λ q e. absurd (false≢true (sym (none q) ∙ e)))) ∙ h.same
 
 -- WHETHER POSITIONS ARE REDUCED
 
@@ -154,11 +235,13 @@ pub record Comparing (history : List (List ℕ)) (positions above : List ℕ) (p
   pub same : (p : ℕ) → Among p positions → is_named nat_eq (taken (reverse history) pending) p ≡ is_known_at history (flat_map (parents_at history) above) p
   pub within : (q : ℕ) → pending q ≡ true → q < length history
 
-comparing_starts : (history : List (List ℕ)) → IsHistoryOfParents history → (positions above : List ℕ) (pending : ℕ → Bool) → All (λ p. p < length history) above
-    → ((q : ℕ) → pending q ≡ is_named nat_eq (flat_map (parents_at history) above) q) → Comparing history positions above pending
-comparing_starts history good positions above pending low same = record {
-  same = λ p m. start_knows history (flat_map (parents_at history) above) pending p same;
-  within = λ q e. lows above low q (sym (same q) ∙ e);
+comparing_starts : (history : List (List ℕ)) → IsHistoryOfParents history → (positions above : List ℕ) (floor : ℕ) (pending : ℕ → Bool) → All (λ p. p < length history) above → ((p : ℕ) → Among p positions → floor ≤ p)
+    → ((q : ℕ) → pending q ≡ (nat_le floor q && is_named nat_eq (flat_map (parents_at history) above) q)) → Comparing history positions above pending
+comparing_starts history good positions above floor pending low least from = record {
+  same = λ p m.
+      taken_from (reverse history) floor pending (is_named nat_eq (flat_map (parents_at history) above)) (λ q l. from q ∙ ap (λ b. b && is_named nat_eq (flat_map (parents_at history) above) q) (le-leb floor q l)) p (least p m)
+      ∙ start_knows history (flat_map (parents_at history) above) (is_named nat_eq (flat_map (parents_at history) above)) p (λ q. refl);
+  within = λ q e. lows above low q (and_parts (nat_le floor q) (is_named nat_eq (flat_map (parents_at history) above) q) (sym (from q) ∙ e)).1;
 }
   where
     lows : (above : List ℕ) → All (λ p. p < length history) above → (q : ℕ) → is_named nat_eq (flat_map (parents_at history) above) q ≡ true → q < length history
@@ -181,11 +264,11 @@ beside positions first n none p m = at (nat_le first p) refl (nat_le p n) refl
     at true e false f = inr (leb-false p n f)
     at true e true f = absurd (false≢true (sym none ∙ any_from (in_chain first n) positions p m (λ i. e i && f i)))
 
-pub comparing_goes : (history : List (List ℕ)) (positions above : List ℕ) (first n : ℕ) (old new : ℕ → Bool) → Stretch history first n old new → old n ≡ true → list_any (in_chain first n) positions ≡ false → Comparing history positions above old
-    → Comparing history positions above new
-comparing_goes history positions above first n old new t at none h = record {
-  same = λ p m. taken_beside history first n p old new t (beside positions first n none p m) ∙ h.same p m;
-  within = stretch_within history first n old new t (h.within n at);
+comparing_goes : (history : List (List ℕ)) → IsHistoryOfParents history → (positions above : List ℕ) (floor first n : ℕ) (old mid new : ℕ → Bool) → ((p : ℕ) → Among p positions → floor ≤ p)
+    → Going history floor first n old mid new → list_any (in_chain first n) positions ≡ false → Comparing history positions above old → Comparing history positions above new
+comparing_goes history good positions above floor first n old mid new least g none h = record {
+  same = λ p m. going_beside history good floor first n old mid new g p (least p m) (beside positions first n none p m) ∙ h.same p m;
+  within = going_within history good floor first n old mid new g;
 }
 
 -- the parents of the lowest position know none of the positions
@@ -213,23 +296,32 @@ module _ (history : List (List ℕ)) (good : IsHistoryOfParents history) (lowest
   comparing_finds p pending m there h =
       sym (by_others ∙ one_fails (λ p. not (is_known_at history (flat_map (parents_at history) others) p)) (lowest ∷ others) p m (ap not (sym (h.same p m) ∙ there)))
 
-  -- and where all that is pending lies below them none is
-  comparing_misses : (pending : ℕ → Bool) → ((q : ℕ) → pending q ≡ true → q < lowest) → Comparing history (lowest ∷ others) others pending → true ≡ is_reduced_at history (lowest ∷ others)
-  comparing_misses pending low h =
+  -- and where nothing is pending none is
+  comparing_misses : (pending : ℕ → Bool) → ((q : ℕ) → pending q ≡ false) → Comparing history (lowest ∷ others) others pending → true ≡ is_reduced_at history (lowest ∷ others)
+  comparing_misses pending none h =
       sym (by_others ∙ pass_all (λ p. not (is_known_at history (flat_map (parents_at history) others) p)) (lowest ∷ others)
-      (λ p m. ap not (sym (h.same p m) ∙ not_taken history good pending p (λ q e. let less = low q e in let least = at_least p m in omega (arith, less, least)))))
+      (λ p m. ap not (sym (h.same p m) ∙ not_taken history good pending p (λ q e. absurd (false≢true (sym (none q) ∙ e))))))
 
 -- The same of positions that were split into the lowest and the others.
 module _ (history : List (List ℕ)) (good : IsHistoryOfParents history) (positions : List ℕ) (lowest : ℕ) (others : List ℕ) (split : positions ≡ lowest ∷ others) (rising : IsStrictlyIncreasing positions) (within : All (λ p. p < length history) positions) where
   abbrev Judged : (ℕ → Bool) → Bool → List ℕ → Type 0
   Judged pending answer ps = IsStrictlyIncreasing ps → All (λ p. p < length history) ps → Comparing history ps (drop 1 ps) pending → answer ≡ is_reduced_at history ps
 
-  pub reduced_starts : (pending : ℕ → Bool) (place : ℕ) → length others ≤ place → ((q : ℕ) → pending q ≡ is_named nat_eq (flat_map (parents_at history) (take place others)) q) → Comparing history positions (drop 1 positions) pending
+  pub reduced_starts : (pending : ℕ → Bool) (place : ℕ) → length others ≤ place → ((q : ℕ) → pending q ≡ (nat_le lowest q && is_named nat_eq (flat_map (parents_at history) (take place others)) q))
+      → Comparing history positions (drop 1 positions) pending
   reduced_starts pending place all put =
-      let same : (q : ℕ) → pending q ≡ is_named nat_eq (flat_map (parents_at history) others) q = λ q. put q ∙ ap (λ ps. is_named nat_eq (flat_map (parents_at history) ps) q) (take_all place others all) in
-      subst (λ ps. All (λ p. p < length history) ps → Comparing history ps (drop 1 ps) pending) (sym split)
-      (λ low. comparing_starts history good (lowest ∷ others) others pending (λ k d l. low (suc k) d (omega (arith, l))) same)
-      within
+      let from : (q : ℕ) → pending q ≡ (nat_le lowest q && is_named nat_eq (flat_map (parents_at history) others) q) =
+      λ q. put q ∙ ap (λ ps. nat_le lowest q && is_named nat_eq (flat_map (parents_at history) ps) q) (take_all place others all) in
+      subst (λ ps. IsStrictlyIncreasing ps → All (λ p. p < length history) ps → Comparing history ps (drop 1 ps) pending) (sym split)
+      (λ r low. comparing_starts history good (lowest ∷ others) others lowest pending (λ k d l. low (suc k) d (omega (arith, l))) (at_least history good lowest others r low) from)
+      rising within
+
+  pub reduced_goes : (first n : ℕ) (old mid new : ℕ → Bool) → Going history lowest first n old mid new → list_any (in_chain first n) positions ≡ false → Comparing history positions (drop 1 positions) old
+      → Comparing history positions (drop 1 positions) new
+  reduced_goes first n old mid new g none =
+      subst (λ ps. IsStrictlyIncreasing ps → All (λ p. p < length history) ps → list_any (in_chain first n) ps ≡ false → Comparing history ps (drop 1 ps) old → Comparing history ps (drop 1 ps) new) (sym split)
+      (λ r low e. comparing_goes history good (lowest ∷ others) others lowest first n old mid new (at_least history good lowest others r low) g e)
+      rising within none
 
   pub reduced_finds : (first n : ℕ) (pending : ℕ → Bool) → Reached history first n pending → list_any (in_chain first n) positions ≡ true → Comparing history positions (drop 1 positions) pending → false ≡ is_reduced_at history positions
   reduced_finds first n pending r e =
@@ -243,8 +335,8 @@ module _ (history : List (List ℕ)) (good : IsHistoryOfParents history) (positi
   pub other_within : (place : ℕ) → place < length others → slice_index_or others place 0 < length history
   other_within place l = subst (λ ps. All (λ p. p < length history) ps → slice_index_or others place 0 < length history) (sym split) (λ low. low (suc place) 0 (omega (arith, l))) within
 
-  pub reduced_misses : (pending : ℕ → Bool) → ((q : ℕ) → pending q ≡ true → q < lowest) → Comparing history positions (drop 1 positions) pending → true ≡ is_reduced_at history positions
-  reduced_misses pending low = subst (Judged pending true) (sym split) (λ r w h. comparing_misses history good lowest others r w pending low h) rising within
+  pub reduced_misses : (pending : ℕ → Bool) → ((q : ℕ) → pending q ≡ false) → Comparing history positions (drop 1 positions) pending → true ≡ is_reduced_at history positions
+  reduced_misses pending none = subst (Judged pending true) (sym split) (λ r w h. comparing_misses history good lowest others r w pending none h) rising within
 
 -- no positions are reduced
 pub none_reduced : (history : List (List ℕ)) (positions : List ℕ) → length positions ≡ 0 → true ≡ is_reduced_at history positions

@@ -1,7 +1,6 @@
 -- What is pending for two walks side by side.
-use Rattle.std.specs.Prelude.{◌≡◌, ℕ, ◌<◌, ◌≤◌, ◌||◌, Bool, true, false}
-use Rattle.std.specs.Ordering.{nat_cmp}
-use Rattle.std.specs.BTreeSet.{BTreeSet, contains}
+use Rattle.std.specs.Prelude.{◌≡◌, ℕ, ◌<◌, ◌≤◌, ◌||◌, Bool, true, false, List, nat_eq}
+use Rattle.ew_model.specs.Graph.{is_named}
 use Rattle.ancestors.specs.declared.sides.Side.{Side}
 use Rattle.ancestors.specs.declared.sides.Side.TheVariants.{Left, Right, Both}
 use Rattle.ancestors.specs.declared.sides.Sides.{Sides}
@@ -18,9 +17,9 @@ has_right Left = false
 has_right Right = true
 has_right Both = true
 
--- pending on a side: for that walk alone, or for both
-abbrev pub is_on : BTreeSet ℕ → BTreeSet ℕ → ℕ → Bool
-is_on alone both position = contains nat_cmp alone position || contains nat_cmp both position
+-- pending on a side: for that walk, or for both
+abbrev pub is_on : List ℕ → List ℕ → ℕ → Bool
+is_on alone both position = is_named nat_eq alone position || is_named nat_eq both position
 
 -- pending for the left walk
 abbrev pub on_left : Sides → ℕ → Bool

@@ -1,14 +1,14 @@
 //! What either of two versions knows alone.
 
-ghost use Rattle.std.specs.Prelude.{◌≡◌, ℕ, ◌<◌, ◌≤◌, ◌&&◌, ◌||◌, not, nat_eq, if◌then◌else◌, ◌++◌, length, IfOk, OnOk};
+ghost use Rattle.std.specs.Prelude.{◌≡◌, ℕ, ◌<◌, ◌≤◌, ◌&&◌, ◌||◌, not, true, nat_eq, if◌then◌else◌, ◌++◌, length, IfOk, OnOk};
 ghost use Rattle.std.specs.List.{All};
 ghost use Rattle.ew_model.specs.Graph.{is_named};
 ghost use Rattle.ew_model.specs.Positions.{parents_at, known_alone};
 ghost use Rattle.ancestors.specs.Spans.{positions_in, positions_of, AreDescending};
 ghost use Rattle.ancestors.specs.Floors.{HasAllBelow};
 ghost use Rattle.ancestors.specs.Sides.{has_left, has_right, on_left, on_right};
+ghost use Rattle.frontier.specs.Chains.{IsChain};
 
-use crate::pending::chain_above;
 use crate::sides::{Side, Sides};
 use crate::spans::{Span, Spans};
 use ew_model::NoMem;
@@ -41,13 +41,12 @@ pub fn diff<G: Parentage>(
     let mut left = Spans::new(alloc);
     let mut right = Spans::new(alloc);
     while let Some((n, side)) = sides.pop_from(floor) {
-        let first = chain_above(g, n, sides.highest());
+        let first = take_chain(g, n, &mut sides, side)?;
         let chain = Span {
             from: first,
             to: n + 1,
         };
         put_alone(&mut left, &mut right, side, chain)?;
-        put_parents(g, first, &mut sides, side)?;
     }
     Ok((left, right))
 }
@@ -71,14 +70,24 @@ fn put_alone(left: &mut Spans, right: &mut Spans, side: Side, chain: Span) -> Re
     }
 }
 
-/// Puts in the parents of an event.
-fn put_parents<G: Parentage>(g: &G, lv: u32, sides: &mut Sides, side: Side) -> Result<(), NoMem>
-    requires { lv < length (G.parents g.now) }
-    ensures left { OnOk result ((q : ℕ) → on_left sides.new q ≡ (on_left sides.old q || (has_left side && is_named nat_eq (parents_at (G.parents g.now) lv) q))) }
-    ensures right { OnOk result ((q : ℕ) → on_right sides.new q ≡ (on_right sides.old q || (has_right side && is_named nat_eq (parents_at (G.parents g.now) lv) q))) }
+/// Where a chain to an event begins, above all that are pending. Puts in the parents of its first event.
+fn take_chain<G: Parentage>(g: &G, lv: u32, sides: &mut Sides, side: Side) -> Result<u32, NoMem>
+    requires within { lv < length (G.parents g.now) }
+    requires lower { (q : ℕ) → (on_left sides.old q || on_right sides.old q) ≡ true → q < lv }
+    ensures chain { IfOk result (λ first. IsChain (G.parents g.now) first lv) }
+    ensures above { IfOk result (λ first. (q : ℕ) → (on_left sides.old q || on_right sides.old q) ≡ true → q < first) }
+    ensures left { IfOk result (λ first. (q : ℕ) → on_left sides.new q ≡ (on_left sides.old q || (has_left side && is_named nat_eq (parents_at (G.parents g.now) first) q))) }
+    ensures right { IfOk result (λ first. (q : ℕ) → on_right sides.new q ≡ (on_right sides.old q || (has_right side && is_named nat_eq (parents_at (G.parents g.now) first) q))) }
 {
-    match g.only_parent(lv) {
-        Some(parent) => sides.put(side, parent),
-        None => sides.put_all(side, g.parents_of(lv).as_slice()),
+    let chain = g.chain_to(lv);
+    match sides.highest() {
+        Some(other) if chain.first <= other => {
+            sides.put(side, other)?;
+            Ok(other + 1)
+        }
+        _ => {
+            sides.put_all(side, chain.parents)?;
+            Ok(chain.first)
+        }
     }
 }

@@ -1,15 +1,12 @@
 //! Positions that two walks still have to come to, side by side.
 
 ghost use Rattle.std.specs.Prelude.{◌≡◌, ℕ, ◌<◌, ◌≤◌, ◌||◌, ◌&&◌, ◌⊎◌, true, false, nat_eq, if◌then◌else◌, Some, None, IfSome, IfNone, OnOk};
-ghost use Rattle.std.specs.Ordering.{nat_cmp};
-ghost use Rattle.std.specs.BTreeSet.{contains};
 ghost use Rattle.ew_model.specs.Graph.{is_named};
-ghost use Rattle.ancestors.specs.Sides.{has_left, has_right, is_on, on_left, on_right, AgreeFrom, IsHighest};
+ghost use Rattle.ancestors.specs.Sides.{has_left, has_right, on_left, on_right, AgreeFrom, IsHighest};
 
-use crate::pending::last;
+use crate::pending::Pending;
 use ew_model::NoMem;
 use std::alloc::Global;
-use std::collections::BTreeSet;
 
 /// Which of the two walks has a position pending.
 #[derive(Clone, Copy)]
@@ -19,13 +16,13 @@ pub enum Side {
     Both,
 }
 
-/// The positions that are pending. One that both walks have is kept apart from those of one walk alone, so what tells
-/// the two from each other is seen without a comparison.
+/// The positions that are pending. One that both walks put in at once is kept apart. Where only such are left, nothing
+/// tells the walks from each other, and that is seen without a comparison. A position may stand in several of the three.
 #[derive(Drop)]
 pub struct Sides {
-    left: BTreeSet<u32>,
-    right: BTreeSet<u32>,
-    both: BTreeSet<u32>,
+    left: Pending,
+    right: Pending,
+    both: Pending,
 }
 
 impl Sides {
@@ -35,9 +32,9 @@ impl Sides {
         ensures right { (q : ℕ) → on_right result q ≡ false }
     {
         Sides {
-            left: BTreeSet::new(alloc),
-            right: BTreeSet::new(alloc),
-            both: BTreeSet::new(alloc),
+            left: Pending::new(alloc),
+            right: Pending::new(alloc),
+            both: Pending::new(alloc),
         }
     }
 
@@ -58,9 +55,9 @@ impl Sides {
         ensures right { OnOk result ((q : ℕ) → on_right self.new q ≡ (on_right self.old q || (has_right side && nat_eq q lv))) }
     {
         match side {
-            Side::Left => put_one(&mut self.left, &mut self.right, &mut self.both, lv),
-            Side::Right => put_one(&mut self.right, &mut self.left, &mut self.both, lv),
-            Side::Both => put_both(&mut self.left, &mut self.right, &mut self.both, lv),
+            Side::Left => self.left.put(lv),
+            Side::Right => self.right.put(lv),
+            Side::Both => self.both.put(lv),
         }
     }
 
@@ -84,8 +81,8 @@ impl Sides {
         ensures none { IfNone result ((q : ℕ) → (on_left self.now q || on_right self.now q) ≡ false) }
         ensures highest { IfSome result (λ n. IsHighest (on_left self.now) (on_right self.now) n) }
     {
-        let apart = higher(last(&self.left), last(&self.right));
-        higher(apart, last(&self.both))
+        let apart = higher(self.left.highest(), self.right.highest());
+        higher(apart, self.both.highest())
     }
 
     /// The highest position, unless the two walks have the same pending from the floor on.
@@ -94,11 +91,11 @@ impl Sides {
         ensures highest { IfSome result (λ n. IsHighest (on_left self.now) (on_right self.now) n) }
         ensures floor { IfSome result (λ n. floor ≤ n) }
     {
-        let apart = higher(last(&self.left), last(&self.right))?;
+        let apart = higher(self.left.highest(), self.right.highest())?;
         if apart < floor {
             return None;
         }
-        higher(Some(apart), last(&self.both))
+        higher(Some(apart), self.both.highest())
     }
 
     /// Takes the highest position out, and tells which of the walks had it.
@@ -109,9 +106,9 @@ impl Sides {
         ensures left { (q : ℕ) → on_left self.new q ≡ (if nat_eq lv q then false else on_left self.old q) }
         ensures right { (q : ℕ) → on_right self.new q ≡ (if nat_eq lv q then false else on_right self.old q) }
     {
-        let left = take_last(&mut self.left, lv);
-        let right = take_last(&mut self.right, lv);
-        let both = take_last(&mut self.both, lv);
+        let left = self.left.strike(lv);
+        let right = self.right.strike(lv);
+        let both = self.both.strike(lv);
         side_of(left || both, right || both)
     }
 }
@@ -129,40 +126,6 @@ fn side_of(left: bool, right: bool) -> Side
     }
 }
 
-/// Puts a position into the one side.
-fn put_one(
-    here: &mut BTreeSet<u32>,
-    there: &mut BTreeSet<u32>,
-    both: &mut BTreeSet<u32>,
-    lv: u32,
-) -> Result<(), NoMem>
-    ensures here { OnOk result ((q : ℕ) → is_on here.new both.new q ≡ (is_on here.old both.old q || nat_eq q lv)) }
-    ensures there { OnOk result ((q : ℕ) → is_on there.new both.new q ≡ is_on there.old both.old q) }
-{
-    if there.remove(&lv) {
-        both.insert(lv)?;
-    } else if !both.contains(&lv) {
-        here.insert(lv)?;
-    }
-    Ok(())
-}
-
-/// Puts a position into both sides.
-fn put_both(
-    left: &mut BTreeSet<u32>,
-    right: &mut BTreeSet<u32>,
-    both: &mut BTreeSet<u32>,
-    lv: u32,
-) -> Result<(), NoMem>
-    ensures left { OnOk result ((q : ℕ) → is_on left.new both.new q ≡ (is_on left.old both.old q || nat_eq q lv)) }
-    ensures right { OnOk result ((q : ℕ) → is_on right.new both.new q ≡ (is_on right.old both.old q || nat_eq q lv)) }
-{
-    left.remove(&lv);
-    right.remove(&lv);
-    both.insert(lv)?;
-    Ok(())
-}
-
 /// The higher one of two positions, of those that there are.
 fn higher(a: Option<u32>, b: Option<u32>) -> Option<u32>
     ensures none { IfNone result ((a ≡ None) × (b ≡ None)) }
@@ -174,18 +137,5 @@ fn higher(a: Option<u32>, b: Option<u32>) -> Option<u32>
         (Some(x), Some(y)) => Some(if x < y { y } else { x }),
         (Some(x), None) => Some(x),
         (None, y) => y,
-    }
-}
-
-/// Takes a position out, where it is the highest that is there. Says whether it was there: no higher one is.
-fn take_last(positions: &mut BTreeSet<u32>, lv: u32) -> bool
-    requires { (q : ℕ) → lv < q → contains nat_cmp positions.old q ≡ false }
-    ensures was { result ≡ contains nat_cmp positions.old lv }
-    ensures left { (q : ℕ) → contains nat_cmp positions.new q ≡ (if nat_eq lv q then false else contains nat_cmp positions.old q) }
-{
-    if positions.last() == Some(&lv) {
-        positions.remove(&lv)
-    } else {
-        false
     }
 }

@@ -6,12 +6,11 @@ ghost use Rattle.std.specs.List.Sorted.{IsStrictlyIncreasing};
 ghost use Rattle.ew_model.specs.Positions.{known_positions, is_known_at, is_reduced_at};
 ghost use Rattle.ancestors.specs.Spans.{positions_of, AreDescending};
 
-use crate::pending::{chain_above, last, put_all, put_parents};
+use crate::pending::Pending;
 use crate::spans::{Span, Spans};
 use ew_model::NoMem;
 use frontier::Parentage;
 use std::alloc::Global;
-use std::collections::BTreeSet;
 
 /// Whether an event is one of the version or an ancestor of one. The walk takes a whole chain of events at each step, and
 /// begins none below that event.
@@ -21,22 +20,15 @@ pub fn contains<G: Parentage>(alloc: Global, g: &G, version: &[u32], lv: u32) ->
     ensures { IfOk result (λ known. known ≡ is_known_at (G.parents g.now) version.now lv) }
 {
     let _count = g.count();
-    let mut pending = BTreeSet::new(alloc);
-    put_all(&mut pending, version)?;
-    while !pending.contains(&lv) {
-        let Some(n) = pending.pop_last() else {
-            return Ok(false);
-        };
-        if n < lv {
-            return Ok(false);
-        }
-        let first = chain_above(g, n, last(&pending));
+    let mut pending = Pending::new(alloc);
+    pending.put_from(lv, version)?;
+    while let Some(n) = pending.pop_highest() {
+        let first = pending.take_chain(g, n, lv)?;
         if first <= lv {
             return Ok(true);
         }
-        put_parents(g, first, &mut pending)?;
     }
-    Ok(true)
+    Ok(false)
 }
 
 /// Whether none of these rising positions is an ancestor of another. The walk takes a whole chain of events at each step,
@@ -50,19 +42,15 @@ pub fn is_reduced<G: Parentage>(alloc: Global, g: &G, parents: &[u32]) -> Result
     let Some((lowest, others)) = parents.split_first() else {
         return Ok(true);
     };
-    let mut pending = BTreeSet::new(alloc);
+    let mut pending = Pending::new(alloc);
     for position in others {
-        put_parents(g, *position, &mut pending)?;
+        pending.put_from(*lowest, g.parents_of(*position).as_slice())?;
     }
-    while let Some(n) = pending.pop_last() {
-        if n < *lowest {
-            return Ok(true);
-        }
-        let first = chain_above(g, n, last(&pending));
+    while let Some(n) = pending.pop_highest() {
+        let first = pending.take_chain(g, n, *lowest)?;
         if any_within(parents, first, n) {
             return Ok(false);
         }
-        put_parents(g, first, &mut pending)?;
     }
     Ok(true)
 }
@@ -83,16 +71,15 @@ pub fn closure<G: Parentage>(alloc: Global, g: &G, version: &[u32]) -> Result<Sp
     ensures order { IfOk result (λ spans. AreDescending spans) }
 {
     let _count = g.count();
-    let mut pending = BTreeSet::new(alloc);
-    put_all(&mut pending, version)?;
+    let mut pending = Pending::new(alloc);
+    pending.put_from(0, version)?;
     let mut found = Spans::new(alloc);
-    while let Some(n) = pending.pop_last() {
-        let first = chain_above(g, n, last(&pending));
+    while let Some(n) = pending.pop_highest() {
+        let first = pending.take_chain(g, n, 0)?;
         found.push_lower(Span {
             from: first,
             to: n + 1,
         })?;
-        put_parents(g, first, &mut pending)?;
     }
     Ok(found)
 }

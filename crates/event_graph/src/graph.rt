@@ -17,11 +17,13 @@ ghost use Rattle.ew_model.specs.TextLaws.{own_change};
 ghost use Rattle.ew_model.specs.Verdicts.{id_rows, parent_rows, first_unknown, has_number_below, follows_its_agent, graph_verdict};
 ghost use Rattle.ew_model.specs.Verdicts.Ruling.{Good};
 ghost use Rattle.frontier.specs.Chains.{IsChain};
+ghost use Rattle.operation_runs.specs.Runs.{run_ops, RunFits};
 ghost use Rattle.ancestors.specs.Floors.{HasAllBelow};
 ghost use Rattle.ancestors.specs.Spans as spans;
 ghost use Rattle.event_runs.specs.RunOps.{IndicesFit, ops_of};
 ghost use Rattle.event_runs.specs.Runs.{IsRunEnd, IsRunStart};
 ghost use Rattle.history_definitions.specs.Chains.{event_behind, last_id};
+ghost use Rattle.agent_ids.specs.IdRuns.{AreNextFrom};
 ghost use Rattle.event_graph.specs.Afters.{IsNextAfter};
 ghost use Rattle.event_graph.specs.Keeping.{IsAdmitted, bare_events};
 ghost use Rattle.event_graph.specs.Finding.{found_in};
@@ -37,7 +39,7 @@ use crate::parts::{After, append, append_run};
 use agent_ids::AgentTable;
 use ancestors::{Spans, contains, diff, is_reduced};
 use critical::Cuts;
-use event_runs::{EventRuns, RunOps, RunRest};
+use event_runs::{EventRuns, RunOps};
 use ew_model::NoMem;
 use ew_model::event::{Event, Op};
 use ew_model::id::Id;
@@ -46,7 +48,8 @@ use ew_model::name::Name;
 use ew_model::parents::Parents;
 use ew_model::text_op::TextOp;
 use ew_model::verdict::Verdict;
-use frontier::{Frontier, Parentage};
+use frontier::{Chain, Frontier, Parentage};
+use operation_runs::OperationRun;
 use smallvec::SmallVec;
 use std::alloc::Global;
 use std::marker::Model;
@@ -166,6 +169,15 @@ impl Graph {
         self.ids.id_near(position, &mut near.id)
     }
 
+    /// How many events right behind the one at a position have the next ids of its agent. It is sought first where the last one was
+    /// found.
+    pub fn next_ids_near(&self, position: u32, near: &mut Near) -> u32
+        requires { position < length self.now }
+        ensures { AreNextFrom (model.ids_of self.now) position result }
+    {
+        self.ids.next_near(position, &mut near.id)
+    }
+
     /// The id of the event at a position, which is sought first among the last ids.
     pub(crate) fn id_from_end(&self, position: u32) -> Id
         requires { position < length self.now }
@@ -213,13 +225,14 @@ impl Graph {
 
     /// The event at a position with all that come behind it in its run: each of these has the one before it as its only parent. It is
     /// sought first where the last event was found.
-    pub fn rest_near(&self, position: u32, near: &mut Near) -> RunRest<'_>
+    pub fn rest_near(&self, position: u32, near: &mut Near) -> OperationRun<'_>
         requires { position < length self.now }
-        ensures some { 0 < length result }
-        ensures within { position + length result ≤ length self.now }
-        ensures changes { (k : ℕ) → k < length result → slice_get (map (λ (e : Event). own_change e.op) self.now) (position + k) ≡ slice_get result k }
-        ensures chain { IsChain (parent_positions self.now) position (position + length result - 1) }
-        ensures end { IsRunEnd (bare_events self.now) position (position + length result) }
+        ensures some { 0 < length (run_ops result) }
+        ensures fit { RunFits result }
+        ensures within { position + length (run_ops result) ≤ length self.now }
+        ensures changes { (k : ℕ) → k < length (run_ops result) → slice_get (map (λ (e : Event). own_change e.op) self.now) (position + k) ≡ slice_get (run_ops result) k }
+        ensures chain { IsChain (parent_positions self.now) position (position + length (run_ops result) - 1) }
+        ensures end { IsRunEnd (bare_events self.now) position (position + length (run_ops result)) }
     {
         self.events.rest_near(position, &mut near.event)
     }
@@ -603,12 +616,8 @@ impl Parentage for Graph {
         self.events.parents_at(lv)
     }
 
-    fn only_parent(&self, lv: u32) -> Option<u32> {
-        self.events.only_parent_at(lv)
-    }
-
-    fn chain_start(&self, lv: u32) -> u32 {
-        self.events.chain_start(lv)
+    fn chain_to(&self, lv: u32) -> Chain<'_> {
+        self.events.chain_at(lv)
     }
 }
 

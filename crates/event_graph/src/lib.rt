@@ -10,7 +10,6 @@ pub mod near;
 mod parts;
 mod subgraph;
 
-pub use event_runs::RunRest;
 pub use facts::Facts;
 pub use graph::{Graph, Hold};
 pub use last::is_next;

@@ -40,6 +40,10 @@ found cs runs seen lists count place lv run k same h read =
       event = read_events cs runs lists 0 0 count (length cs.chars) lv place lv h.run k.in_line there h.from h.to (omega arith);
     })
 
+-- it has its own first event too
+pub found_first : (cs : Told) (runs : List Run) (lists : List (List ℕ)) (count place lv : ℕ) (run : Run) → AreKept runs lists cs count → HasFound cs runs lists count place lv run → HasFound cs runs lists count place run.start run
+found_first cs runs lists count place lv run k f = found cs runs runs lists count place run.start run k refl (record { run = run; there = f.there; from = omega arith; to = omega arith }) (sym (get_or_from_slice_get runs place run run f.there))
+
 pub within_count : (cs : Told) (runs : List Run) (lists : List (List ℕ)) (count lv : ℕ) (events : List BareEvent) → AreKept runs lists cs count → events_in cs runs lists ≡ events → lv < length events → lv < count
 within_count cs runs lists count lv events k e l =
     let all = length-events_in cs runs lists 0 0 count (length cs.chars) k.in_line in

@@ -1,16 +1,19 @@
 -- The events of a run from one on.
-use Rattle.std.proofs.Common.{◌≡◌, ℕ, suc, ◌+◌, ◌-◌, ◌<◌, ◌≤◌, List, [], map, length, slice_get, slice_index_or, option_map, ◌∷◌, append-nil, Some, refl, sym, ap, ◌∙◌, subst, arith}
+use Rattle.std.proofs.Common.{◌≡◌, ℕ, zero, suc, ◌+◌, ◌-◌, ◌<◌, ◌≤◌, List, [], map, length, take, drop, get_or, slice_get, slice_index_or, option_map, ◌∷◌, append-nil, Some, refl, sym, ap, ◌∙◌, subst, arith}
 use Rattle.std.specs.List.{range_with_len}
+use Rattle.std.proofs.lemmas.List.{drop_more}
 use Rattle.std.proofs.lemmas.List.FromFn.{length-map-range_with_len}
 use Rattle.std.proofs.lemmas.Option.{slice_get-map, get_or_from_slice_get}
 use Rattle.ew_model.specs.declared.text_op.TextOp.{TextOp}
+use Rattle.ew_model.specs.declared.text_op.TextOp.TheVariants.{Ins, Del, Nothing}
 use Rattle.ew_model.specs.TextLaws.{own_change}
 use Rattle.frontier.specs.Chains.{IsChain}
+use Rattle.operation_runs.specs.Runs.{insertions, deletions, back_deletions, nothings}
 use Rattle.event_runs.specs.declared.runs.Run.{Run}
 use Rattle.event_runs.specs.declared.runs.RunKind.{RunKind}
 use Rattle.event_runs.specs.declared.runs.RunKind.TheVariants.{Insertions, Deletions, BackDeletions, Marks}
 use Rattle.event_runs.specs.BareEvents.{BareEvent, ops_in, parents_in}
-use Rattle.event_runs.specs.KeptRuns.{Told, op_in, events_in, AreKept, IsHeldAt}
+use Rattle.event_runs.specs.KeptRuns.{Told, op_in, chars_of, events_in, AreKept}
 use Rattle.event_runs.specs.Rests.{change_in, changes_from, IsRest}
 use Rattle.event_runs.specs.Runs.{AreRunsOf, IsRunEnd}
 use Rattle.event_runs.proofs.Found.{HasFound, found, found_parents, later_parents}
@@ -19,6 +22,54 @@ use Rattle.event_runs.proofs.RunEvents.{length-events_in, read_part}
 
 pub length-changes_from : (r : Run) (chars : List ℕ) (before : ℕ) → length (changes_from r chars before) ≡ suc r.more - before
 length-changes_from r chars before = length-map-range_with_len (change_in r chars) before (suc r.more - before)
+
+-- WHAT THE REST OF A RUN IS, by its kind
+module _ (at place : ℕ) (chars : List ℕ) where
+  abbrev changes_by : RunKind → ℕ → ℕ → List TextOp
+  changes_by kind before n = map (λ k. own_change (op_in kind at place (record { chars = chars; labels = [] }) k)) (range_with_len before n)
+
+  insertions_by : (before n : ℕ) → place + before + n ≤ length chars → insertions (at + before) (take n (drop (place + before) chars)) ≡ changes_by Insertions before n
+  insertions_by before zero h = refl
+  insertions_by before (suc n) h =
+      let low : place + before < length chars = omega (arith, h) in
+      let next : at + before + 1 ≡ at + (before + 1) = omega arith in
+      let there : place + before + 1 ≡ place + (before + 1) = omega arith in
+      ap (λ (cs : List ℕ). insertions (at + before) (take (suc n) cs)) (drop_more chars (place + before) 0 low)
+      ∙ ap (λ ops. Ins (at + before) (get_or chars (place + before) 0) ∷ ops)
+      ((λ i. insertions (next i) (take n (drop (there i) chars))) ∙ insertions_by (before + 1) n (omega (arith, h)))
+
+  deletions_by : (before n : ℕ) → deletions at n ≡ changes_by Deletions before n
+  deletions_by before zero = refl
+  deletions_by before (suc n) = ap (λ ops. Del at ∷ ops) (deletions_by (before + 1) n)
+
+  back_by : (before n : ℕ) → back_deletions (at - before) n ≡ changes_by BackDeletions before n
+  back_by before zero = refl
+  back_by before (suc n) =
+      let next : at - before - 1 ≡ at - (before + 1) = omega arith in
+      ap (λ ops. Del (at - before) ∷ ops) (ap (λ i. back_deletions i n) next ∙ back_by (before + 1) n)
+
+  nothings_by : (before n : ℕ) → nothings n ≡ changes_by Marks before n
+  nothings_by before zero = refl
+  nothings_by before (suc n) = ap (λ ops. Nothing ∷ ops) (nothings_by (before + 1) n)
+
+module _ (r : Run) (chars : List ℕ) (before : ℕ) where
+  of_kind : (kind : RunKind) → r.kind ≡ kind → changes_by r.at r.chars_before chars kind before (suc r.more - before) ≡ changes_from r chars before
+  of_kind kind is = ap (λ k. changes_by r.at r.chars_before chars k before (suc r.more - before)) (sym is)
+
+  pub rest_insertions : (n : ℕ) → r.kind ≡ Insertions → n ≡ suc r.more - before → IsRest r chars before → insertions (r.at + before) (take n (drop (r.chars_before + before) chars)) ≡ changes_from r chars before
+  rest_insertions n is long rest =
+      let some = rest.some in
+      let all = subst (λ (k : RunKind). r.chars_before + chars_of k (suc r.more) ≤ length chars) is rest.within in
+      ap (λ m. insertions (r.at + before) (take m (drop (r.chars_before + before) chars))) long ∙ insertions_by r.at r.chars_before chars before (suc r.more - before) (omega (arith, some, all)) ∙ of_kind Insertions is
+
+  pub rest_deletions : (n : ℕ) → r.kind ≡ Deletions → n ≡ suc r.more - before → deletions r.at n ≡ changes_from r chars before
+  rest_deletions n is long = ap (deletions r.at) long ∙ deletions_by r.at r.chars_before chars before (suc r.more - before) ∙ of_kind Deletions is
+
+  pub rest_back : (n : ℕ) → r.kind ≡ BackDeletions → n ≡ suc r.more - before → back_deletions (r.at - before) n ≡ changes_from r chars before
+  rest_back n is long = ap (back_deletions (r.at - before)) long ∙ back_by r.at r.chars_before chars before (suc r.more - before) ∙ of_kind BackDeletions is
+
+  pub rest_nothings : (n : ℕ) → r.kind ≡ Marks → n ≡ suc r.more - before → nothings n ≡ changes_from r chars before
+  rest_nothings n is long = ap nothings long ∙ nothings_by r.at r.chars_before chars before (suc r.more - before) ∙ of_kind Marks is
 
 pub read_changes : (r : Run) (chars : List ℕ) (before place : ℕ) → place < suc r.more - before → slice_get (changes_from r chars before) place ≡ Some (change_in r chars (before + place))
 read_changes r chars before place l =

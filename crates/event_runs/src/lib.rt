@@ -3,10 +3,9 @@
 
 mod lists;
 pub mod ops;
-pub mod rest;
 mod runs;
+mod starts;
 pub mod storage;
 
 pub use ops::RunOps;
-pub use rest::RunRest;
 pub use storage::EventRuns;

@@ -7,13 +7,17 @@ ghost use Rattle.ew_model.specs.TextLaws.{own_change};
 ghost use Rattle.event_runs.specs.declared.runs.Run.{Run};
 ghost use Rattle.event_runs.specs.declared.runs.RunKind.{RunKind};
 ghost use Rattle.event_runs.specs.Steps.{LastTakes, longer_by};
+ghost use Rattle.event_runs.specs.Rests.{changes_from, IsRest};
+ghost use Rattle.operation_runs.specs.Runs.{run_ops, RunFits};
 ghost use Rattle.event_runs.specs.KeptRuns.{op_in, run_of_one, sort_of, is_mark, other_kind, longer, shorter, chars_to_end, IsNext, JoinsAs, LastJoinsAs, Fits, HasLabel, AreRuns, AreLabelled, first_label, IsHeldAt, GrowBy, AreCutAt};
 
 use crate::lists::NumberLists;
+use crate::starts::Starts;
 use ew_model::NoMem;
 use ew_model::event::Op;
 use ew_model::name::Name;
 use ew_model::text_op::TextOp;
+use operation_runs::OperationRun;
 
 /// How the operations of a run go on from one another.
 #[derive(Clone, Copy, PartialEq, Eq)]
@@ -146,6 +150,30 @@ impl Run {
         }
     }
 
+    /// What its events but for so many at its beginning do to the texts at their parents.
+    pub fn rest<'a>(&self, before: u32, chars: &'a [char]) -> OperationRun<'a>
+        requires { IsRest self.now chars.now before }
+        ensures changes { run_ops result ≡ changes_from self.now chars.now before }
+        ensures fit { RunFits result }
+    {
+        let count = self.more - before + 1;
+        match self.kind {
+            RunKind::Insertions => {
+                let from = self.chars_before as usize + before as usize;
+                OperationRun::Insertions {
+                    at: self.at + before,
+                    chars: &chars[from..from + count as usize],
+                }
+            }
+            RunKind::Deletions => OperationRun::Deletions { at: self.at, count },
+            RunKind::BackDeletions => OperationRun::BackDeletions {
+                at: self.at - before,
+                count,
+            },
+            RunKind::Marks => OperationRun::Nothings { count },
+        }
+    }
+
     /// The operation so many places behind the first one.
     pub fn op_behind(&self, offset: u32, chars: &[char], labels: &[Name]) -> Op
         requires within { offset ≤ self.now.more }
@@ -204,16 +232,53 @@ fn all_begin_below(runs: &[Run], end: u32) -> bool
     }
 }
 
-/// The place of the run that has the event at a position.
-pub fn find_run(runs: &[Run], position: u32) -> usize
+/// The place of the run that has the event at a position. All are sought through.
+fn search_runs(runs: &[Run], position: u32) -> usize
     requires { (lists : List (List ℕ)) × (count : ℕ) × (chars : ℕ) × AreRuns 0 0 runs.now lists count chars × (position < count) × (count < 2 ^ 32) }
     ensures { IsHeldAt runs.now result position }
 {
     count_below(runs, position + 1) - 1
 }
 
+/// The place of the run that has the event at a position. Runs are looked at one after another from a place on, or all are sought
+/// through where the one there begins behind the event.
+fn find_run_from(runs: &[Run], position: u32, from: usize) -> usize
+    requires { (lists : List (List ℕ)) × (count : ℕ) × (chars : ℕ) × AreRuns 0 0 runs.now lists count chars × (position < count) × (count < 2 ^ 32) }
+    ensures { IsHeldAt runs.now result position }
+{
+    if begins_by(runs, from, position) {
+        for place in from..runs.len() {
+            if is_held_at(runs, place, position) {
+                return place;
+            }
+        }
+    }
+    search_runs(runs, position)
+}
+
+/// Whether there is a run at a place, and it begins at a position or before it.
+fn begins_by(runs: &[Run], place: usize, position: u32) -> bool
+    ensures { IsTrue result → (run : Run) × (slice_get runs.now place ≡ Some run) × (run.start ≤ position) }
+{
+    match runs.get(place) {
+        Some(run) => run.start <= position,
+        None => false,
+    }
+}
+
+/// The place of the run that has the event at a position. The search begins at the place that is kept for the event, if there is one.
+pub fn find_run(runs: &[Run], starts: &Starts, position: u32) -> usize
+    requires { (lists : List (List ℕ)) × (count : ℕ) × (chars : ℕ) × AreRuns 0 0 runs.now lists count chars × (position < count) × (count < 2 ^ 32) }
+    ensures { IsHeldAt runs.now result position }
+{
+    match starts.get(position) {
+        Some(from) => find_run_from(runs, position, from),
+        None => search_runs(runs, position),
+    }
+}
+
 /// The place of the run that has the event at a position. The run at the place `near` and the next one are tried first.
-pub fn find_run_near(runs: &[Run], position: u32, near: usize) -> usize
+pub fn find_run_near(runs: &[Run], starts: &Starts, position: u32, near: usize) -> usize
     requires { (lists : List (List ℕ)) × (count : ℕ) × (chars : ℕ) × AreRuns 0 0 runs.now lists count chars × (position < count) × (count < 2 ^ 32) }
     ensures { IsHeldAt runs.now result position }
 {
@@ -224,7 +289,7 @@ pub fn find_run_near(runs: &[Run], position: u32, near: usize) -> usize
     if is_held_at(runs, next, position) {
         return next;
     }
-    find_run(runs, position)
+    find_run(runs, starts, position)
 }
 
 /// Whether the run at a place has the event at a position.

@@ -8,16 +8,18 @@ ghost use Rattle.event_runs.specs.KeptRuns.{op_chars, op_labels, HasRoom};
 ghost use Rattle.event_runs.specs.RunOps.{ops_of, IndicesFit, chain_on};
 ghost use Rattle.event_runs.specs.Runs.{AreRunsOf, IsRunCount, IsRunEnd, IsRunStart};
 ghost use Rattle.frontier.specs.Chains.{IsChain};
+ghost use Rattle.operation_runs.specs.Runs.{run_ops, RunFits};
 
 use crate::lists::NumberLists;
 use crate::ops::RunOps;
-use crate::rest::RunRest;
 use crate::runs::{Run, find_run, find_run_near, keep_below, last_takes, lengthen_last_by, put};
+use crate::starts::Starts;
 use ew_model::NoMem;
 use ew_model::event::Op;
 use ew_model::name::Name;
 use ew_model::text_op::TextOp;
-use frontier::Parentage;
+use frontier::{Chain, Parentage};
+use operation_runs::OperationRun;
 use smallvec::SmallVec;
 use std::alloc::Global;
 use std::marker::Model;
@@ -26,6 +28,7 @@ use std::marker::Model;
 #[derive(Drop)]
 pub struct EventRuns {
     runs: Vec<Run>,
+    starts: Starts,
     /// The parents of each run's first event. Those of any other event are the event before it.
     parents: NumberLists,
     /// The characters of all insertions.
@@ -54,6 +57,7 @@ impl EventRuns {
     {
         Ok(EventRuns {
             runs: Vec::new(alloc),
+            starts: Starts::new(alloc),
             parents: NumberLists::new(alloc),
             chars: Vec::new(alloc),
             labels: Vec::new(alloc),
@@ -96,6 +100,7 @@ impl EventRuns {
         ensures err { OnErr result (self.new ≡ self.old) }
     {
         // Behind `put` nothing fails.
+        self.starts.set_count(self.count + 1, self.runs.len())?;
         reserve_for(&mut self.chars, &mut self.labels, op)?;
         let one = Run::of_one(
             self.count,
@@ -159,6 +164,7 @@ impl EventRuns {
         let takes = last_takes(&self.runs, ops.kind(), ops.index(place));
         if takes {
             let more = ops.count() - place;
+            self.starts.set_count(self.count + more, self.runs.len())?;
             self.chars.extend_from_slice(ops.chars_from(place))?;
             lengthen_last_by(&mut self.runs, more);
             self.count += more;
@@ -182,7 +188,7 @@ impl EventRuns {
         ensures { slice_get (ops_in self.now) lv ≡ Some result }
     {
         let _count = self.count;
-        let place = find_run_near(&self.runs, lv, *near);
+        let place = find_run_near(&self.runs, &self.starts, lv, *near);
         *near = place;
         let run = self.runs[place];
         run.op_behind(lv - run.start, &self.chars, &self.labels)
@@ -195,7 +201,7 @@ impl EventRuns {
         ensures { slice_get (map own_change (ops_in self.now)) lv ≡ Some result }
     {
         let _count = self.count;
-        let place = find_run_near(&self.runs, lv, *near);
+        let place = find_run_near(&self.runs, &self.starts, lv, *near);
         *near = place;
         let run = self.runs[place];
         run.change_behind(lv - run.start, &self.chars)
@@ -210,26 +216,27 @@ impl EventRuns {
         ensures only { (start : ℕ) → IsRunStart self.now lv start → start ≡ result }
     {
         let _count = self.count;
-        let place = find_run_near(&self.runs, lv, *near);
+        let place = find_run_near(&self.runs, &self.starts, lv, *near);
         *near = place;
         self.runs[place].start
     }
 
     /// The event at a position with all that come behind it in its run: each of these has the one before it as its only parent. The run
     /// at the place `near`, which is that of the run found last, and the next one are tried first.
-    pub fn rest_near(&self, lv: u32, near: &mut usize) -> RunRest<'_>
+    pub fn rest_near(&self, lv: u32, near: &mut usize) -> OperationRun<'_>
         requires { lv < length self.now }
-        ensures some { 0 < length result }
-        ensures changes { (k : ℕ) → k < length result → slice_get (map own_change (ops_in self.now)) (lv + k) ≡ slice_get result k }
-        ensures chain { IsChain (parents_in self.now) lv (lv + length result - 1) }
-        ensures end { IsRunEnd self.now lv (lv + length result) }
-        ensures within { lv + length result ≤ length self.now }
+        ensures some { 0 < length (run_ops result) }
+        ensures fit { RunFits result }
+        ensures changes { (k : ℕ) → k < length (run_ops result) → slice_get (map own_change (ops_in self.now)) (lv + k) ≡ slice_get (run_ops result) k }
+        ensures chain { IsChain (parents_in self.now) lv (lv + length (run_ops result) - 1) }
+        ensures end { IsRunEnd self.now lv (lv + length (run_ops result)) }
+        ensures within { lv + length (run_ops result) ≤ length self.now }
     {
         let _count = self.count;
-        let place = find_run_near(&self.runs, lv, *near);
+        let place = find_run_near(&self.runs, &self.starts, lv, *near);
         *near = place;
         let run = self.runs[place];
-        RunRest::new(run, lv - run.start, &self.chars)
+        run.rest(lv - run.start, &self.chars)
     }
 
     /// The parents of the event at a position, rising.
@@ -240,7 +247,7 @@ impl EventRuns {
     {
         let _count = self.count;
         let alloc = *self.runs.allocator();
-        let place = find_run(&self.runs, lv);
+        let place = find_run(&self.runs, &self.starts, lv);
         if self.runs[place].start == lv {
             inline_from(alloc, self.parents.get(place))
         } else {
@@ -248,21 +255,20 @@ impl EventRuns {
         }
     }
 
-    /// The one parent of the event at a position. None where it has none or several.
-    pub fn only_parent_at(&self, lv: u32) -> Option<u32>
+    /// The chain to the event at a position in its run.
+    pub fn chain_at(&self, lv: u32) -> Chain<'_>
         requires { lv < length self.now }
-        ensures some { IfSome result (λ p. parents_at (parents_in self.now) lv ≡ p ∷ []) }
-        ensures none { IfNone result ((p : ℕ) → parents_at (parents_in self.now) lv ≡ p ∷ [] → ⊥) }
-        ensures lower { IfSome result (λ p. p < lv) }
+        ensures chain { IsChain (parents_in self.now) result.first lv }
+        ensures value { result.parents.now ≡ parents_at (parents_in self.now) result.first }
+        ensures lower { AreParents result.first result.parents.now }
+        ensures start { IsRunStart self.now lv result.first }
+        ensures only { (start : ℕ) → IsRunStart self.now lv start → start ≡ result.first }
     {
         let _count = self.count;
-        let place = find_run(&self.runs, lv);
-        if self.runs[place].start < lv {
-            return Some(lv - 1);
-        }
-        match self.parents.get(place) {
-            [parent] => Some(*parent),
-            _ => None,
+        let place = find_run(&self.runs, &self.starts, lv);
+        Chain {
+            first: self.runs[place].start,
+            parents: self.parents.get(place),
         }
     }
 
@@ -276,7 +282,7 @@ impl EventRuns {
     {
         let _count = self.count;
         let alloc = *self.runs.allocator();
-        let place = find_run_near(&self.runs, lv, *near);
+        let place = find_run_near(&self.runs, &self.starts, lv, *near);
         *near = place;
         let run = self.runs[place];
         let op = run.op_behind(lv - run.start, &self.chars, &self.labels);
@@ -295,6 +301,7 @@ impl EventRuns {
             let chars = keep_below(&mut self.runs, &mut self.labels, n);
             self.parents.truncate(self.runs.len());
             self.chars.truncate(chars);
+            self.starts.truncate(n);
             self.count = n;
         }
     }
@@ -302,9 +309,7 @@ impl EventRuns {
 
 impl Parentage for EventRuns {
     ghost use Rattle.std.specs.Prelude.{◌≡◌, ℕ, ◌<◌, length};
-    ghost use Rattle.frontier.specs.Chains.{IsChain};
     ghost use Rattle.event_runs.specs.BareEvents.{parents_in};
-    ghost use Rattle.event_runs.specs.Runs.{IsRunStart};
 
     ghost parents = { λ events. parents_in events };
 
@@ -316,19 +321,8 @@ impl Parentage for EventRuns {
         self.parents_at(lv)
     }
 
-    fn only_parent(&self, lv: u32) -> Option<u32> {
-        self.only_parent_at(lv)
-    }
-
-    /// The position of the first event in the run of an event.
-    fn chain_start(&self, lv: u32) -> u32
-        requires { lv < length (parents_in self.now) }
-        ensures chain { IsChain (parents_in self.now) result lv }
-        ensures start { IsRunStart self.now lv result }
-        ensures only { (start : ℕ) → IsRunStart self.now lv start → start ≡ result }
-    {
-        let mut near = 0;
-        self.chain_start_near(lv, &mut near)
+    fn chain_to(&self, lv: u32) -> Chain<'_> {
+        self.chain_at(lv)
     }
 }
 

@@ -1,10 +1,19 @@
 //! A history as its events' parents.
 
-ghost use Rattle.std.specs.Prelude.{◌≡◌, ℕ, ◌<◌, List, [], ◌∷◌, length, IfSome, IfNone};
+ghost use Rattle.std.specs.Prelude.{◌≡◌, ℕ, ◌<◌, List, length};
 ghost use Rattle.ew_model.specs.Positions.{AreParents, IsHistoryOfParents, parents_at};
 ghost use Rattle.frontier.specs.Chains.{IsChain};
 
 use smallvec::SmallVec;
+
+/// A chain of events, in which each has exactly the one before it as its parents, with what its first event has.
+#[derive(Clone, Copy)]
+pub struct Chain<'a> {
+    /// The position of the first event.
+    pub first: u32,
+    /// The parents of the first event, rising.
+    pub parents: &'a [u32],
+}
 
 /// A history whose events are known by their positions, and by the positions of their parents. The calls take no memory.
 pub trait Parentage {
@@ -22,25 +31,10 @@ pub trait Parentage {
         ensures value { result.items ≡ parents_at (parents self.now) lv }
         ensures lower { AreParents lv result.items };
 
-    /// The one parent of the event at a position. None where it has none or several.
-    fn only_parent(&self, lv: u32) -> Option<u32>
+    /// A chain to the event at a position, as long as it is known: of that event alone, or of events before it too.
+    fn chain_to(&self, lv: u32) -> Chain<'_>
         requires { lv < length (parents self.now) }
-        ensures some { IfSome result (λ p. parents_at (parents self.now) lv ≡ p ∷ []) }
-        ensures none { IfNone result ((p : ℕ) → parents_at (parents self.now) lv ≡ p ∷ [] → ⊥) }
-        ensures lower { IfSome result (λ p. p < lv) }
-    {
-        match self.parents_of(lv).as_slice() {
-            [parent] => Some(*parent),
-            _ => None,
-        }
-    }
-
-    /// Where a chain to the event at a position begins, in which each event has exactly the one before it as its
-    /// parents: at that event itself, or at an event before it.
-    fn chain_start(&self, lv: u32) -> u32
-        requires { lv < length (parents self.now) }
-        ensures { IsChain (parents self.now) result lv }
-    {
-        lv
-    }
+        ensures chain { IsChain (parents self.now) result.first lv }
+        ensures value { result.parents.now ≡ parents_at (parents self.now) result.first }
+        ensures lower { AreParents result.first result.parents.now };
 }

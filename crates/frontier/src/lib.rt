@@ -4,5 +4,5 @@
 pub mod events;
 pub mod heads;
 
-pub use events::Parentage;
+pub use events::{Chain, Parentage};
 pub use heads::Frontier;

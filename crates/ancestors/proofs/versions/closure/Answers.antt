@@ -1,46 +1,58 @@
-use Rattle.std.proofs.Common.{List, sym, subst, arith, rules}
-use Rattle.std.specs.Ordering.{nat_cmp}
-use Rattle.std.specs.BTreeSet.{contains}
+use Rattle.std.proofs.Common.{◌&&◌, ◌||◌, nat_eq, List, refl, sym, ◌∙◌, subst, arith}
+use Rattle.std.proofs.lemmas.Bool.{le-leb}
+use Rattle.ew_model.specs.Graph.{is_named}
 use Rattle.ancestors.specs.declared.spans.Span.{Span}
 use Rattle.ancestors.specs.Spans.{positions_of}
-use Rattle.ancestors.proofs.Chains.{Stretch, stretch_of_sets, stretch_lessens}
-use Rattle.ancestors.proofs.Walks.{Closing, reached_above, put_first, none_pending, closing_starts, closing_goes, closing_ends}
-use Rattle.ancestors.proofs.versions.closure.Goals.{In_ok-put_parents}
+use Rattle.ancestors.proofs.Walks.{Going, rest_below, going_whole, going_lessens, Closing, closing_starts, closing_goes, closing_ends}
+use Rattle.ancestors.proofs.versions.closure.Goals.{In_ok-push_lower}
 use Rattle.ancestors.proofs.versions.closure.Goals as goal
 
 pub loop-n-init : goal.loop-n-init
 loop-n-init g c =
-    let h = g.G.Parentage.parents c.args.g.now in
-    let pending = put_first c.args.version.now c.new-pending.result c.put_all.new.pending c.new-pending.ensures.empty c.in_ok-put_all.ensures in (
-      subst (λ (spans : List Span). Closing h c.args.version.now (contains nat_cmp c.put_all.new.pending) (positions_of spans)) (sym c.new-found.ensures.none)
-          (closing_starts h c.args.version.now (contains nat_cmp c.put_all.new.pending) c.requires pending),
+    let h = g.G.Parentage.parents c.args.g.now in (
+      subst (λ (spans : List Span). Closing h c.args.version.now (is_named nat_eq c.put_from.new.self) (positions_of spans)) (sym c.new-found.ensures.none)
+          (closing_starts h c.args.version.now (is_named nat_eq c.put_from.new.self) c.requires
+          (λ q. c.in_ok-put_from.ensures q ∙ (λ i. is_named nat_eq (c.new-pending.ensures i) q || (le-leb 0 q (omega arith) i && is_named nat_eq c.args.version.now q)))),
       c.new-found.ensures.order,
     )
 
-pub push_lower-requires-clause-lower : goal.push_lower-requires-clause-lower
-push_lower-requires-clause-lower g c = λ k d l. let low = c.loop-n.invariant.0.lower c.in-Some.n (search rules) k d l in omega (arith, low)
+pub take_chain-requires-clause-within : goal.take_chain-requires-clause-within
+take_chain-requires-clause-within g c = c.loop-n.invariant.0.within c.in-Some.n c.in-Some.ensures.member
 
-turned : (g : _) (c : In_ok-put_parents g) → Stretch (g.G.Parentage.parents c.args.g.now) c.chain_above-first.result c.in-Some.n (contains nat_cmp c.loop-n.pending) (contains nat_cmp c.put_parents.new.pending)
-turned g c =
-    let h = g.G.Parentage.parents c.args.g.now in
-    let n = c.in-Some.n in
-    let first = c.chain_above-first.result in
-    let reached = reached_above h first n c.loop-n.pending c.pop_last.new.self c.last.result (c.loop-n.invariant.0.within n (search rules)) c.chain_above-first.ensures.chain
-    (search rules) c.in-Some.ensures.greatest c.in-Some.ensures.updates.0 c.last.ensures.none c.last.ensures.greatest c.chain_above-first.ensures.above in
-    stretch_of_sets h c.count-count.ensures.history first n c.loop-n.pending c.pop_last.new.self c.put_parents.new.pending reached c.in-Some.ensures.updates.0 c.in_ok-put_parents.ensures.all
+pub take_chain-requires-clause-lower : goal.take_chain-requires-clause-lower
+take_chain-requires-clause-lower g c = rest_below (is_named nat_eq c.loop-n.pending) (is_named nat_eq c.pop_highest.new.self) c.in-Some.n c.in-Some.ensures.greatest c.in-Some.ensures.left
+
+pub push_lower-requires-clause-lower : goal.push_lower-requires-clause-lower
+push_lower-requires-clause-lower g c = λ k d l. let low = c.loop-n.invariant.0.lower c.in-Some.n c.in-Some.ensures.member k d l in omega (arith, low)
+
+going : (g : _) (c : In_ok-push_lower g)
+    → Going (g.G.Parentage.parents c.args.g.now) 0 c.in_ok-first.first c.in-Some.n (is_named nat_eq c.loop-n.pending) (is_named nat_eq c.pop_highest.new.self) (is_named nat_eq c.take_chain.new.self)
+going g c = record {
+  within = c.loop-n.invariant.0.within c.in-Some.n c.in-Some.ensures.member;
+  here = c.in-Some.ensures.member;
+  top = c.in-Some.ensures.greatest;
+  without = c.in-Some.ensures.left;
+  chain = c.in_ok-first.ensures.chain;
+  above = c.in_ok-first.ensures.above;
+  with = c.in_ok-first.ensures.put;
+}
 
 pub loop-n-smaller : goal.loop-n-smaller
-loop-n-smaller g c = stretch_lessens (g.G.Parentage.parents c.args.g.now) c.chain_above-first.result c.in-Some.n (contains nat_cmp c.loop-n.pending) (contains nat_cmp c.put_parents.new.pending) (turned g c)
+loop-n-smaller g c =
+    going_lessens (g.G.Parentage.parents c.args.g.now) c.count-count.ensures.history 0 c.in_ok-first.first c.in-Some.n (is_named nat_eq c.loop-n.pending) (is_named nat_eq c.pop_highest.new.self) (is_named nat_eq c.take_chain.new.self)
+    (going g c)
 
 pub loop-n-preserved : goal.loop-n-preserved
 loop-n-preserved g c =
-    let h = g.G.Parentage.parents c.args.g.now in (
-      subst (Closing h c.args.version.now (contains nat_cmp c.put_parents.new.pending)) (sym c.in_ok-push_lower.ensures.ok)
-          (closing_goes h c.args.version.now (positions_of c.loop-n.found) c.chain_above-first.result c.in-Some.n (contains nat_cmp c.loop-n.pending) (contains nat_cmp c.put_parents.new.pending) (turned g c) (search rules) c.loop-n.invariant.0),
+    let h = g.G.Parentage.parents c.args.g.now in
+    let old = is_named nat_eq c.loop-n.pending in
+    let new = is_named nat_eq c.take_chain.new.self in
+    let stretch = going_whole h c.count-count.ensures.history 0 c.in_ok-first.first c.in-Some.n old (is_named nat_eq c.pop_highest.new.self) new (going g c) refl in (
+      subst (Closing h c.args.version.now new) (sym c.in_ok-push_lower.ensures.ok)
+          (closing_goes h c.args.version.now (positions_of c.loop-n.found) c.in_ok-first.first c.in-Some.n old new stretch c.in-Some.ensures.member c.loop-n.invariant.0),
       c.push_lower.ensures.order,
     )
 
 pub returns-clause-positions : goal.returns-clause-positions
 returns-clause-positions g c =
-    closing_ends (g.G.Parentage.parents c.args.g.now) c.args.version.now (positions_of c.loop-n.found) (contains nat_cmp c.loop-n.pending)
-    (none_pending c.loop-n.pending c.in_default.ensures.variant.1) c.loop-n.invariant.0
+    closing_ends (g.G.Parentage.parents c.args.g.now) c.args.version.now (positions_of c.loop-n.found) (is_named nat_eq c.loop-n.pending) c.in_default.ensures.none c.loop-n.invariant.0

@@ -1,7 +1,8 @@
-use Rattle.std.proofs.Common.{◌≡◌, ℕ, suc, ◌+◌, ◌-◌, ◌<◌, ◌≤◌, ◌^◌, List, length, map, slice_get, Some, sym, ap, ◌∙◌, subst, arith}
+use Rattle.std.proofs.Common.{◌≡◌, ℕ, suc, ◌+◌, ◌-◌, ◌<◌, ◌^◌, List, length, map, slice_get, sym, ap, ◌∙◌, subst, arith}
 use Rattle.ew_model.specs.declared.text_op.TextOp.{TextOp}
 use Rattle.ew_model.specs.TextLaws.{own_change}
 use Rattle.frontier.specs.Chains.{IsChain}
+use Rattle.operation_runs.specs.Runs.{run_ops}
 use Rattle.event_runs.specs.declared.runs.Run.{Run}
 use Rattle.event_runs.specs.BareEvents.{BareEvent, ops_in, parents_in}
 use Rattle.event_runs.specs.KeptRuns.{AreRuns}
@@ -17,20 +18,20 @@ find_run_near-place-requires c =
     let low = within_count cs c.self.inside.runs.items c.self.inside.parents c.self.inside.count c.args.lv c.args.self.now c.self.invariant c.self.view_is c.requires in
     (c.self.inside.parents, c.self.inside.count, length cs.chars, subst (λ (rs : List Run). AreRuns 0 0 rs c.self.inside.parents c.self.inside.count (length cs.chars)) (sym c.deref.ensures.value) c.self.invariant.in_line, low, omega arith)
 
-pub index-run-requires : goal.index-run-requires
-index-run-requires c =
+pub index-requires : goal.index-requires
+index-requires c =
     let low = held_within c.self.inside.runs.items c.deref.result.now c.find_run_near-place.result c.args.lv c.deref.ensures.value c.find_run_near-place.ensures in
     omega (arith, low, c.self.inside.runs.ok.0)
 
 pub overflow_sub-lv : goal.overflow_sub-lv
 overflow_sub-lv c =
-    (found (told_by c.self.inside.chars.items c.self.inside.labels.items) c.self.inside.runs.items c.deref.result.now c.self.inside.parents c.self.inside.count c.find_run_near-place.result c.args.lv c.index-run.result.now
-    c.self.invariant c.deref.ensures.value c.find_run_near-place.ensures c.index-run.ensures).from
+    (found (told_by c.self.inside.chars.items c.self.inside.labels.items) c.self.inside.runs.items c.deref.result.now c.self.inside.parents c.self.inside.count c.find_run_near-place.result c.args.lv c.index.result.now
+    c.self.invariant c.deref.ensures.value c.find_run_near-place.ensures c.index.ensures).from
 
-pub new-requires : goal.new-requires
-new-requires c =
-    let f = found (told_by c.self.inside.chars.items c.self.inside.labels.items) c.self.inside.runs.items c.deref.result.now c.self.inside.parents c.self.inside.count c.find_run_near-place.result c.args.lv c.index-run.result.now
-    c.self.invariant c.deref.ensures.value c.find_run_near-place.ensures c.index-run.ensures in
+pub rest-requires : goal.rest-requires
+rest-requires c =
+    let f = found (told_by c.self.inside.chars.items c.self.inside.labels.items) c.self.inside.runs.items c.deref.result.now c.self.inside.parents c.self.inside.count c.find_run_near-place.result c.args.lv c.index.result.now
+    c.self.invariant c.deref.ensures.value c.find_run_near-place.ensures c.index.ensures in
     let from = f.from in let to = f.to in let high = f.within.high in let chars = f.within.chars in
     let long = ap (length {A = ℕ}) c.deref-2.ensures.value in
     let count : c.self.inside.count < 2 ^ 32 = omega arith in
@@ -38,24 +39,24 @@ new-requires c =
 
 pub returns-clause-some : goal.returns-clause-some
 returns-clause-some c =
-    let run = c.index-run.result.now in
+    let run = c.index.result.now in
     let f = found (told_by c.self.inside.chars.items c.self.inside.labels.items) c.self.inside.runs.items c.deref.result.now c.self.inside.parents c.self.inside.count c.find_run_near-place.result c.args.lv run
-    c.self.invariant c.deref.ensures.value c.find_run_near-place.ensures c.index-run.ensures in
+    c.self.invariant c.deref.ensures.value c.find_run_near-place.ensures c.index.ensures in
     let from = f.from in let to = f.to in
-    omega (arith, from, to, ap (length {A = TextOp}) c.new.ensures, length-changes_from run c.deref-2.result.now (c.args.lv - run.start))
+    omega (arith, from, to, ap (length {A = TextOp}) c.rest.ensures.changes, length-changes_from run c.deref-2.result.now (c.args.lv - run.start))
 
 pub returns-clause-within : goal.returns-clause-within
 returns-clause-within c =
-    let run = c.index-run.result.now in
+    let run = c.index.result.now in
     let told = told_by c.self.inside.chars.items c.self.inside.labels.items in
     let f = found told c.self.inside.runs.items c.deref.result.now c.self.inside.parents c.self.inside.count c.find_run_near-place.result c.args.lv run
-    c.self.invariant c.deref.ensures.value c.find_run_near-place.ensures c.index-run.ensures in
+    c.self.invariant c.deref.ensures.value c.find_run_near-place.ensures c.index.ensures in
     let from = f.from in let to = f.to in
     omega (
       arith,
       from,
       to,
-      ap (length {A = TextOp}) c.new.ensures,
+      ap (length {A = TextOp}) c.rest.ensures.changes,
       length-changes_from run c.deref-2.result.now (c.args.lv - run.start),
       ap (length {A = BareEvent}) c.self.view_is,
       rest_within told c.self.inside.runs.items c.self.inside.parents c.self.inside.count c.find_run_near-place.result c.args.lv run c.self.invariant f,
@@ -63,14 +64,14 @@ returns-clause-within c =
 
 pub returns-clause-changes : goal.returns-clause-changes
 returns-clause-changes c = λ k low.
-    let run = c.index-run.result.now in
+    let run = c.index.result.now in
     let chars = c.self.inside.chars.items in
     let told = told_by chars c.self.inside.labels.items in
     let f = found told c.self.inside.runs.items c.deref.result.now c.self.inside.parents c.self.inside.count c.find_run_near-place.result c.args.lv run
-    c.self.invariant c.deref.ensures.value c.find_run_near-place.ensures c.index-run.ensures in
+    c.self.invariant c.deref.ensures.value c.find_run_near-place.ensures c.index.ensures in
     let from = f.from in let to = f.to in
     let before = c.args.lv - run.start in
-    let is : c.new.result ≡ changes_from run chars before = c.new.ensures ∙ ap (λ (cs : List ℕ). changes_from run cs before) c.deref-2.ensures.value in
+    let is : run_ops c.rest.result ≡ changes_from run chars before = c.rest.ensures.changes ∙ ap (λ (cs : List ℕ). changes_from run cs before) c.deref-2.ensures.value in
     let there : k < suc run.more - before = omega (arith, low, ap (length {A = TextOp}) is, length-changes_from run chars before) in
     ap (λ (es : List BareEvent). slice_get (map own_change (ops_in es)) (c.args.lv + k)) (sym c.self.view_is)
     ∙ rest_change told c.self.inside.runs.items c.self.inside.parents c.self.inside.count c.find_run_near-place.result c.args.lv run c.self.invariant f k (omega (arith, there, from, to))
@@ -78,22 +79,22 @@ returns-clause-changes c = λ k low.
 
 pub returns-clause-chain : goal.returns-clause-chain
 returns-clause-chain c =
-    let run = c.index-run.result.now in
+    let run = c.index.result.now in
     let told = told_by c.self.inside.chars.items c.self.inside.labels.items in
     let f = found told c.self.inside.runs.items c.deref.result.now c.self.inside.parents c.self.inside.count c.find_run_near-place.result c.args.lv run
-    c.self.invariant c.deref.ensures.value c.find_run_near-place.ensures c.index-run.ensures in
+    c.self.invariant c.deref.ensures.value c.find_run_near-place.ensures c.index.ensures in
     let from = f.from in let to = f.to in
-    let last : c.args.lv + length c.new.result - 1 ≡ run.start + run.more = omega (arith, from, to, ap (length {A = TextOp}) c.new.ensures, length-changes_from run c.deref-2.result.now (c.args.lv - run.start)) in
-    subst (λ (es : List BareEvent). IsChain (parents_in es) c.args.lv (c.args.lv + length c.new.result - 1)) c.self.view_is
-    (rest_chained told c.self.inside.runs.items c.self.inside.parents c.self.inside.count c.find_run_near-place.result c.args.lv run c.self.invariant f (c.args.lv + length c.new.result - 1) last)
+    let last : c.args.lv + length (run_ops c.rest.result) - 1 ≡ run.start + run.more = omega (arith, from, to, ap (length {A = TextOp}) c.rest.ensures.changes, length-changes_from run c.deref-2.result.now (c.args.lv - run.start)) in
+    subst (λ (es : List BareEvent). IsChain (parents_in es) c.args.lv (c.args.lv + length (run_ops c.rest.result) - 1)) c.self.view_is
+    (rest_chained told c.self.inside.runs.items c.self.inside.parents c.self.inside.count c.find_run_near-place.result c.args.lv run c.self.invariant f (c.args.lv + length (run_ops c.rest.result) - 1) last)
 
 pub returns-clause-end : goal.returns-clause-end
 returns-clause-end c =
-    let run = c.index-run.result.now in
+    let run = c.index.result.now in
     let told = told_by c.self.inside.chars.items c.self.inside.labels.items in
     let f = found told c.self.inside.runs.items c.deref.result.now c.self.inside.parents c.self.inside.count c.find_run_near-place.result c.args.lv run
-    c.self.invariant c.deref.ensures.value c.find_run_near-place.ensures c.index-run.ensures in
+    c.self.invariant c.deref.ensures.value c.find_run_near-place.ensures c.index.ensures in
     let from = f.from in let to = f.to in
-    let end : c.args.lv + length c.new.result ≡ run.start + suc run.more = omega (arith, from, to, ap (length {A = TextOp}) c.new.ensures, length-changes_from run c.deref-2.result.now (c.args.lv - run.start)) in
-    subst (λ (es : List BareEvent). IsRunEnd es c.args.lv (c.args.lv + length c.new.result)) c.self.view_is
-    (rest_ends told c.self.inside.runs.items c.self.inside.parents c.self.inside.count c.find_run_near-place.result c.args.lv run c.self.invariant f (c.args.lv + length c.new.result) end)
+    let end : c.args.lv + length (run_ops c.rest.result) ≡ run.start + suc run.more = omega (arith, from, to, ap (length {A = TextOp}) c.rest.ensures.changes, length-changes_from run c.deref-2.result.now (c.args.lv - run.start)) in
+    subst (λ (es : List BareEvent). IsRunEnd es c.args.lv (c.args.lv + length (run_ops c.rest.result))) c.self.view_is
+    (rest_ends told c.self.inside.runs.items c.self.inside.parents c.self.inside.count c.find_run_near-place.result c.args.lv run c.self.invariant f (c.args.lv + length (run_ops c.rest.result)) end)

@@ -4,8 +4,20 @@ use Rattle.event_runs.specs.BareEvents.{BareEvent}
 use Rattle.event_runs.specs.RunOps.{ops_of}
 use Rattle.event_runs.proofs.Found.{told_by}
 use Rattle.event_runs.proofs.ManyEvents.{taken}
-use Rattle.event_runs.proofs.RunEvents.{length-events_in}
+use Rattle.event_runs.proofs.RunEvents.{length-events_in, runs_end}
 use Rattle.event_runs.proofs.storage.EventRuns.take_in.Goals as goal
+
+pub overflow_add-self-inside : goal.overflow_add-self-inside
+overflow_add-self-inside c =
+    let all = length-events_in (told_by c.self.inside.chars.items c.self.inside.labels.items) c.self.inside.runs.items c.self.inside.parents 0 0 c.self.inside.count (length c.self.inside.chars.items) c.self.invariant.in_line in
+    let long = ap (length {A = BareEvent}) c.self.view_is in
+    let rest = length-drop c.args.place (ops_of c.args.ops) in
+    omega (arith, all, long, rest, c.count.ensures, c.requires.room)
+
+pub set_count-requires : goal.set_count-requires
+set_count-requires c =
+    let few = runs_end c.self.inside.runs.items c.self.inside.parents 0 0 c.self.inside.count (length c.self.inside.chars.items) c.self.invariant.in_line in
+    omega (arith, few, c.len.ensures, c.self.inside.runs.ok.0, c.self.ranges)
 
 pub lengthen_last_by-requires : goal.lengthen_last_by-requires
 lengthen_last_by-requires c =

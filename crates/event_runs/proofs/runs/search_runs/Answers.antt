@@ -2,8 +2,8 @@ use Rattle.std.proofs.Common.{◌≡◌, ◌∙◌, ◌-◌, ◌≤◌, suc, Som
 use Rattle.std.proofs.lemmas.Option.{slice_get-get_or, slice_get_within, get_or_from_slice_get}
 use Rattle.event_runs.specs.declared.runs.Run.{Run}
 use Rattle.event_runs.proofs.RunEvents.{in_run, some_below, first_run}
-use Rattle.event_runs.proofs.runs.find_run.Goals.{After-count_below}
-use Rattle.event_runs.proofs.runs.find_run.Goals as goal
+use Rattle.event_runs.proofs.runs.search_runs.Goals.{After-count_below}
+use Rattle.event_runs.proofs.runs.search_runs.Goals as goal
 
 some : (c : After-count_below) → 1 ≤ c.count_below.result
 some c =
