@@ -9,6 +9,7 @@ pub mod Lines
 pub mod Loops
 pub mod NamedAlike
 mod OwnChanges
+pub mod Passing
 pub mod Placings
 pub mod Replays
 pub mod RunCuts
@@ -19,5 +20,6 @@ pub mod SpanLists
 pub mod Standings
 pub mod Steps
 pub mod Turning
+pub mod TypedEvents
 pub mod WalkedEvents
 pub mod WholeWalks

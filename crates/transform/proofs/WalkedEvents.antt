@@ -88,9 +88,12 @@ walked_more front cut e low =
 pub named_from : (front : List Event) (cut n : ℕ) → cut ≤ length front → cut ≤ n → n < length front → has_name (walked_from front cut) n ≡ true
 named_from front cut n low above below = named_after cut (take cut front) [] (drop cut front) n (omega (arith, above)) (omega (arith, below, low, length-drop cut front))
 
--- and the next is none
+-- and none that comes later is
+pub unnamed_later : (front : List Event) (cut n : ℕ) → cut ≤ length front → length front ≤ n → has_name (walked_from front cut) n ≡ false
+unnamed_later front cut n low high = unnamed_after cut (take cut front) [] (drop cut front) n (omega (arith, low, high, length-drop cut front))
+
 pub unnamed : (front : List Event) (cut : ℕ) → cut ≤ length front → has_name (walked_from front cut) (length front) ≡ false
-unnamed front cut low = unnamed_after cut (take cut front) [] (drop cut front) (length front) (omega (arith, low, length-drop cut front))
+unnamed front cut low = unnamed_later front cut (length front) low (omega arith)
 
 -- an id that isn't held is inserted by none of them
 pub uninserted : (front : List Event) (cut : ℕ) (x : Id) → is_held front x ≡ false → list_any (λ (c : Applied ℕ). inserts_as x c.act) (walked_from front cut) ≡ false

@@ -1,27 +1,26 @@
 //! The turns of a walk at a critical cut: what is below is known by the length of its text alone.
 
-ghost use Rattle.std.specs.Prelude.{◌≡◌, ℕ, ◌+◌, ◌-◌, ◌<◌, ◌≤◌, ◌^◌, [], length, map, slice_get, true, false, IfOk, OnOk, IfSome, IfNone, IsTrue, ◌↔◌};
+ghost use Rattle.std.specs.Prelude.{◌≡◌, ℕ, ◌+◌, ◌-◌, ◌<◌, ◌≤◌, ◌^◌, [], length, map, take, slice_get, true, IfOk, OnOk, IsTrue, ◌↔◌};
 ghost use Rattle.ew_model.specs.declared.event.Event.{Event};
-ghost use Rattle.ew_model.specs.declared.event.Op.{Op};
 ghost use Rattle.ew_model.specs.Cuts.{is_critical};
 ghost use Rattle.ew_model.specs.Positions.{parent_positions};
 ghost use Rattle.ew_model.specs.TextLaws.{own_change};
-ghost use Rattle.ew_model.specs.Verdicts.{is_outside};
 ghost use Rattle.ew_model.specs.Walks.{base_at};
 ghost use Rattle.frontier.specs.Chains.{IsChain};
 ghost use Rattle.advance_retreat.specs.Kept.{Kept};
 ghost use Rattle.advance_retreat.specs.Standing.{StandsFor};
-ghost use Rattle.transform.specs.Changing.{length_by};
+ghost use Rattle.operation_runs.specs.Runs.{run_ops, RunFits};
+ghost use Rattle.transform.specs.Changing.{FitTo};
 ghost use Rattle.transform.specs.Reaching.{InLine, IsBehind};
 ghost use Rattle.transform.specs.Running.{IsRunAt, HasNoCut, StandAlone, TurnsTo, emitted_to, judged_to, walked_to};
 
-use crate::emit::emit;
+use crate::emit::emit_run;
 use crate::run::{Turns, apply_run};
 use advance_retreat::State;
-use event_graph::{Graph, Near, RunRest};
+use event_graph::{Graph, Near};
 use ew_model::NoMem;
 use ew_model::steps::Steps;
-use ew_model::text_op::TextOp;
+use operation_runs::{OperationRun, OperationRuns};
 use std::alloc::Global;
 use std::sync::ledger::Ledger;
 
@@ -34,20 +33,21 @@ pub fn pass_cut<L: Ledger>(
     state: &mut State,
     line: &mut Option<u32>,
     position: u32,
-    run: &RunRest<'_>,
+    run: OperationRun<'_>,
     count: u32,
     len: u32,
     emit_from: u32,
-    ops: &mut Vec<TextOp>,
+    ops: &mut OperationRuns,
     near: &mut Near,
     steps: &mut Steps<L>,
 ) -> Result<Turns, NoMem>
-    requires run { IsRunAt graph.now position count run.now }
+    requires run { IsRunAt graph.now position count (run_ops run) }
+    requires fits { RunFits run }
     requires behind { IsBehind graph.now position position }
     requires long { len ≡ base_at graph.now position }
-    requires emitted { ops.old.items ≡ emitted_to graph.now emit_from position }
+    requires emitted { ops.old ≡ emitted_to graph.now emit_from position }
     ensures turned { (from : ℕ) → from ≤ position → IfOk result (TurnsTo graph.now from position (position + count) line.new state.new) }
-    ensures emitted { IfOk result (λ t. ops.new.items ≡ emitted_to graph.now emit_from (walked_to t)) }
+    ensures emitted { IfOk result (λ t. ops.new ≡ emitted_to graph.now emit_from (walked_to t)) }
     ensures steps { IfOk result (λ t. steps.new + position ≡ steps.old + judged_to t) }
     ensures most { steps.new ≤ steps.old + count }
 {
@@ -109,41 +109,64 @@ pub struct Passed {
 fn pass_alone<L: Ledger>(
     graph: &Graph,
     position: u32,
-    run: &RunRest<'_>,
+    run: OperationRun<'_>,
     count: u32,
     len: u32,
     emit_from: u32,
-    ops: &mut Vec<TextOp>,
+    ops: &mut OperationRuns,
     steps: &mut Steps<L>,
 ) -> Result<Passed, NoMem>
     requires within { position + count ≤ length graph.now }
-    requires told { count ≤ length run.now }
-    requires changes { (k : ℕ) → k < length run.now → slice_get (map (λ (e : Event). own_change e.op) graph.now) (position + k) ≡ slice_get run.now k }
+    requires fits { RunFits run }
+    requires told { count ≤ length (run_ops run) }
+    requires changes { (k : ℕ) → k < length (run_ops run) → slice_get (map (λ (e : Event). own_change e.op) graph.now) (position + k) ≡ slice_get (run_ops run) k }
     requires alone { StandAlone graph.now position count }
     requires behind { IsBehind graph.now position position }
     requires long { len ≡ base_at graph.now position }
-    requires emitted { ops.old.items ≡ emitted_to graph.now emit_from position }
+    requires emitted { ops.old ≡ emitted_to graph.now emit_from position }
     ensures most { IfOk result (λ p. p.count ≤ count) }
     ensures line { IfOk result (λ p. (from : ℕ) (state : Kept) → from ≤ position → 0 < p.count → InLine graph.now from (position + p.count) p.len state) }
-    ensures emitted { IfOk result (λ p. ops.new.items ≡ emitted_to graph.now emit_from (position + p.count)) }
+    ensures emitted { IfOk result (λ p. ops.new ≡ emitted_to graph.now emit_from (position + p.count)) }
     ensures steps { IfOk result (λ p. steps.new ≡ steps.old + p.count) }
     ensures most_steps { steps.new ≤ steps.old + count }
 {
     let _count = graph.count();
-    let mut long = len;
-    for place in 0..count {
-        let change = run.change(place);
-        let Some(longer) = changed_length(change, long) else {
-            return Ok(Passed {
-                count: place,
-                len: long,
-            });
-        };
+    let passed = passed_of(run, count, len);
+    for _ in 0..passed.count {
         steps.tick();
-        emit(ops, position + place, emit_from, change)?;
-        long = longer;
     }
-    Ok(Passed { count, len: long })
+    emit_run(ops, position, emit_from, run, passed.count)?;
+    Ok(passed)
+}
+
+/// How many of the first so many operations of a run are passed, none of them out of range where they are done one after another to a
+/// text of `len` characters, and how long the text is behind them. More of them may be in range, too.
+fn passed_of(run: OperationRun<'_>, most: u32, len: u32) -> Passed
+    requires fits { RunFits run }
+    requires within { most ≤ length (run_ops run) }
+    requires room { len + most < 2 ^ 32 }
+    ensures most { result.count ≤ most }
+    ensures fit { FitTo len (take result.count (run_ops run.entry)) result.len }
+{
+    match run {
+        OperationRun::Insertions { at, chars: _ } if at <= len => Passed {
+            count: most,
+            len: len + most,
+        },
+        OperationRun::Deletions { at, count: _ } if at < len => {
+            let count = most.min(len - at);
+            Passed {
+                count,
+                len: len - count,
+            }
+        }
+        OperationRun::BackDeletions { at, count: _ } if at < len => Passed {
+            count: most,
+            len: len - most,
+        },
+        OperationRun::Nothings { count: _ } => Passed { count: most, len },
+        _ => Passed { count: 0, len },
+    }
 }
 
 /// Begins the state over a text of so many characters, where no event was applied.
@@ -163,19 +186,4 @@ fn stands_alone(graph: &Graph, position: u32, near: &mut Near) -> bool
 {
     let count = graph.count();
     position + 1 < count && graph.is_cut_near(position + 1, near)
-}
-
-/// The length of a text of so many characters after a change, where its index is in range. The change is what some operation does to
-/// the text at its parents.
-fn changed_length(change: TextOp, len: u32) -> Option<u32>
-    requires { len + 1 < 2 ^ 32 }
-    ensures none { IfNone result ((op : Op) → own_change op ≡ change → is_outside len op ≡ true) }
-    ensures some { IfSome result (λ n. (op : Op) → own_change op ≡ change → (is_outside len op ≡ false) × (n ≡ length_by op len)) }
-{
-    match change {
-        TextOp::Ins { at, ch: _ } if at <= len => Some(len + 1),
-        TextOp::Del { at } if at < len => Some(len - 1),
-        TextOp::Nothing => Some(len),
-        TextOp::Ins { at: _, ch: _ } | TextOp::Del { at: _ } => None,
-    }
 }

@@ -10,7 +10,7 @@ use advance_retreat::State;
 use event_graph::Graph;
 use ew_model::NoMem;
 use ew_model::steps::Steps;
-use ew_model::text_op::TextOp;
+use operation_runs::OperationRuns;
 use std::alloc::Global;
 use std::sync::ledger::Ledger;
 
@@ -19,9 +19,9 @@ pub fn replay<L: Ledger>(
     alloc: Global,
     graph: &Graph,
     steps: &mut Steps<L>,
-) -> Result<Vec<TextOp>, NoMem>
+) -> Result<OperationRuns, NoMem>
     requires { IsGood graph.now }
-    ensures ops { IfOk result (λ ops. ops.items ≡ operations graph.now) }
+    ensures ops { IfOk result (λ ops. ops ≡ operations graph.now) }
     ensures touches { OnOk result (steps.new ≡ steps.old + touches graph.now 0) }
     ensures most { steps.new ≤ steps.old + touches graph.now 0 }
 {

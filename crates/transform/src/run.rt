@@ -1,17 +1,18 @@
-//! Events of a run that are applied one after another.
+//! Events of a run that are applied one after another, or in one go.
 
 ghost use Rattle.std.specs.Prelude.{◌≡◌, ℕ, ◌+◌, ◌≤◌, None, IfOk};
 ghost use Rattle.ew_model.specs.Cuts.{latest_cut};
-ghost use Rattle.transform.specs.Reaching.{IsReadyAt};
+ghost use Rattle.operation_runs.specs.Runs.{run_ops, RunFits};
+ghost use Rattle.transform.specs.Reaching.{IsReadyAt, WalkedTo};
 ghost use Rattle.transform.specs.Running.{IsRunAt, HasNoCut, TurnsTo, emitted_to, judged_to, walked_to};
 
 use crate::apply::{Turn, apply};
-use crate::emit::emit;
+use crate::emit::{emit, emit_run};
 use advance_retreat::State;
-use event_graph::{Graph, Near, RunRest};
+use event_graph::{Graph, Near};
 use ew_model::NoMem;
 use ew_model::steps::Steps;
-use ew_model::text_op::TextOp;
+use operation_runs::{OperationRun, OperationRuns};
 use std::sync::ledger::Ledger;
 
 /// Where turns over events of a run end.
@@ -28,29 +29,86 @@ pub fn apply_run<L: Ledger>(
     graph: &Graph,
     state: &mut State,
     position: u32,
-    run: &RunRest<'_>,
+    run: OperationRun<'_>,
     count: u32,
     emit_from: u32,
-    ops: &mut Vec<TextOp>,
+    ops: &mut OperationRuns,
     near: &mut Near,
     steps: &mut Steps<L>,
 ) -> Result<Turns, NoMem>
-    requires run { IsRunAt graph.now position count run.now }
+    requires run { IsRunAt graph.now position count (run_ops run) }
+    requires fits { RunFits run }
     requires apart { HasNoCut graph.now position count }
     requires ready { IsReadyAt graph.now (latest_cut graph.now position) position state.old }
-    requires emitted { ops.old.items ≡ emitted_to graph.now emit_from position }
+    requires emitted { ops.old ≡ emitted_to graph.now emit_from position }
     ensures turned { (from : ℕ) → from ≤ position → IfOk result (TurnsTo graph.now from position (position + count) None state.new) }
-    ensures emitted { IfOk result (λ t. ops.new.items ≡ emitted_to graph.now emit_from (walked_to t)) }
+    ensures emitted { IfOk result (λ t. ops.new ≡ emitted_to graph.now emit_from (walked_to t)) }
     ensures steps { IfOk result (λ t. steps.new + position ≡ steps.old + judged_to t) }
     ensures most { steps.new ≤ steps.old + count }
 {
     let _count = graph.count();
-    for place in 0..count {
+    let mut place = 0;
+    while place < count {
         let at = position + place;
-        match apply(graph, state, at, run.change(place), near, steps)? {
+        match apply(graph, state, at, run.get(place), near, steps)? {
             Turn::Applied(op) => emit(ops, at, emit_from, op)?,
             Turn::OutOfRange(len) => return Ok(Turns::OutOfRange(at, len)),
         }
+        place += 1;
+        if place < count {
+            place += type_on(
+                graph, state, position, run, place, count, emit_from, ops, near, steps,
+            )?;
+        }
     }
     Ok(Turns::To(position + count))
+}
+
+/// Applies insertions of a run from a place on, which isn't the first, in one go: those that have the next ids of one agent. Answers how
+/// many: none where that can't be done.
+fn type_on<L: Ledger>(
+    graph: &Graph,
+    state: &mut State,
+    position: u32,
+    run: OperationRun<'_>,
+    place: u32,
+    count: u32,
+    emit_from: u32,
+    ops: &mut OperationRuns,
+    near: &mut Near,
+    steps: &mut Steps<L>,
+) -> Result<u32, NoMem>
+    requires run { IsRunAt graph.now position count (run_ops run) }
+    requires fits { RunFits run }
+    requires apart { HasNoCut graph.now position count }
+    requires within { place ≤ count }
+    requires walked { WalkedTo graph.now position (position + place) None state.old }
+    requires emitted { ops.old ≡ emitted_to graph.now emit_from (position + place) }
+    ensures within { IfOk result (λ n. place + n ≤ count) }
+    ensures walked { IfOk result (λ n. WalkedTo graph.now position (position + place + n) None state.new) }
+    ensures emitted { IfOk result (λ n. ops.new ≡ emitted_to graph.now emit_from (position + place + n)) }
+    ensures steps { IfOk result (λ n. steps.new ≡ steps.old + n) }
+    ensures most { steps.new + place ≤ steps.old + count }
+{
+    let _count = graph.count();
+    let OperationRun::Insertions { at, chars } = run else {
+        return Ok(0);
+    };
+    let newest = position + place - 1;
+    let more = graph.next_ids_near(newest, near).min(count - place);
+    if more == 0 {
+        return Ok(0);
+    }
+    let Some(first) = state.type_on(newest, more, at + place) else {
+        return Ok(0);
+    };
+    for _ in 0..more {
+        steps.tick();
+    }
+    let typed = OperationRun::Insertions {
+        at: first,
+        chars: &chars[place as usize..(place + more) as usize],
+    };
+    emit_run(ops, newest + 1, emit_from, typed, more)?;
+    Ok(more)
 }

@@ -19,7 +19,7 @@ use advance_retreat::State;
 use event_graph::{Graph, Near};
 use ew_model::NoMem;
 use ew_model::steps::Steps;
-use ew_model::text_op::TextOp;
+use operation_runs::OperationRuns;
 use std::alloc::Global;
 use std::sync::ledger::Ledger;
 
@@ -47,15 +47,15 @@ pub fn walk<L: Ledger>(
     requires good { IsGood (take from_cut graph.now) }
     requires base { StandsFor state.old (base_at graph.now from_cut) [] [] }
     ensures stopped { IfOk result (λ w. option_map bad_at w.stopped ≡ first_bad graph.now) }
-    ensures ops { IfOk result (λ w. w.ops.items ≡ drop emit_from (operations (walked_of graph.now w.stopped))) }
+    ensures ops { IfOk result (λ w. w.ops ≡ drop emit_from (operations (walked_of graph.now w.stopped))) }
     ensures touches { IfOk result (λ w. steps.new ≡ steps.old + touches (judged_of graph.now w.stopped) from_cut) }
     ensures most { steps.new ≤ steps.old + touches graph.now from_cut }
     ensures state { IfOk result (λ w. StandsBehind graph.now (cut_left graph.now from_cut w.stopped) (walked_of graph.now w.stopped) state.new) }
 {
-    let count = graph.count();
-    let mut ops = Vec::with_capacity(alloc, count.saturating_sub(emit_from) as usize)?;
+    let mut ops = OperationRuns::new(alloc);
     let mut line = Some(state.effect_len());
     let mut near = Near::start();
+    let count = graph.count();
     let mut next = from_cut;
     while next < count {
         let turns = take_turns(
@@ -84,15 +84,15 @@ fn take_turns<L: Ledger>(
     line: &mut Option<u32>,
     position: u32,
     emit_from: u32,
-    ops: &mut Vec<TextOp>,
+    ops: &mut OperationRuns,
     near: &mut Near,
     steps: &mut Steps<L>,
 ) -> Result<Turns, NoMem>
     requires within { position < length graph.now }
     requires walked { (from : ℕ) × (from ≤ position) × WalkedTo graph.now from position line.old state.old }
-    requires emitted { ops.old.items ≡ emitted_to graph.now emit_from position }
+    requires emitted { ops.old ≡ emitted_to graph.now emit_from position }
     ensures turned { (from : ℕ) → from ≤ position → WalkedTo graph.now from position line.old state.old → IfOk result (TurnsTo graph.now from position (length graph.now) line.new state.new) }
-    ensures emitted { IfOk result (λ t. ops.new.items ≡ emitted_to graph.now emit_from (walked_to t)) }
+    ensures emitted { IfOk result (λ t. ops.new ≡ emitted_to graph.now emit_from (walked_to t)) }
     ensures steps { (from : ℕ) → from ≤ position → WalkedTo graph.now from position line.old state.old → IfOk result (λ t. steps.new + touches (take position graph.now) from ≡ steps.old + touches (take (judged_to t) graph.now) from) }
     ensures most { (from : ℕ) → from ≤ position → WalkedTo graph.now from position line.old state.old → steps.new + touches (take position graph.now) from ≤ steps.old + touches graph.now from }
 {
@@ -101,10 +101,10 @@ fn take_turns<L: Ledger>(
     let events = run.count();
     match reach(graph, state, *line, position, near, steps)? {
         Some(len) => pass_cut(
-            alloc, graph, state, line, position, &run, events, len, emit_from, ops, near, steps,
+            alloc, graph, state, line, position, run, events, len, emit_from, ops, near, steps,
         ),
         None => apply_run(
-            graph, state, position, &run, events, emit_from, ops, near, steps,
+            graph, state, position, run, events, emit_from, ops, near, steps,
         ),
     }
 }

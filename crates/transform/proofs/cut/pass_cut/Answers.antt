@@ -1,5 +1,6 @@
 use Rattle.std.proofs.Common.{◌≡◌, ◌+◌, None, sym, ap, ◌∙◌, subst, arith}
 use Rattle.event_graph.proofs.Summing.{known_ok}
+use Rattle.operation_runs.specs.Runs.{run_ops}
 use Rattle.transform.specs.Reaching.{IsReadyAt}
 use Rattle.transform.specs.Running.{TurnsTo, emitted_to, judged_to}
 use Rattle.transform.proofs.Lines.{fresh}
@@ -18,7 +19,7 @@ apply_run-requires-clause-run g c =
     let alone = c.count_alone-alone.result in
     let together = c.count_together-together in
     let some = together_some alone c.args.count together.result c.requires.run.some together.ensures.some together.ensures.none in
-    run_fewer c.args.graph.now c.args.position c.args.count together.result c.args.run.now c.requires.run some.0 some.1
+    run_fewer c.args.graph.now c.args.position c.args.count together.result (run_ops c.args.run) c.requires.run some.0 some.1
 
 pub apply_run-requires-clause-apart : goal.apply_run-requires-clause-apart
 apply_run-requires-clause-apart g c =

@@ -16,7 +16,7 @@ pub walk-requires-clause-base : goal.walk-requires-clause-base
 walk-requires-clause-base g c = subst (λ b. StandsFor c.in_ok-state.state b [] []) (sym (base_is_none c.args.graph.now)) c.in_ok-state.ensures.stands
 
 pub returns-clause-ops : goal.returns-clause-ops
-returns-clause-ops g c = all_operations c.args.graph.now c.in_ok-walked.walked.stopped c.requires c.in_ok-walked.ensures.stopped c.in_ok-walked.walked.ops.items c.in_ok-walked.ensures.ops
+returns-clause-ops g c = all_operations c.args.graph.now c.in_ok-walked.walked.stopped c.requires c.in_ok-walked.ensures.stopped c.in_ok-walked.walked.ops c.in_ok-walked.ensures.ops
 
 pub returns-clause-touches : goal.returns-clause-touches
 returns-clause-touches g c = omega (arith, c.in_ok-walked.ensures.touches, all_touches c.args.graph.now c.in_ok-walked.walked.stopped c.requires c.in_ok-walked.ensures.stopped)

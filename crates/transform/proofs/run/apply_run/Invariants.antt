@@ -1,4 +1,4 @@
-use Rattle.std.proofs.Common.{◌≡◌, ℕ, ◌+◌, ◌<◌, ◌≤◌, None}
+use Rattle.std.proofs.Common.{◌≡◌, ℕ, ◌+◌, ◌-◌, ◌<◌, ◌≤◌, None}
 use Rattle.ew_model.specs.Cuts.{latest_cut}
 use Rattle.transform.specs.Reaching.{IsReadyAt, WalkedTo}
 use Rattle.transform.specs.Running.{emitted_to}
@@ -9,6 +9,9 @@ invariant-loop-place g l = record {
   high : l.place ≤ l.count;
   ready : l.place < l.count → IsReadyAt l.graph (latest_cut l.graph (l.position + l.place)) (l.position + l.place) l.state;
   walked : (from : ℕ) → from ≤ l.position → 0 < l.place → WalkedTo l.graph from (l.position + l.place) None l.state;
-  emitted : l.ops.items ≡ emitted_to l.graph l.emit_from (l.position + l.place);
+  emitted : l.ops ≡ emitted_to l.graph l.emit_from (l.position + l.place);
   steps : l.steps ≡ l.fn.steps + l.place;
 }
+
+abbrev pub decreases-loop-place : goal.decreases-loop-place
+decreases-loop-place g l = l.count - l.place

@@ -1,6 +1,7 @@
 use Rattle.std.proofs.Common.{◌≡◌, ◌+◌, ◌-◌, ◌≤◌, None, IfOk, length, take, sym, subst, arith}
 use Rattle.ew_model.specs.Touches.{touches}
 use Rattle.event_graph.proofs.Summing.{known_ok}
+use Rattle.operation_runs.specs.Runs.{run_ops}
 use Rattle.transform.specs.Reaching.{ReadyAt}
 use Rattle.transform.specs.Running.{TurnsTo, judged_to}
 use Rattle.transform.proofs.Loops.{touched}
@@ -11,7 +12,7 @@ use Rattle.transform.proofs.walking.take_turns.Goals as goal
 pub pass_cut-requires-clause-run : goal.pass_cut-requires-clause-run
 pass_cut-requires-clause-run g c =
     let rest = c.rest_near-run in
-    run_told c.args.graph.now c.args.position c.count-events.result rest.result c.count-events.ensures rest.ensures.some rest.ensures.within rest.ensures.chain rest.ensures.changes
+    run_told c.args.graph.now c.args.position c.count-events.result (run_ops rest.result) c.count-events.ensures rest.ensures.some rest.ensures.within rest.ensures.chain rest.ensures.changes
 
 pub pass_cut-requires-clause-behind : goal.pass_cut-requires-clause-behind
 pass_cut-requires-clause-behind g c = (subst (λ at. ReadyAt c.args.graph.now c.args.position at c.reach.new.state) c.in-Some.is (c.in_ok-len.ensures.ready c.requires.walked.0 c.requires.walked.2)).0
@@ -22,12 +23,12 @@ pass_cut-requires-clause-long g c = (subst (λ at. ReadyAt c.args.graph.now c.ar
 pub apply_run-requires-clause-run : goal.apply_run-requires-clause-run
 apply_run-requires-clause-run g c =
     let rest = c.rest_near-run in
-    run_told c.args.graph.now c.args.position c.count-events.result rest.result c.count-events.ensures rest.ensures.some rest.ensures.within rest.ensures.chain rest.ensures.changes
+    run_told c.args.graph.now c.args.position c.count-events.result (run_ops rest.result) c.count-events.ensures rest.ensures.some rest.ensures.within rest.ensures.chain rest.ensures.changes
 
 pub apply_run-requires-clause-apart : goal.apply_run-requires-clause-apart
 apply_run-requires-clause-apart g c =
     let rest = c.rest_near-run in
-    no_cuts c.args.graph.now c.count-count.ensures.admitted c.args.position (c.args.position + length rest.result - 1) rest.ensures.chain (omega (arith, rest.ensures.some, rest.ensures.within)) c.count-events.result
+    no_cuts c.args.graph.now c.count-count.ensures.admitted c.args.position (c.args.position + length (run_ops rest.result) - 1) rest.ensures.chain (omega (arith, rest.ensures.some, rest.ensures.within)) c.count-events.result
     (omega (arith, rest.ensures.some, c.count-events.ensures)) (c.in_ok-len.ensures.apart c.in-None.is)
 
 pub apply_run-requires-clause-ready : goal.apply_run-requires-clause-ready
@@ -52,20 +53,20 @@ returns-in-Some-clause-steps g c = λ from low walked.
     let position = c.args.position in
     let events = c.count-events.result in
     let rest = c.rest_near-run in
-    let run = run_told now position events rest.result c.count-events.ensures rest.ensures.some rest.ensures.within rest.ensures.chain rest.ensures.changes in
+    let run = run_told now position events (run_ops rest.result) c.count-events.ensures rest.ensures.some rest.ensures.within rest.ensures.chain rest.ensures.changes in
     let line = c.pass_cut.new.line in let state = c.pass_cut.new.state in
     both_ok (TurnsTo now from position (position + events) line state) (λ t. c.pass_cut.new.steps + position ≡ c.reach.new.steps + judged_to t)
     (λ t. c.pass_cut.new.steps + touches (take position now) from ≡ c.args.steps.now + touches (take (judged_to t) now) from) c.pass_cut.result
     (λ t turned steps. let high = judged_low now from position (position + events) line state t turned in
-    cost_of now c.count-count.ensures.admitted from position events rest.result run low c.args.steps.now c.reach.new.steps c.pass_cut.new.steps (c.in_ok-len.ensures.steps from low walked) (judged_to t) high.0 high.1 steps)
+    cost_of now c.count-count.ensures.admitted from position events (run_ops rest.result) run low c.args.steps.now c.reach.new.steps c.pass_cut.new.steps (c.in_ok-len.ensures.steps from low walked) (judged_to t) high.0 high.1 steps)
     (c.pass_cut.ensures.turned from low) c.pass_cut.ensures.steps
 
 pub returns-in-Some-clause-most : goal.returns-in-Some-clause-most
 returns-in-Some-clause-most g c = λ from low walked.
     let now = c.args.graph.now in
     let rest = c.rest_near-run in
-    let run = run_told now c.args.position c.count-events.result rest.result c.count-events.ensures rest.ensures.some rest.ensures.within rest.ensures.chain rest.ensures.changes in
-    most_cost now c.count-count.ensures.admitted from c.args.position c.count-events.result rest.result run low c.args.steps.now c.reach.new.steps c.pass_cut.new.steps (c.in_ok-len.ensures.steps from low walked) c.pass_cut.ensures.most
+    let run = run_told now c.args.position c.count-events.result (run_ops rest.result) c.count-events.ensures rest.ensures.some rest.ensures.within rest.ensures.chain rest.ensures.changes in
+    most_cost now c.count-count.ensures.admitted from c.args.position c.count-events.result (run_ops rest.result) run low c.args.steps.now c.reach.new.steps c.pass_cut.new.steps (c.in_ok-len.ensures.steps from low walked) c.pass_cut.ensures.most
 
 pub returns-in-None-clause-turned : goal.returns-in-None-clause-turned
 returns-in-None-clause-turned g c = λ from low walked.
@@ -84,17 +85,17 @@ returns-in-None-clause-steps g c = λ from low walked.
     let position = c.args.position in
     let events = c.count-events.result in
     let rest = c.rest_near-run in
-    let run = run_told now position events rest.result c.count-events.ensures rest.ensures.some rest.ensures.within rest.ensures.chain rest.ensures.changes in
+    let run = run_told now position events (run_ops rest.result) c.count-events.ensures rest.ensures.some rest.ensures.within rest.ensures.chain rest.ensures.changes in
     let state = c.apply_run.new.state in
     both_ok (TurnsTo now from position (position + events) None state) (λ t. c.apply_run.new.steps + position ≡ c.reach.new.steps + judged_to t)
     (λ t. c.apply_run.new.steps + touches (take position now) from ≡ c.args.steps.now + touches (take (judged_to t) now) from) c.apply_run.result
     (λ t turned steps. let high = judged_low now from position (position + events) None state t turned in
-    cost_of now c.count-count.ensures.admitted from position events rest.result run low c.args.steps.now c.reach.new.steps c.apply_run.new.steps (c.in_ok-len.ensures.steps from low walked) (judged_to t) high.0 high.1 steps)
+    cost_of now c.count-count.ensures.admitted from position events (run_ops rest.result) run low c.args.steps.now c.reach.new.steps c.apply_run.new.steps (c.in_ok-len.ensures.steps from low walked) (judged_to t) high.0 high.1 steps)
     (c.apply_run.ensures.turned from low) c.apply_run.ensures.steps
 
 pub returns-in-None-clause-most : goal.returns-in-None-clause-most
 returns-in-None-clause-most g c = λ from low walked.
     let now = c.args.graph.now in
     let rest = c.rest_near-run in
-    let run = run_told now c.args.position c.count-events.result rest.result c.count-events.ensures rest.ensures.some rest.ensures.within rest.ensures.chain rest.ensures.changes in
-    most_cost now c.count-count.ensures.admitted from c.args.position c.count-events.result rest.result run low c.args.steps.now c.reach.new.steps c.apply_run.new.steps (c.in_ok-len.ensures.steps from low walked) c.apply_run.ensures.most
+    let run = run_told now c.args.position c.count-events.result (run_ops rest.result) c.count-events.ensures rest.ensures.some rest.ensures.within rest.ensures.chain rest.ensures.changes in
+    most_cost now c.count-count.ensures.admitted from c.args.position c.count-events.result (run_ops rest.result) run low c.args.steps.now c.reach.new.steps c.apply_run.new.steps (c.in_ok-len.ensures.steps from low walked) c.apply_run.ensures.most

@@ -14,7 +14,7 @@ loop-next-init g c =
       low = omega arith;
       high = within;
       walked = starts now cut c.effect_len.result c.args.state.now within c.requires.cut c.requires.good c.requires.base (base_length now cut c.args.state.now c.effect_len.result c.requires.base c.effect_len.ensures);
-      emitted = starts_empty now cut c.args.emit_from c.in_ok-ops.ops.items within c.requires.emit c.in_ok-ops.ensures.items;
+      emitted = starts_empty now cut c.args.emit_from c.new-ops.result within c.requires.emit c.new-ops.ensures;
       steps = starts_untouched now cut c.args.steps.now within;
     }
 

@@ -9,7 +9,7 @@ invariant-loop-next g l = record {
   low : l.from_cut ≤ l.next;
   high : l.next ≤ length l.graph;
   walked : WalkedTo l.graph l.from_cut l.next l.line l.state;
-  emitted : l.ops.items ≡ emitted_to l.graph l.emit_from l.next;
+  emitted : l.ops ≡ emitted_to l.graph l.emit_from l.next;
   steps : l.steps ≡ l.fn.steps + touches (take l.next l.graph) l.from_cut;
 }
 
