@@ -4,7 +4,7 @@ use Rattle.std.proofs.lemmas.List.{take-append-drop}
 use Rattle.ew_model.specs.declared.event.Event.{Event}
 use Rattle.ew_model.specs.declared.text_op.TextOp.{TextOp}
 use Rattle.ew_model.specs.Cuts.{is_critical, latest_cut}
-use Rattle.ew_model.specs.Operations.{changed_by, changed_by_all, operations}
+use Rattle.ew_model.specs.Operations.{changed_by_all, operations}
 use Rattle.ew_model.specs.TextLaws.{AllFit}
 use Rattle.ew_model.specs.Texts.{text_of}
 use Rattle.ew_model.specs.Touches.{touches}
@@ -17,7 +17,7 @@ use Rattle.ew_model.proofs.GoodLaws.{operations_make_text}
 use Rattle.transform.specs.Walking.{bad_at, judged_of, walked_of}
 use Rattle.transform.proofs.Replays.{none_before}
 use Rattle.transform.proofs.WholeWalks.{front_good}
-use Rattle.replica.proofs.Joined.{changed_joined}
+use Rattle.rope.proofs.RunChanges.{change_both}
 use Rattle.replica.proofs.LengthLaws.{operations_front}
 use Rattle.replica.proofs.RoundTexts.{fit_behind}
 
@@ -82,6 +82,6 @@ module _ (history : List Event) (count : ℕ) (ops : List TextOp) (good : IsGood
   pub later_text : changed_by_all ops (text_of (take count history)) ≡ text_of history
   later_text =
       ap (changed_by_all ops) (sym before)
-      ∙ sym (changed_joined first ops [])
+      ∙ sym (change_both first ops [])
       ∙ ap (λ (os : List TextOp). changed_by_all os []) (sym parts)
       ∙ sym (operations_make_text history good)

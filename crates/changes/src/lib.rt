@@ -38,5 +38,28 @@ pub fn changes_from<L: Ledger>(
     let base = replica.length_at(cut);
     let mut state = State::base(alloc, base)?;
     let walked = walk(alloc, graph, &mut state, cut, count, steps)?;
-    Ok(walked.ops)
+    let ops = walked.ops.to_vec(alloc)?;
+    Ok(ops)
+}
+
+/// What the events from number `count` on do to the text, as `changes_from` says. No walk is made where these are just the events of the
+/// latest round of `receive`.
+pub fn known_changes<L: Ledger>(
+    alloc: Global,
+    replica: &Replica,
+    count: u32,
+    steps: &mut Steps<L>,
+) -> Result<Vec<TextOp>, NoMem>
+    requires { count ≤ length replica.now.held }
+    ensures changes { IfOk result (λ ops. ops.items ≡ drop count (operations replica.now.held)) }
+    ensures fit { IfOk result (λ ops. AllFit (text_of (take count replica.now.held)) ops.items) }
+    ensures text { IfOk result (λ ops. changed_by_all ops.items (text_of (take count replica.now.held)) ≡ text_of replica.now.held) }
+    ensures most { steps.new ≤ steps.old + touches replica.now.held (latest_cut replica.now.held count) }
+{
+    let _good = replica.graph();
+    if let Some(known) = replica.recent_operations(count) {
+        let ops = known.to_vec(alloc)?;
+        return Ok(ops);
+    }
+    changes_from(alloc, replica, count, steps)
 }

@@ -31,7 +31,7 @@ use crate::fault::{
     EditingFault, MarkingFault, OpeningFault, ReadingFault, TalkingFault, UndoingFault,
 };
 use crate::words::{caret_in, caret_words, id_in, ids_in, unheld_place};
-use changes::changes_from;
+use changes::known_changes;
 use event_graph::{Graph, Near};
 use ew_model::NoMem;
 use ew_model::event::Event;
@@ -571,7 +571,7 @@ fn changes_by<L: Ledger>(
     ensures text { IfOk result (λ ops. changed_by_all ops.items (text_of (take from replica.now.held)) ≡ text_of replica.now.held) }
 {
     let mut steps = Steps::<L>::new(blank);
-    changes_from(alloc, replica, from, &mut steps)
+    known_changes(alloc, replica, from, &mut steps)
 }
 
 /// The frames of the events from a number on.

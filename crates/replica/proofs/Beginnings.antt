@@ -12,7 +12,8 @@ use Rattle.ew_model.proofs.FirstBadLaws.{good_has_no_bad}
 use Rattle.waiting_pool.specs.Waiting.{Waiting, events_of}
 use Rattle.waiting_pool.specs.Knowing.{IsBehind}
 use Rattle.waiting_pool.proofs.Behind.{behind_none}
-use Rattle.replica.specs.Keeping.{IsToldBy, IsUpToDate}
+use Rattle.replica.specs.Keeping.{AreRecent, IsToldBy, IsUpToDate}
+use Rattle.replica.specs.declared.recent.Recent.{Recent}
 use Rattle.replica.specs.LazyTexts.{ToldText}
 use Rattle.replica.specs.Lengths.{prefix_lengths}
 
@@ -66,3 +67,6 @@ none_told held told e = subst (IsToldBy held) (sym e) tt
 pub still_told : (held : List Event) (old new : Option (List TextOp)) → IfSome new (λ ops. old ≡ Some ops) → IsToldBy held old → IsToldBy held new
 still_told held old None h t = tt
 still_told held old (Some ops) h t = subst (IsToldBy held) h t
+
+pub same_recent : (held graph : List Event) (recent : Option Recent) → graph ≡ held → AreRecent held recent → AreRecent graph recent
+same_recent held graph recent g h = subst (λ (es : List Event). AreRecent es recent) (sym g) h

@@ -1,14 +1,10 @@
 -- Operations that follow others.
-use Rattle.std.proofs.Common.{◌≡◌, ◌∙◌, ℕ, List, [], ◌∷◌, ◌++◌, length, refl, sym, ap, subst}
+use Rattle.std.proofs.Common.{◌≡◌, ◌∙◌, ℕ, List, [], ◌∷◌, ◌++◌, length, sym, ap, subst}
 use Rattle.ew_model.specs.declared.text_op.TextOp.{TextOp}
 use Rattle.ew_model.specs.Operations.{changed_by, changed_by_all}
 use Rattle.ew_model.specs.TextLaws.{AllFit}
 use Rattle.rope.specs.Lengths.{AllStayShort}
-
--- they do to the text what both do, one after the other
-pub changed_joined : (xs ys : List TextOp) (text : List ℕ) → changed_by_all (xs ++ ys) text ≡ changed_by_all ys (changed_by_all xs text)
-changed_joined [] ys text = refl
-changed_joined (x ∷ xs) ys text = changed_joined xs ys (changed_by x text)
+use Rattle.rope.proofs.RunChanges.{change_both}
 
 -- where each may be done, all may
 pub fit_joined : (xs ys : List TextOp) (text : List ℕ) → AllFit text xs → AllFit (changed_by_all xs text) ys → AllFit text (xs ++ ys)
@@ -22,7 +18,7 @@ short_joined (x ∷ xs) ys text h k = (h.0, short_joined xs ys (changed_by x tex
 
 -- Operations that make a text of the empty one, and changes of that text, one behind the other: they make what the changes make,
 pub told_all : (ops changes all : List TextOp) (text : List ℕ) → all ≡ ops ++ changes → changed_by_all ops [] ≡ text → changed_by_all all [] ≡ changed_by_all changes text
-told_all ops changes all text is now = ap (λ (os : List TextOp). changed_by_all os []) is ∙ changed_joined ops changes [] ∙ ap (changed_by_all changes) now
+told_all ops changes all text is now = ap (λ (os : List TextOp). changed_by_all os []) is ∙ change_both ops changes [] ∙ ap (changed_by_all changes) now
 
 -- and may be told in their place.
 pub told_more : (ops changes all : List TextOp) (text : List ℕ) (after : ℕ) → all ≡ ops ++ changes → changed_by_all ops [] ≡ text → AllFit [] ops → AllStayShort [] ops → AllFit text changes → AllStayShort text changes

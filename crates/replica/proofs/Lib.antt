@@ -16,6 +16,7 @@ pub mod Joined
 pub mod Judged
 pub mod Knowing
 pub mod LengthLaws
+pub mod LengthRunLaws
 pub mod LengthSteps
 pub mod MarkJoins
 pub mod MarkLaws

@@ -20,7 +20,7 @@ use Rattle.replica.specs.Fronts.{IsFront}
 use Rattle.replica.specs.Keeping.{IsUpToDate}
 use Rattle.replica.specs.Lengths.{lengths_through, prefix_lengths}
 use Rattle.replica.proofs.Appends.{stay_short}
-use Rattle.replica.proofs.Joined.{changed_joined}
+use Rattle.rope.proofs.RunChanges.{change_both}
 use Rattle.replica.proofs.LengthLaws.{good_lengths, operations_front}
 
 -- operations one behind the other
@@ -61,7 +61,7 @@ grown limits held made pool text lengths ops good t l kept limit behind few are 
         behind = behind;
         text_is =
             ap (changed_by_all ops) before
-            ∙ sym (changed_joined (operations held) ops [])
+            ∙ sym (change_both (operations held) ops [])
             ∙ ap (λ (os : List TextOp). changed_by_all os []) (sym whole)
             ∙ sym (operations_make_text (held ++ made) kept.orderly.good);
         lengths_are =

@@ -1,5 +1,5 @@
 -- What a replica keeps beside its events: their text, and how long it was after each.
-use Rattle.std.specs.Prelude.{◌≡◌, ℕ, List, Option, IfSome}
+use Rattle.std.specs.Prelude.{◌≡◌, ℕ, List, Option, IfSome, drop}
 use Rattle.ew_model.specs.declared.event.Event.{Event}
 use Rattle.ew_model.specs.declared.text_op.TextOp.{TextOp}
 use Rattle.ew_model.specs.Limits.{LimitNumbers}
@@ -10,6 +10,7 @@ use Rattle.ew_model.specs.Texts.{text_of}
 use Rattle.ew_model.specs.Kept.{IsKept}
 use Rattle.waiting_pool.specs.Waiting.{Waiting, events_of}
 use Rattle.waiting_pool.specs.Knowing.{IsBehind}
+use Rattle.replica.specs.declared.recent.Recent.{Recent}
 use Rattle.replica.specs.Lengths.{prefix_lengths}
 
 -- the positions of the heads, rising
@@ -28,3 +29,7 @@ pub record IsUpToDate (limits : LimitNumbers) (held : List Event) (pool : Waitin
 -- the operations that a text is told by, where it is, are those of the events held
 abbrev pub IsToldBy : List Event → Option (List TextOp) → Type 0
 IsToldBy held told = IfSome told (λ ops. ops ≡ operations held)
+
+-- the operations kept of the latest events, where they are, are those of the events held from their number on
+abbrev pub AreRecent : List Event → Option Recent → Type 0
+AreRecent held recent = IfSome recent (λ r. r.ops ≡ drop r.from (operations held))

@@ -1,5 +1,5 @@
 -- A text that is made when it is asked for. (No public contract cites this.)
-use Rattle.std.specs.Prelude.{◌≡◌, ⊤, ℕ, if◌then◌else◌, List, [], length, Option, None, Some}
+use Rattle.std.specs.Prelude.{◌≡◌, ⊤, ℕ, if◌then◌else◌, List, [], ◌++◌, length, Option, None, Some}
 use Rattle.ew_model.specs.declared.text_op.TextOp.{TextOp}
 use Rattle.ew_model.specs.Operations.{changed_by_all}
 use Rattle.ew_model.specs.TextLaws.{AllFit}
@@ -12,17 +12,17 @@ pub record ToldText : Type 0 where
   pub characters : List ℕ
   pub told : Option (List TextOp)
 
--- the characters, or those that the operations leave of none
+-- the characters, or those that the operations and what came behind them leave of none
 abbrev pub characters_of : Form → List ℕ
 characters_of (Made rope) = rope.chars
-characters_of (Told ops len grown) = changed_by_all ops.items []
+characters_of (Told ops more len grown) = changed_by_all (ops ++ more.items) []
 
 -- the operations that it was told by
 abbrev pub told_of : Form → Option (List TextOp)
 told_of (Made rope) = None
-told_of (Told ops len grown) = if grown then None else Some ops.items
+told_of (Told ops more len grown) = if grown then None else Some ops
 
--- the operations may be done to the empty text, and leave so many characters
+-- the operations, and then what came behind them, may be done to the empty text, and leave so many characters
 abbrev pub IsTellable : Form → Type 0
 IsTellable (Made rope) = ⊤
-IsTellable (Told ops len grown) = AllFit [] ops.items × AllStayShort [] ops.items × (len ≡ length (changed_by_all ops.items []))
+IsTellable (Told ops more len grown) = AllFit [] (ops ++ more.items) × AllStayShort [] (ops ++ more.items) × (len ≡ length (changed_by_all (ops ++ more.items) []))

@@ -8,6 +8,7 @@ pub mod Giving
 pub mod Keeping
 pub mod LazyTexts
 pub mod Later
+pub mod LengthRuns
 pub mod Lengths
 pub mod Marking
 pub mod Offering

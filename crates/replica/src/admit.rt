@@ -14,6 +14,7 @@ ghost use Rattle.replica.specs.Lengths.{lengths_through};
 
 use crate::later::Later;
 use crate::lazy_text::LazyText;
+use crate::length_runs::LengthRuns;
 use crate::lengths::write;
 use event_graph::Graph;
 use event_runs::RunOps;
@@ -26,7 +27,7 @@ use ew_model::text_op::TextOp;
 pub fn extend(
     graph: &mut Graph,
     text: &mut LazyText,
-    lengths: &mut Vec<u32>,
+    lengths: &mut LengthRuns,
     first: &Event,
     rest: Later<'_>,
     changes: &[TextOp],
@@ -40,13 +41,13 @@ pub fn extend(
     ensures graph { OnOk result (graph.new ≡ graph.old ++ chain_from first.now (later_ops rest.entry)) }
     ensures text { OnOk result (text.new.characters ≡ changed_by_all changes.now text.old.characters) }
     ensures told { OnOk result (text.new.told ≡ None) }
-    ensures lengths { OnOk result (lengths.new.items ≡ lengths.old.items ++ lengths_through text.old.characters changes.now) }
+    ensures lengths { OnOk result (lengths.new ≡ lengths.old ++ lengths_through text.old.characters changes.now) }
     ensures same_graph { OnErr result (graph.new ≡ graph.old) }
     ensures same_text { OnErr result (text.new ≡ text.old) }
-    ensures same_lengths { OnErr result (lengths.new.items ≡ lengths.old.items) }
+    ensures same_lengths { OnErr result (lengths.new ≡ lengths.old) }
 {
     let held = graph.count();
-    let count = lengths.len();
+    let count = lengths.count();
     if let Err(fault) = grow(graph, text, lengths, first, rest, changes) {
         graph.truncate(held);
         lengths.truncate(count);
@@ -59,7 +60,7 @@ pub fn extend(
 fn grow(
     graph: &mut Graph,
     text: &mut LazyText,
-    lengths: &mut Vec<u32>,
+    lengths: &mut LengthRuns,
     first: &Event,
     rest: Later<'_>,
     changes: &[TextOp],
@@ -73,11 +74,11 @@ fn grow(
     ensures graph { OnOk result (graph.new ≡ graph.old ++ chain_from first.now (later_ops rest.entry)) }
     ensures text { OnOk result (text.new.characters ≡ changed_by_all changes.now text.old.characters) }
     ensures told { OnOk result (text.new.told ≡ None) }
-    ensures lengths { OnOk result (lengths.new.items ≡ lengths.old.items ++ lengths_through text.old.characters changes.now) }
+    ensures lengths { OnOk result (lengths.new ≡ lengths.old ++ lengths_through text.old.characters changes.now) }
     ensures front { OnErr result (IsFront graph.old graph.new) }
     ensures still_cut { OnErr result (is_critical graph.new (length graph.old) ≡ true) }
     ensures same_text { OnErr result (text.new ≡ text.old) }
-    ensures length_front { OnErr result (take (length lengths.old.items) lengths.new.items ≡ lengths.old.items) }
+    ensures length_front { OnErr result (take (length lengths.old) lengths.new ≡ lengths.old) }
 {
     admit_chain(graph, first, rest)?;
     write(text, lengths, changes)

@@ -1,6 +1,6 @@
 //! A text that is made when it is asked for.
 
-ghost use Rattle.std.specs.Prelude.{◌≡◌, [], ◌++◌, drop, length, take, None, Some, IfSome, IfOk, OnOk, OnErr, encode_utf8_all};
+ghost use Rattle.std.specs.Prelude.{◌≡◌, [], ◌++◌, drop, length, take, None, Some, IfSome, IfOk, IfErr, OnOk, OnErr, encode_utf8_all};
 ghost use Rattle.ew_model.specs.Operations.{changed_by_all};
 ghost use Rattle.ew_model.specs.TextLaws.{AllFit};
 ghost use Rattle.rope.specs.Extents.{extent, IsIndexBehind};
@@ -8,6 +8,7 @@ ghost use Rattle.rope.specs.Lengths.{AllStayShort};
 
 use ew_model::NoMem;
 use ew_model::text_op::TextOp;
+use operation_runs::OperationRuns;
 use rope::{Measure, Rope};
 use std::alloc::Global;
 use std::marker::Model;
@@ -23,9 +24,11 @@ pub struct LazyText {
 #[derive(Drop)]
 enum Form {
     Made(Rope),
-    /// The operations that make it of the empty text, and how many characters they leave.
+    /// The operations that it was told by, what came behind them, and how many characters all of these leave of the empty text.
     Told {
-        ops: Vec<TextOp>,
+        ops: OperationRuns,
+        /// What came behind them.
+        more: Vec<TextOp>,
         len: u32,
         /// Whether something came behind those that it was told by.
         grown: bool,
@@ -54,15 +57,16 @@ impl LazyText {
     }
 
     /// What operations make of the empty text. Nothing is made of them yet. They leave `len` characters.
-    pub fn told(ops: Vec<TextOp>, len: u32) -> LazyText
-        requires fit { AllFit [] ops.items }
-        requires short { AllStayShort [] ops.items }
-        requires long { len ≡ length (changed_by_all ops.items []) }
-        ensures { result ≡ record { characters = changed_by_all ops.items []; told = Some ops.items } }
+    pub fn told(alloc: Global, ops: OperationRuns, len: u32) -> LazyText
+        requires fit { AllFit [] ops }
+        requires short { AllStayShort [] ops }
+        requires long { len ≡ length (changed_by_all ops []) }
+        ensures { result ≡ record { characters = changed_by_all ops []; told = Some ops } }
     {
         LazyText {
             form: Form::Told {
                 ops,
+                more: Vec::new(alloc),
                 len,
                 grown: false,
             },
@@ -76,8 +80,8 @@ impl LazyText {
     {
         match &self.form {
             Form::Made(_) => Ok(()),
-            Form::Told { ops, .. } => {
-                let rope = made(alloc, ops)?;
+            Form::Told { ops, more, .. } => {
+                let rope = made(alloc, ops, more)?;
                 self.form = Form::Made(rope);
                 Ok(())
             }
@@ -94,17 +98,19 @@ impl LazyText {
         }
     }
 
-    /// The operations that it was told by, as long as nothing else came behind them.
-    pub fn operations(&self) -> Option<&[TextOp]>
-        ensures { IfSome result (λ ops. self.now.told ≡ Some ops.now) }
+    /// The operations that it was told by, and nothing else is kept. Where something came behind them, or the text is made, it gives
+    /// itself back.
+    pub fn into_operations(self) -> Result<OperationRuns, LazyText>
+        ensures told { IfOk result (λ ops. self.told ≡ Some ops) }
+        ensures same { IfErr result (λ text. text ≡ self) }
     {
-        match &self.form {
+        match self.form {
             Form::Told {
                 ops,
                 grown: false,
                 ..
-            } => Some(ops.as_slice()),
-            Form::Told { grown: true, .. } | Form::Made(_) => None,
+            } => Ok(ops),
+            form => Err(LazyText { form }),
         }
     }
 
@@ -130,8 +136,13 @@ impl LazyText {
     {
         match &mut self.form {
             Form::Made(rope) => rope.apply(changes),
-            Form::Told { ops, len, grown } => {
-                ops.extend_from_slice(changes)?;
+            Form::Told {
+                more,
+                len,
+                grown,
+                ..
+            } => {
+                more.extend_from_slice(changes)?;
                 *len = after;
                 *grown = true;
                 Ok(())
@@ -146,8 +157,8 @@ impl LazyText {
     {
         match &self.form {
             Form::Made(rope) => Ok(rope.extent_before(measure, at)),
-            Form::Told { ops, .. } => {
-                let rope = made(alloc, ops)?;
+            Form::Told { ops, more, .. } => {
+                let rope = made(alloc, ops, more)?;
                 Ok(rope.extent_before(measure, at))
             }
         }
@@ -164,8 +175,8 @@ impl LazyText {
     {
         match &self.form {
             Form::Made(rope) => Ok(rope.index_behind(measure, much)),
-            Form::Told { ops, .. } => {
-                let rope = made(alloc, ops)?;
+            Form::Told { ops, more, .. } => {
+                let rope = made(alloc, ops, more)?;
                 Ok(rope.index_behind(measure, much))
             }
         }
@@ -177,8 +188,8 @@ impl LazyText {
     {
         match &self.form {
             Form::Made(rope) => rope.write_range(from, n, to),
-            Form::Told { ops, .. } => {
-                let rope = made(*to.allocator(), ops)?;
+            Form::Told { ops, more, .. } => {
+                let rope = made(*to.allocator(), ops, more)?;
                 rope.write_range(from, n, to)
             }
         }
@@ -190,21 +201,21 @@ impl LazyText {
     {
         match &self.form {
             Form::Made(rope) => rope.write_to(to),
-            Form::Told { ops, .. } => {
-                let rope = made(*to.allocator(), ops)?;
+            Form::Told { ops, more, .. } => {
+                let rope = made(*to.allocator(), ops, more)?;
                 rope.write_to(to)
             }
         }
     }
 }
 
-/// What operations make of the empty text.
-pub fn made(alloc: Global, ops: &[TextOp]) -> Result<Rope, NoMem>
-    requires fit { AllFit [] ops.now }
-    requires short { AllStayShort [] ops.now }
-    ensures { IfOk result (λ text. text.chars ≡ changed_by_all ops.now []) }
+/// What operations and more of them behind make of the empty text.
+fn made(alloc: Global, ops: &OperationRuns, more: &[TextOp]) -> Result<Rope, NoMem>
+    requires fit { AllFit [] (ops.now ++ more.now) }
+    requires short { AllStayShort [] (ops.now ++ more.now) }
+    ensures { IfOk result (λ text. text.chars ≡ changed_by_all (ops.now ++ more.now) []) }
 {
-    let mut text = Rope::new(alloc)?;
-    text.apply(ops)?;
+    let mut text = Rope::written(alloc, ops)?;
+    text.apply(more)?;
     Ok(text)
 }

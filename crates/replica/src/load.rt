@@ -15,12 +15,13 @@ ghost use Rattle.replica.specs.Lengths.{prefix_lengths};
 
 use crate::fault::LoadFault;
 use crate::lazy_text::LazyText;
+use crate::length_runs::LengthRuns;
 use crate::lengths::written;
 use event_graph::Graph;
 use ew_model::NoMem;
 use ew_model::steps::Steps;
-use ew_model::text_op::TextOp;
 use ew_model::verdict::Verdict;
+use operation_runs::OperationRuns;
 use std::alloc::Global;
 use std::sync::ledger::Ledger;
 use transform::{State, Walk, walk};
@@ -32,13 +33,13 @@ pub fn load<L: Ledger>(
     graph: &Graph,
     refused: Option<Verdict>,
     steps: &mut Steps<L>,
-) -> Result<(LazyText, Vec<u32>), LoadFault>
+) -> Result<(LazyText, LengthRuns), LoadFault>
     requires few { length graph.now ≤ 16777216 }
     ensures all { OnOk result (refused ≡ None) }
     ensures good { OnOk result (first_bad graph.now ≡ None) }
     ensures text { IfOk result (λ made. made.0.characters ≡ text_of graph.now) }
     ensures told { IfOk result (λ made. IsToldBy graph.now made.0.told) }
-    ensures lengths { IfOk result (λ made. made.1.items ≡ prefix_lengths graph.now) }
+    ensures lengths { IfOk result (λ made. made.1 ≡ prefix_lengths graph.now) }
     ensures bad { IfErr result (λ fault. (events : List Event) → IsAdmittedFront graph.now (option_map ruling_of refused) events → TellsBad events fault) }
     ensures touches { steps.new ≤ steps.old + touches graph.now 0 }
 {
@@ -56,10 +57,10 @@ pub fn walk_good<L: Ledger>(
     refused: Option<Verdict>,
     emit_from: u32,
     steps: &mut Steps<L>,
-) -> Result<Vec<TextOp>, LoadFault>
+) -> Result<OperationRuns, LoadFault>
     ensures all { OnOk result (refused ≡ None) }
     ensures good { OnOk result (first_bad graph.now ≡ None) }
-    ensures ops { IfOk result (λ ops. ops.items ≡ drop emit_from (operations graph.now)) }
+    ensures ops { IfOk result (λ ops. ops ≡ drop emit_from (operations graph.now)) }
     ensures bad { IfErr result (λ fault. (events : List Event) → IsAdmittedFront graph.now (option_map ruling_of refused) events → TellsBad events fault) }
     ensures touches { steps.new ≤ steps.old + touches graph.now 0 }
 {
@@ -83,7 +84,7 @@ fn walk_all<L: Ledger>(
     steps: &mut Steps<L>,
 ) -> Result<Walk, NoMem>
     ensures stopped { IfOk result (λ w. option_map bad_at w.stopped ≡ first_bad graph.now) }
-    ensures ops { IfOk result (λ w. w.ops.items ≡ drop emit_from (operations (walked_of graph.now w.stopped))) }
+    ensures ops { IfOk result (λ w. w.ops ≡ drop emit_from (operations (walked_of graph.now w.stopped))) }
     ensures touches { steps.new ≤ steps.old + touches graph.now 0 }
 {
     let mut state = State::base(alloc, 0)?;

@@ -9,6 +9,7 @@ ghost use Rattle.event_graph.specs.Keeping.{AreAdmittedAfter};
 ghost use Rattle.replica.specs.Marking.{ids_of_one, marked_event};
 
 use crate::heads::head_ids;
+use crate::length_runs::{Course, LengthRuns};
 use event_graph::Graph;
 use ew_model::NoMem;
 use ew_model::event::{Event, Op};
@@ -131,19 +132,19 @@ fn join(
 /// Puts events behind the others, and for each of them the length of the text, which stays: all of it or nothing.
 pub fn extend_marks(
     graph: &mut Graph,
-    lengths: &mut Vec<u32>,
+    lengths: &mut LengthRuns,
     len: u32,
     made: &[Event],
 ) -> Result<(), NoMem>
     requires admitted { AreAdmittedAfter graph.old made.now }
     requires room { length graph.old + length made.now < 2 ^ 32 }
     ensures graph { OnOk result (graph.new ≡ graph.old ++ made.now) }
-    ensures lengths { OnOk result (lengths.new.items ≡ lengths.old.items ++ replicate (length made.now) len) }
+    ensures lengths { OnOk result (lengths.new ≡ lengths.old ++ replicate (length made.now) len) }
     ensures same_graph { OnErr result (graph.new ≡ graph.old) }
-    ensures same_lengths { OnErr result (lengths.new.items ≡ lengths.old.items) }
+    ensures same_lengths { OnErr result (lengths.new ≡ lengths.old) }
 {
-    let count = lengths.len();
-    lengths.resize(count + made.len(), len)?;
+    let count = lengths.count();
+    lengths.push(Course::Stays, len, made.len() as u32)?;
     if let Err(fault) = admit_or_none(graph, made) {
         lengths.truncate(count);
         return Err(fault);

@@ -8,11 +8,11 @@ ghost use Rattle.ew_model.specs.Touches.{touches};
 ghost use Rattle.ew_model.specs.Verdicts.{IsGood, first_unknown};
 
 use crate::fault::VersionFault;
-use crate::lazy_text::made;
 use event_graph::Graph;
 use ew_model::NoMem;
 use ew_model::id::Id;
 use ew_model::steps::Steps;
+use rope::Rope;
 use std::alloc::Global;
 use std::sync::ledger::Ledger;
 use transform::replay;
@@ -47,7 +47,7 @@ fn text_of<L: Ledger>(alloc: Global, graph: &Graph, steps: &mut Steps<L>) -> Res
     ensures touches { steps.new ≤ steps.old + touches graph.now 0 }
 {
     let ops = replay(alloc, graph, steps)?;
-    let text = made(alloc, ops.as_slice())?;
+    let text = Rope::written(alloc, &ops)?;
     let mut bytes = Vec::new(alloc);
     text.write_to(&mut bytes)?;
     Ok(bytes)

@@ -18,12 +18,14 @@ ghost use Rattle.waiting_pool.specs.Waiting.{events_of};
 use crate::desk::{Desk, Progress};
 use crate::judging::judge_all;
 use crate::lazy_text::LazyText;
-use crate::lengths::{length_below, write};
+use crate::length_runs::LengthRuns;
+use crate::lengths::{length_below, write_runs};
 use crate::offered::Offered;
 use event_graph::{Graph, Hold};
 use ew_model::NoMem;
 use ew_model::limits::Limits;
 use ew_model::steps::Steps;
+use operation_runs::OperationRuns;
 use std::alloc::Global;
 use std::sync::ledger::Ledger;
 use transform::{State, Walk, walk};
@@ -39,6 +41,14 @@ pub struct Intake<'a> {
     pub events: &'a Offered<'a>,
 }
 
+/// What a round leaves: the desk that is to be kept, what the events that it holds do to the text, and whether there is more to do.
+#[derive(Drop)]
+pub struct Rounded {
+    pub desk: Desk,
+    pub ops: OperationRuns,
+    pub more: bool,
+}
+
 /// How far a round came: the desk then, what the events do to the text, and the hold on the events held when it began.
 #[derive(Drop)]
 struct Reached {
@@ -47,39 +57,44 @@ struct Reached {
     hold: Hold,
 }
 
-/// One round. Answers the desk that is to be kept, and whether there is more to do. Out of memory, nothing is changed.
+/// One round. Out of memory, nothing is changed.
 pub fn round<L: Ledger>(
     alloc: Global,
     intake: Intake<'_>,
     graph: &mut Graph,
     text: &mut LazyText,
-    lengths: &mut Vec<u32>,
+    lengths: &mut LengthRuns,
     steps: &mut Steps<L>,
-) -> Result<(Desk, bool), NoMem>
+) -> Result<Rounded, NoMem>
     requires desk { IsDesk intake.limits.now graph.old intake.events.now intake.pool.now intake.progress.now }
-    requires kept { IsUpToDate intake.limits.now graph.old intake.pool.now text.old.characters lengths.old.items }
+    requires kept { IsUpToDate intake.limits.now graph.old intake.pool.now text.old.characters lengths.old }
     requires few { length intake.events.now < 2 ^ 32 }
-    ensures round { IfOk result (λ r. IsRound intake.entry.limits.now (desk_at graph.old (events_of intake.entry.pool.now) intake.entry.events.now intake.entry.progress.now) (desk_as graph.new intake.entry.events.now r.0) intake.entry.progress.now r.0.progress (drop (length graph.old) (operations graph.new)) r.1) }
-    ensures desk { IfOk result (λ r. IsDesk intake.entry.limits.now graph.new intake.entry.events.now r.0.pool r.0.progress) }
-    ensures kept { IfOk result (λ r. IsUpToDate intake.entry.limits.now graph.new r.0.pool text.new.characters lengths.new.items) }
+    ensures round { IfOk result (λ r. IsRound intake.entry.limits.now (desk_at graph.old (events_of intake.entry.pool.now) intake.entry.events.now intake.entry.progress.now) (desk_as graph.new intake.entry.events.now r.desk) intake.entry.progress.now r.desk.progress r.ops r.more) }
+    ensures desk { IfOk result (λ r. IsDesk intake.entry.limits.now graph.new intake.entry.events.now r.desk.pool r.desk.progress) }
+    ensures kept { IfOk result (λ r. IsUpToDate intake.entry.limits.now graph.new r.desk.pool text.new.characters lengths.new) }
     ensures told { OnOk result (text.new.told ≡ None) }
-    ensures touches { IfOk result (λ r. r.1 ≡ false → steps.new ≡ steps.old + round_touches intake.entry.limits.now (desk_at graph.old (events_of intake.entry.pool.now) intake.entry.events.now intake.entry.progress.now)) }
+    ensures touches { IfOk result (λ r. r.more ≡ false → steps.new ≡ steps.old + round_touches intake.entry.limits.now (desk_at graph.old (events_of intake.entry.pool.now) intake.entry.events.now intake.entry.progress.now)) }
     ensures most { steps.new ≤ steps.old + round_touches intake.entry.limits.now (desk_at graph.old (events_of intake.entry.pool.now) intake.entry.events.now intake.entry.progress.now) }
     ensures same_graph { OnErr result (graph.new ≡ graph.old) }
     ensures same_text { OnErr result (text.new ≡ text.old) }
-    ensures same_lengths { OnErr result (lengths.new.items ≡ lengths.old.items) }
+    ensures same_lengths { OnErr result (lengths.new ≡ lengths.old) }
 {
     let _most = intake.limits.events();
     let Reached { desk, walked, hold } = reach(alloc, intake, graph, lengths, steps)?;
     let _waiting = desk.pool.len();
-    let count = lengths.len();
-    if let Err(fault) = write(text, lengths, &walked.ops) {
+    let count = lengths.count();
+    if let Err(fault) = write_runs(alloc, text, lengths, &walked.ops) {
         graph.drop_tail(hold);
         lengths.truncate(count);
         return Err(fault);
     }
     graph.keep(hold);
-    Ok((desk, walked.stopped.is_some()))
+    let Walk { ops, stopped } = walked;
+    Ok(Rounded {
+        desk,
+        ops,
+        more: stopped.is_some(),
+    })
 }
 
 /// Holds the events of a round: those before the first that is out of range, which is answered so. Out of memory, no more events
@@ -88,14 +103,14 @@ fn reach<L: Ledger>(
     alloc: Global,
     intake: Intake<'_>,
     graph: &mut Graph,
-    lengths: &[u32],
+    lengths: &LengthRuns,
     steps: &mut Steps<L>,
 ) -> Result<Reached, NoMem>
     requires desk { IsDesk intake.limits.now graph.old intake.events.now intake.pool.now intake.progress.now }
     requires kept { IsKept intake.limits.now graph.old (events_of intake.pool.now) }
     requires lengths { lengths.now ≡ prefix_lengths graph.old }
     requires few { length intake.events.now < 2 ^ 32 }
-    ensures round { IfOk result (λ r. IsRound intake.entry.limits.now (desk_at graph.old (events_of intake.entry.pool.now) intake.entry.events.now intake.entry.progress.now) (desk_as graph.new intake.entry.events.now r.desk) intake.entry.progress.now r.desk.progress r.walked.ops.items (is_some r.walked.stopped)) }
+    ensures round { IfOk result (λ r. IsRound intake.entry.limits.now (desk_at graph.old (events_of intake.entry.pool.now) intake.entry.events.now intake.entry.progress.now) (desk_as graph.new intake.entry.events.now r.desk) intake.entry.progress.now r.desk.progress r.walked.ops (is_some r.walked.stopped)) }
     ensures desk { IfOk result (λ r. IsDesk intake.entry.limits.now graph.new intake.entry.events.now r.desk.pool r.desk.progress) }
     ensures orderly { IfOk result (λ r. IsOrderly graph.new (events_of r.desk.pool)) }
     ensures touches { IfOk result (λ r. r.walked.stopped ≡ None → steps.new ≡ steps.old + round_touches intake.entry.limits.now (desk_at graph.old (events_of intake.entry.pool.now) intake.entry.events.now intake.entry.progress.now)) }
@@ -118,7 +133,7 @@ fn reach_all<L: Ledger>(
     alloc: Global,
     intake: Intake<'_>,
     graph: &mut Graph,
-    lengths: &[u32],
+    lengths: &LengthRuns,
     steps: &mut Steps<L>,
 ) -> Result<Reached, NoMem>
     requires desk { IsDesk intake.limits.now graph.old intake.events.now intake.pool.now intake.progress.now }
@@ -128,7 +143,7 @@ fn reach_all<L: Ledger>(
     ensures leads { IfOk result (λ r. LeadsToEnd intake.entry.limits.now None (desk_at graph.old (events_of intake.entry.pool.now) intake.entry.events.now intake.entry.progress.now) (desk_as graph.new intake.entry.events.now r.desk) intake.entry.progress.now r.desk.progress) }
     ensures desk { IfOk result (λ r. IsDesk intake.entry.limits.now graph.new intake.entry.events.now r.desk.pool r.desk.progress) }
     ensures stopped { IfOk result (λ r. option_map bad_at r.walked.stopped ≡ first_bad graph.new) }
-    ensures ops { IfOk result (λ r. r.walked.ops.items ≡ drop (length graph.old) (operations (walked_of graph.new r.walked.stopped))) }
+    ensures ops { IfOk result (λ r. r.walked.ops ≡ drop (length graph.old) (operations (walked_of graph.new r.walked.stopped))) }
     ensures touches { IfOk result (λ r. r.walked.stopped ≡ None → steps.new ≡ steps.old + round_touches intake.entry.limits.now (desk_at graph.old (events_of intake.entry.pool.now) intake.entry.events.now intake.entry.progress.now)) }
     ensures most { steps.new ≤ steps.old + round_touches intake.entry.limits.now (desk_at graph.old (events_of intake.entry.pool.now) intake.entry.events.now intake.entry.progress.now) }
     ensures front { IsFront graph.old graph.new }
@@ -180,7 +195,7 @@ fn look<L: Ledger>(
     alloc: Global,
     intake: Intake<'_>,
     graph: &mut Graph,
-    lengths: &[u32],
+    lengths: &LengthRuns,
     desk: &mut Desk,
     steps: &mut Steps<L>,
 ) -> Result<Walk, NoMem>
@@ -191,7 +206,7 @@ fn look<L: Ledger>(
     ensures leads { OnOk result (LeadsToEnd intake.entry.limits.now None (desk_as graph.old intake.entry.events.now desk.old) (desk_as graph.new intake.entry.events.now desk.new) desk.old.progress desk.new.progress) }
     ensures desk { OnOk result (IsDesk intake.entry.limits.now graph.new intake.entry.events.now desk.new.pool desk.new.progress) }
     ensures stopped { IfOk result (λ w. option_map bad_at w.stopped ≡ first_bad graph.new) }
-    ensures ops { IfOk result (λ w. w.ops.items ≡ drop (length graph.old) (operations (walked_of graph.new w.stopped))) }
+    ensures ops { IfOk result (λ w. w.ops ≡ drop (length graph.old) (operations (walked_of graph.new w.stopped))) }
     ensures touches { IfOk result (λ w. w.stopped ≡ None → steps.new ≡ steps.old + round_touches intake.entry.limits.now (desk_as graph.old intake.entry.events.now desk.old)) }
     ensures most { steps.new ≤ steps.old + round_touches intake.entry.limits.now (desk_as graph.old intake.entry.events.now desk.old) }
     ensures front { IsFront graph.old graph.new }

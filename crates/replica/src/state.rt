@@ -45,6 +45,7 @@ use crate::fault::{EditFault, LoadFault, VersionFault};
 use crate::heads::head_ids;
 use crate::later::Later;
 use crate::lazy_text::LazyText;
+use crate::length_runs::LengthRuns;
 use crate::lengths::length_below;
 use crate::listed::listed;
 use crate::loading::given;
@@ -52,7 +53,8 @@ use crate::made::event_by;
 use crate::marking::{extend_marks, mark_events};
 use crate::offered::Offered;
 use crate::past::text_at;
-use crate::rounds::{Intake, round};
+use crate::recent::Recent;
+use crate::rounds::{Intake, Rounded, round};
 use crate::took::{Stopped, Took};
 use agreement::agrees;
 use event_graph::Graph;
@@ -63,6 +65,7 @@ use ew_model::limits::{Limits, MOST_PARENTS};
 use ew_model::name::Name;
 use ew_model::steps::Steps;
 use ew_model::text_op::TextOp;
+use operation_runs::OperationRuns;
 use rope::Measure;
 use std::alloc::Global;
 use std::marker::Model;
@@ -76,9 +79,11 @@ pub struct Replica {
     graph: Graph,
     text: LazyText,
     /// Number i is how many characters the text of the first i + 1 events has.
-    lengths: Vec<u32>,
+    lengths: LengthRuns,
     /// The events that wait for their parents.
     pool: Pool,
+    /// What the events of the latest round of receiving do to the text, until the next round, or until events are made here.
+    recent: Option<Recent>,
 }
 
 impl Drop for Replica {
@@ -90,6 +95,7 @@ impl Drop for Replica {
             text: _,
             lengths: _,
             pool: _,
+            recent: _,
         } = self;
     }
 }
@@ -97,13 +103,13 @@ impl Drop for Replica {
 impl Model for Replica {
     ghost use Rattle.waiting_pool.specs.Waiting.{events_of};
     ghost use Rattle.ew_model.specs.Kept.{ReplicaState};
-    ghost use Rattle.replica.specs.Keeping.{IsToldBy, IsUpToDate};
+    ghost use Rattle.replica.specs.Keeping.{AreRecent, IsToldBy, IsUpToDate};
 
     ghost Value = { ReplicaState };
 
     ghost view = { λ r. record { limits = r.limits; held = r.graph; waiting = events_of r.pool } };
 
-    ghost invariant = { λ r. IsUpToDate r.limits r.graph r.pool r.text.characters r.lengths.items × IsToldBy r.graph r.text.told };
+    ghost invariant = { λ r. IsUpToDate r.limits r.graph r.pool r.text.characters r.lengths × IsToldBy r.graph r.text.told × AreRecent r.graph r.recent };
 }
 
 impl Replica {
@@ -113,7 +119,7 @@ impl Replica {
     {
         let graph = Graph::new(alloc)?;
         let text = LazyText::new(alloc)?;
-        let lengths = Vec::new(alloc);
+        let lengths = LengthRuns::new(alloc);
         Replica::of_good(alloc, limits, graph, text, lengths)
     }
 
@@ -141,13 +147,13 @@ impl Replica {
         limits: Limits,
         graph: Graph,
         text: LazyText,
-        lengths: Vec<u32>,
+        lengths: LengthRuns,
     ) -> Result<Replica, NoMem>
         requires good { first_bad graph ≡ None }
         requires few { length graph ≤ limits.events }
         requires text { text.characters ≡ text_of graph }
         requires told { IsToldBy graph text.told }
-        requires lengths { lengths.items ≡ prefix_lengths graph }
+        requires lengths { lengths ≡ prefix_lengths graph }
         ensures { IfOk result (λ r. r ≡ record { limits = limits; held = graph; waiting = [] }) }
     {
         let pool = Pool::new(alloc, limits.waiting())?;
@@ -158,6 +164,7 @@ impl Replica {
             text,
             lengths,
             pool,
+            recent: None,
         })
     }
 
@@ -257,13 +264,14 @@ impl Replica {
         ensures same_progress { OnErr result (progress.new ≡ progress.old) }
     {
         let _waiting = self.pool.len();
+        let from = self.graph.count();
         let intake = Intake {
             limits: &self.limits,
             pool: &self.pool,
             progress,
             events,
         };
-        let (desk, more) = round(
+        let Rounded { desk, ops, more } = round(
             self.alloc,
             intake,
             &mut self.graph,
@@ -273,6 +281,7 @@ impl Replica {
         )?;
         self.pool = desk.pool;
         *progress = desk.progress;
+        self.recent = Some(Recent { from, ops });
         Ok(more)
     }
 
@@ -309,12 +318,44 @@ impl Replica {
         self.text.make(self.alloc)
     }
 
-    /// What each of the events held does to the text of those before it, in order, where that is still known: of a replica that was
-    /// loaded, as long as nothing was received or made since, nor its text.
-    pub fn operations(&self) -> Option<&[TextOp]>
-        ensures { IfSome result (λ ops. ops.now ≡ operations self.now.held) }
+    /// What each of the events held does to the text of those before it, in order, and everything else is let go. That is known of a
+    /// replica that was loaded, as long as nothing was received or made since, nor its text. Else the replica is given back as it was.
+    pub fn into_operations(self) -> Result<OperationRuns, Replica>
+        ensures ok { IfOk result (λ ops. ops ≡ operations self.held) }
+        ensures err { IfErr result (λ r. r ≡ self) }
     {
-        self.text.operations()
+        let Replica {
+            alloc,
+            limits,
+            graph,
+            text,
+            lengths,
+            pool,
+            recent,
+        } = self;
+        match text.into_operations() {
+            Ok(ops) => Ok(ops),
+            Err(text) => Err(Replica {
+                alloc,
+                limits,
+                graph,
+                text,
+                lengths,
+                pool,
+                recent,
+            }),
+        }
+    }
+
+    /// What the events held from number `from` on do to the text, in order, where that is still known: where those of the latest
+    /// round of `receive` begin at that number. They are kept until the next round, or until events are made here.
+    pub fn recent_operations(&self, from: u32) -> Option<&OperationRuns>
+        ensures { IfSome result (λ ops. ops.now ≡ drop from (operations self.now.held)) }
+    {
+        match &self.recent {
+            Some(recent) if recent.from == from => Some(&recent.ops),
+            Some(_) | None => None,
+        }
     }
 
     /// The text, in UTF-8.
@@ -606,6 +647,7 @@ impl Replica {
             rest,
             changes,
         )?;
+        self.recent = None;
         Ok(1 + rest.count())
     }
 
@@ -620,6 +662,7 @@ impl Replica {
         let len = self.text.len();
         extend_marks(&mut self.graph, &mut self.lengths, len, made)?;
         self.text.grow();
+        self.recent = None;
         Ok(made.len() as u32)
     }
 }

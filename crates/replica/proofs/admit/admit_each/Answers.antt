@@ -1,4 +1,4 @@
-use Rattle.std.proofs.Common.{◌∙◌, ◌+◌, ◌++◌, List, suc, length, take, sym, ap, append-nil, arith}
+use Rattle.std.proofs.Common.{◌∙◌, ◌++◌, List, suc, length, take, sym, ap, append-nil, arith}
 use Rattle.std.proofs.lemmas.List.{take_all}
 use Rattle.ew_model.specs.declared.event.Event.{Event}
 use Rattle.replica.specs.Appending.{chain_from}

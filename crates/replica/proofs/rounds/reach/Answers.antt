@@ -21,7 +21,7 @@ returns-then-is_none-clause-round g c =
     let all = c.in_ok-desk.field-0 in
     let first = desk_as c.reach_all.new.graph a.intake.events.now all.desk in
     let found = c.in_ok-desk.ensures in
-    last_round limits from first a.intake.progress.now all.desk.progress all.walked.ops.items all.walked.stopped c.requires.kept.orderly found.stopped (none_by all.walked.stopped (c.is_none.ensures ∙ ap not c.if-is_none.true)) found.ops found.leads
+    last_round limits from first a.intake.progress.now all.desk.progress all.walked.ops all.walked.stopped c.requires.kept.orderly found.stopped (none_by all.walked.stopped (c.is_none.ensures ∙ ap not c.if-is_none.true)) found.ops found.leads
 
 pub returns-then-is_none-clause-orderly : goal.returns-then-is_none-clause-orderly
 returns-then-is_none-clause-orderly g c =
@@ -62,8 +62,8 @@ returns-clause-round g c =
     let b = c.in_ok-reached.ensures.leads.0 in
     let again : LeadsTo limits all.walked.stopped from to a.intake.progress.now r.desk.progress b =
     subst (λ (h : List Event). LeadsTo limits all.walked.stopped (desk_at h (events_of a.intake.pool.now) a.intake.events.now a.intake.progress.now) to a.intake.progress.now r.desk.progress b) back c.in_ok-reached.ensures.leads.1 in
-    subst (λ w. IsRound limits from to a.intake.progress.now r.desk.progress w.ops.items (is_some w.stopped)) (sym c.in_ok-reached.ensures.walked)
-    (cut_round limits from first to a.intake.progress.now all.desk.progress r.desk.progress all.walked.ops.items all.walked.stopped b c.requires.kept.orderly found.leads found.stopped (c.is_none.ensures ∙ ap not c.if-is_none.false) found.ops again)
+    subst (λ w. IsRound limits from to a.intake.progress.now r.desk.progress w.ops (is_some w.stopped)) (sym c.in_ok-reached.ensures.walked)
+    (cut_round limits from first to a.intake.progress.now all.desk.progress r.desk.progress all.walked.ops all.walked.stopped b c.requires.kept.orderly found.leads found.stopped (c.is_none.ensures ∙ ap not c.if-is_none.false) found.ops again)
 
 pub returns-clause-orderly : goal.returns-clause-orderly
 returns-clause-orderly g c =

@@ -6,7 +6,7 @@ use Rattle.replica.specs.Appending.{CanAppend, chain_from}
 use Rattle.replica.specs.Later.{later_ops}
 use Rattle.replica.specs.Lengths.{lengths_through}
 use Rattle.replica.proofs.Appends.{appended}
-use Rattle.replica.proofs.Beginnings.{none_told, same_kept, same_told}
+use Rattle.replica.proofs.Beginnings.{none_told, same_kept, same_recent, same_told}
 use Rattle.replica.specs.LazyTexts.{ToldText}
 use Rattle.replica.proofs.Chains.{chain_room}
 use Rattle.replica.proofs.state.Replica.append.Goals as goal
@@ -16,8 +16,9 @@ pub invariant_of-self : goal.invariant_of-self
 invariant_of-self c =
     let inside = c.self.inside in
     let told = c.in_err-extend.ensures in (
-      same_kept inside.limits inside.graph _ inside.pool _ inside.text.characters _ inside.lengths.items _ told.same_graph refl (ap (λ (t : ToldText). t.characters) told.same_text) told.same_lengths c.self.invariant.0,
+      same_kept inside.limits inside.graph _ inside.pool _ inside.text.characters _ inside.lengths _ told.same_graph refl (ap (λ (t : ToldText). t.characters) told.same_text) told.same_lengths c.self.invariant.0,
       same_told inside.graph _ inside.text _ told.same_graph told.same_text c.self.invariant.1,
+      same_recent inside.graph _ inside.recent told.same_graph c.self.invariant.2,
     )
 
 -- all of it was done
@@ -28,9 +29,10 @@ invariant_of-self-2 c =
     let changes = c.args.changes.now in
     let told = c.in_ok-extend.ensures in
     let can : CanAppend inside.limits inside.graph (events_of inside.pool) made changes = subst (λ (s : ReplicaState). CanAppend s.limits s.held s.waiting made changes) (sym c.self.view_is) c.requires.can in (
-      same_kept inside.limits (inside.graph ++ made) _ inside.pool _ (changed_by_all changes inside.text.characters) _ (inside.lengths.items ++ lengths_through inside.text.characters changes) _ told.graph refl told.text told.lengths
-          (appended inside.limits inside.graph inside.pool made changes inside.text.characters inside.lengths.items c.self.invariant.0 can),
+      same_kept inside.limits (inside.graph ++ made) _ inside.pool _ (changed_by_all changes inside.text.characters) _ (inside.lengths ++ lengths_through inside.text.characters changes) _ told.graph refl told.text told.lengths
+          (appended inside.limits inside.graph inside.pool made changes inside.text.characters inside.lengths c.self.invariant.0 can),
       none_told _ _ told.told,
+      tt,
     )
 
 -- there is room for all

@@ -8,9 +8,9 @@ use Rattle.replica.proofs.state.Replica.length_at.Goals as goal
 pub length_below-requires : goal.length_below-requires
 length_below-requires c =
     let inside = c.self.inside in
-    omega (arith, ap length c.deref.ensures.value, ap length c.self.invariant.0.lengths_are, length-prefix_lengths inside.graph, ap (λ (s : ReplicaState). length s.held) c.self.view_is, c.requires)
+    omega (arith, ap length c.self.invariant.0.lengths_are, length-prefix_lengths inside.graph, ap (λ (s : ReplicaState). length s.held) c.self.view_is, c.requires)
 
 pub returns : goal.returns
 returns c =
-    c.length_below.ensures c.self.inside.graph (c.deref.ensures.value ∙ c.self.invariant.0.lengths_are)
+    c.length_below.ensures c.self.inside.graph c.self.invariant.0.lengths_are
     ∙ ap (λ (s : ReplicaState). length (text_of (take c.args.count s.held))) c.self.view_is

@@ -13,7 +13,7 @@ pub of_good-requires-clause-text : goal.of_good-requires-clause-text
 of_good-requires-clause-text c = ap (λ (t : ToldText). t.characters) c.in_ok-text.ensures ∙ sym no_text ∙ ap text_of (sym c.in_ok-graph.ensures)
 
 pub of_good-requires-clause-lengths : goal.of_good-requires-clause-lengths
-of_good-requires-clause-lengths c = c.new-lengths.ensures.items ∙ ap prefix_lengths (sym c.in_ok-graph.ensures)
+of_good-requires-clause-lengths c = c.new-lengths.ensures ∙ ap prefix_lengths (sym c.in_ok-graph.ensures)
 
 pub of_good-requires-clause-told : goal.of_good-requires-clause-told
 of_good-requires-clause-told c = none_told _ _ (ap (λ (t : ToldText). t.told) c.in_ok-text.ensures)

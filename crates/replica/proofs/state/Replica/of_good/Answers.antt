@@ -7,7 +7,8 @@ use Rattle.replica.proofs.state.Replica.of_good.Goals as goal
 pub invariant_of-result : goal.invariant_of-result
 invariant_of-result c =
     let pool : c.in_ok-pool.pool ≡ none_waits c.args.limits = c.in_ok-pool.ensures ∙ ap (λ n. record { limit = n; seen = 0; waiters = [] }) c.waiting.ensures.value in (
-      same_kept c.args.limits c.args.graph c.args.graph (none_waits c.args.limits) c.in_ok-pool.pool (text_of c.args.graph) c.args.text.characters (prefix_lengths c.args.graph) c.args.lengths.items
+      same_kept c.args.limits c.args.graph c.args.graph (none_waits c.args.limits) c.in_ok-pool.pool (text_of c.args.graph) c.args.text.characters (prefix_lengths c.args.graph) c.args.lengths
           refl pool c.requires.text c.requires.lengths (loaded c.args.limits c.args.graph c.requires.good c.requires.few),
       c.requires.told,
+      tt,
     )
