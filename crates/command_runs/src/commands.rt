@@ -139,24 +139,24 @@ fn listed(shown: Result<Vec<u8>, VersionFault>) -> Result<Vec<u8>, ListingFault>
 fn list<L: Ledger>(
     alloc: Global,
     listing: &Listing,
-    replica: &Replica,
+    replica: Replica,
     steps: &mut Steps<L>,
 ) -> Result<Vec<u8>, ListingFault>
-    ensures listed { Lists (show_reply (listing_view listing.now) replica.now.held) result }
-    ensures most { steps.new ≤ steps.old + listing_touches (listing_view listing.now) replica.now.held }
+    ensures listed { Lists (show_reply (listing_view listing.now) replica.held) result }
+    ensures most { steps.new ≤ steps.old + listing_touches (listing_view listing.now) replica.held }
 {
     match listing {
         Listing::Content => Ok(replica.text()?),
-        Listing::Past(version) => listed(past_text(version, replica, steps)),
-        Listing::Heads => Ok(heads_text(alloc, replica)?),
-        Listing::Log => Ok(log_text(alloc, replica)?),
+        Listing::Past(version) => listed(past_text(version, &replica, steps)),
+        Listing::Heads => Ok(heads_text(alloc, &replica)?),
+        Listing::Log => Ok(log_text(alloc, &replica)?),
         Listing::Replay => Ok(replay_text(alloc, replica, steps)?),
-        Listing::Numbers => Ok(check_text(alloc, replica)?),
-        Listing::Question => Ok(question_bytes(alloc, replica)?),
-        Listing::Marks => Ok(marks_text(alloc, replica)?),
-        Listing::Caret { version, index } => located(alloc, version, *index, replica, steps),
+        Listing::Numbers => Ok(check_text(alloc, &replica)?),
+        Listing::Question => Ok(question_bytes(alloc, &replica)?),
+        Listing::Marks => Ok(marks_text(alloc, &replica)?),
+        Listing::Caret { version, index } => located(alloc, version, *index, &replica, steps),
         Listing::Blame { version, columns } => {
-            listed(blamed(alloc, version, *columns, replica, steps))
+            listed(blamed(alloc, version, *columns, &replica, steps))
         }
     }
 }
@@ -189,7 +189,7 @@ fn shown<L: Ledger>(
     ensures plan { IfOk result IsTakenReply }
     ensures most { steps.new ≤ steps.old + listing_touches (listing_view listing) replica.held }
 {
-    let listed = list(alloc, &listing, &replica, steps);
+    let listed = list(alloc, &listing, replica, steps);
     reply_of(listed)
 }
 

@@ -1,6 +1,10 @@
-use Rattle.std.proofs.Common.{◌≡◌, take}
+use Rattle.std.proofs.Common.{◌≡◌, ◌++◌, length}
 use Rattle.history_definitions.specs.Replays.{change_lines}
 use Rattle.history_view.proofs.replays.changes_text.Given as goal
 
-abbrev pub invariant-loop-op : goal.invariant-loop-op
-invariant-loop-op l = l.text.items ≡ change_lines (take l.op-index l.ops)
+-- what is written and the lines of what is left are all lines
+abbrev pub invariant-loop-run : goal.invariant-loop-run
+invariant-loop-run l = l.text.items ++ change_lines l.reader ≡ change_lines l.ops
+
+abbrev pub decreases-loop-run : goal.decreases-loop-run
+decreases-loop-run l = length l.reader
