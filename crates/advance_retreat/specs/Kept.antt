@@ -55,10 +55,10 @@ with_deletion s lv v = record {
   lost = s.lost;
 }
 
--- the event so many places and one more behind a position is about its own character
+-- what the event so many places and one more behind a position is about: the character that it inserted
 abbrev pub typed_target : ℕ → ℕ → Target
 typed_target position k = record { lv = position + k + 1; node = Event (position + k + 1) }
 
--- the same of so many events right behind the position
+-- what each of so many events right behind the position is about
 abbrev pub typed_targets : ℕ → ℕ → List Target
 typed_targets position n = map (typed_target position) (range_with_len 0 n)

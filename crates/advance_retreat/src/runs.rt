@@ -11,6 +11,7 @@ use crate::run::Run;
 use character_runs::Positions;
 use ew_model::NoMem;
 use ew_model::node::Node;
+use sorted_search::count_passing;
 use std::alloc::Global;
 use std::marker::Model;
 
@@ -187,7 +188,7 @@ fn count_to(runs: &[Run], lv: u32) -> usize
     ensures to { AllWithin (λ r. r.first ≤ lv) runs.now 0 result }
     ensures behind { AllWithin (λ r. lv < r.first) runs.now result (length runs.now) }
 {
-    runs.partition_point(|run| run.first <= lv)
+    count_passing(runs, |run| run.first <= lv)
 }
 
 /// The last run with one more event behind it. Where the event has a run of its own, the last is put to those before.

@@ -188,7 +188,6 @@ impl State {
     /// behind the one before. Prepares them too. Answers the index of the first in the text. None where that event wasn't applied
     /// last, or they can't be applied in one go: then nothing has changed. No step is counted.
     pub fn type_on(&mut self, newest: u32, count: u32, at: u32) -> Option<u32>
-        requires some { 0 < count }
         requires few { newest + count + 1 < 2 ^ 32 }
         requires may { (b : ℕ) × (events : List (Applied ℕ)) × (prepared : List ℕ) × (x : Id) × StandsFor self.old b events prepared × MayType events x newest count }
         ensures typed { (b : ℕ) (events : List (Applied ℕ)) (prepared : List ℕ) (x : Id) → StandsFor self.old b events prepared → MayType events x newest count → IfSome result (TypedEach self.old self.new x newest at count) }

@@ -11,6 +11,7 @@ ghost use Rattle.critical.specs.Spans.{cuts_in, heads_in, RiseFrom, EndBelow, en
 
 use ew_model::NoMem;
 use smallvec::SmallVec;
+use sorted_search::count_passing;
 use std::alloc::Global;
 
 /// Neighbouring critical cuts, all from the first one to the last one.
@@ -27,7 +28,7 @@ fn count_below(spans: &[CutSpan], end: u32) -> usize
     ensures below { AllWithin (λ s. s.first < end) spans.now 0 result }
     ensures above { AllWithin (λ s. end ≤ s.first) spans.now result (length spans.now) }
 {
-    spans.partition_point(|s| s.first < end)
+    count_passing(spans, |s| s.first < end)
 }
 
 /// The place of the span that holds the number, if one does.

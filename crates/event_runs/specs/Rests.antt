@@ -14,7 +14,7 @@ change_in r chars k = own_change (op_in r.kind r.at r.chars_before (record { cha
 abbrev pub changes_from : Run → List ℕ → ℕ → List TextOp
 changes_from r chars before = map (change_in r chars) (range_with_len before (suc r.more - before))
 
--- the run has more events than these, its numbers are of 32 bits, and its characters are among all
+-- not all events of the run come before, its numbers are of 32 bits, and its characters are among all
 pub record IsRest (r : Run) (chars : List ℕ) (before : ℕ) : Type 0 where
   pub some : before ≤ r.more
   pub few : suc r.more < 2 ^ 32

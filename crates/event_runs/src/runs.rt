@@ -18,6 +18,7 @@ use ew_model::event::Op;
 use ew_model::name::Name;
 use ew_model::text_op::TextOp;
 use operation_runs::OperationRun;
+use sorted_search::count_passing;
 
 /// How the operations of a run go on from one another.
 #[derive(Clone, Copy, PartialEq, Eq)]
@@ -218,7 +219,7 @@ fn count_below(runs: &[Run], end: u32) -> usize
     if all_begin_below(runs, end) {
         return runs.len();
     }
-    runs.partition_point(|run| run.start < end)
+    count_passing(runs, |run| run.start < end)
 }
 
 /// Whether there are runs, and all of them begin below a position.
@@ -232,7 +233,7 @@ fn all_begin_below(runs: &[Run], end: u32) -> bool
     }
 }
 
-/// The place of the run that has the event at a position. All are sought through.
+/// The place of the run that has the event at a position, sought among all runs by halving.
 fn search_runs(runs: &[Run], position: u32) -> usize
     requires { (lists : List (List ℕ)) × (count : ℕ) × (chars : ℕ) × AreRuns 0 0 runs.now lists count chars × (position < count) × (count < 2 ^ 32) }
     ensures { IsHeldAt runs.now result position }
@@ -240,8 +241,8 @@ fn search_runs(runs: &[Run], position: u32) -> usize
     count_below(runs, position + 1) - 1
 }
 
-/// The place of the run that has the event at a position. Runs are looked at one after another from a place on, or all are sought
-/// through where the one there begins behind the event.
+/// The place of the run that has the event at a position. Runs are looked at one after another from a place on, or all are
+/// searched by halving where the one there begins behind the event.
 fn find_run_from(runs: &[Run], position: u32, from: usize) -> usize
     requires { (lists : List (List ℕ)) × (count : ℕ) × (chars : ℕ) × AreRuns 0 0 runs.now lists count chars × (position < count) × (count < 2 ^ 32) }
     ensures { IsHeldAt runs.now result position }

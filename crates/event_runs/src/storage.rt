@@ -115,7 +115,7 @@ impl EventRuns {
     }
 
     /// Puts the events of these operations behind the others: the first has the last event as its one parent, each further one the
-    /// event before it. But for the characters it costs the same however many they are.
+    /// event before it. But for the characters it costs little more for many than for few: four bytes for each sixteen.
     pub fn append_run(&mut self, ops: RunOps<'_>) -> Result<(), NoMem>
         requires some { 0 < length self.old }
         requires fit { IndicesFit ops }
@@ -321,8 +321,8 @@ impl Parentage for EventRuns {
         self.parents_at(lv)
     }
 
-    fn chain_to(&self, lv: u32) -> Chain<'_> {
-        self.chain_at(lv)
+    fn chain_to(&self, lv: u32) -> Option<Chain<'_>> {
+        Some(self.chain_at(lv))
     }
 }
 

@@ -20,7 +20,7 @@ is_heir before a = is_newest before a.parent && side_eq a.side Right
 abbrev pub id_on : Id → ℕ → Id
 id_on x k = record { agent = x.agent; seq = x.seq + k }
 
--- of the events behind the one at a position, whose node has this id, the node of the one at a place: on the right of that of the event before it, under the next id
+-- the node of the event so many places and one more behind a position, on the right of that of the event before it; the node at the position has this id, and each further one the next
 abbrev pub heir_on : Id → ℕ → ℕ → Attached
 heir_on x newest k = record { parent = Event (newest + k); side = Right; id = id_on x (k + 1); node = Event (newest + k + 1) }
 

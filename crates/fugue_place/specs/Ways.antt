@@ -29,6 +29,7 @@ abbrev pub stop_on : Side → List ℕ → ℕ → ℕ → ℕ
 stop_on Left heads end k = k + 1
 stop_on Right heads end k = next_head heads end k
 
+-- the same for the ways
 abbrev pub stop_of : Ways → ℕ → ℕ
 stop_of w k = stop_on w.end w.heads.items w.count k
 
@@ -36,6 +37,7 @@ stop_of w k = stop_on w.end w.heads.items w.count k
 abbrev pub next_before : ℕ → ℕ → Option ℕ
 next_before stop k = if nat_lt (k + 1) stop then Some (k + 1) else None
 
+-- the next place of the run that a place is in
 abbrev pub next_in_run : Ways → ℕ → Option ℕ
 next_in_run w k = next_before (stop_of w k) k
 
@@ -44,6 +46,7 @@ abbrev pub led_to : (ℕ → ℕ) → Option ℕ → Option ℕ → Option ℕ
 led_to head None next = next
 led_to head (Some r) next = Some (head r)
 
+-- what follows a place of the ways
 abbrev pub way_of : Ways → ℕ → Option ℕ
 way_of w k = led_to (head_at w) (link_at w k) (next_in_run w k)
 

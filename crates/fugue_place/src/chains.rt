@@ -1,4 +1,4 @@
-//! Where the subtrees of children end on one side.
+//! Chains of numbers, in which each is followed by at most one other.
 
 ghost use Rattle.std.specs.Prelude.{◌≡◌, ℕ, ◌<◌, ◌+◌, ◌-◌, ◌^◌, length, set, None, Some, IfSome, IfNone, OnOk, IsTrue};
 ghost use Rattle.fugue_place.specs.Chains.{follower, entry_at, IsChains, IsEndOf, IsLedBy, AreAligned, IsSame, TellsSame, HasFreeRows, HasRoom, HasRows, IsLone, KeepsLinks, IsOuterRenumbered, IsInnerRenumbered};
@@ -6,12 +6,11 @@ ghost use Rattle.fugue_place.specs.Chains.{follower, entry_at, IsChains, IsEndOf
 use ew_model::NoMem;
 use std::alloc::Global;
 
-/// So many children are kept at most.
+/// So many numbers are kept at most.
 const MOST: u32 = u32::MAX;
 
-/// Children in chains that lead outward on one side: each is followed by its outermost child there, if it has one, and so the
-/// subtree of each ends at the end of its chain. They are told by their places in the list of all children. The tables have
-/// rows up to the last one that was put behind another at least: those further on are alone.
+/// Numbers from 0 on, in chains: each is followed by one other or by none. The heads of `Ways` are numbered so. The tables have
+/// rows up to the last number that was put behind another at least: those further on are alone.
 #[derive(Drop)]
 pub struct Chains {
     /// How many there are.

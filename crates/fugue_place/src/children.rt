@@ -15,6 +15,7 @@ use ew_model::id::Id;
 use ew_model::name::Name;
 use ew_model::node::Node;
 use indexmap::IndexSet;
+use sorted_search::count_passing;
 use std::alloc::Global;
 use std::marker::Model;
 
@@ -267,7 +268,7 @@ fn count_to(runs: &[Run], place: u32) -> usize
     ensures to { AllWithin (λ r. r.place ≤ place) runs.now 0 result }
     ensures behind { AllWithin (λ r. place < r.place) runs.now result (length runs.now) }
 {
-    runs.partition_point(|run| run.place <= place)
+    count_passing(runs, |run| run.place <= place)
 }
 
 /// How many of the runs begin ahead of a place, at an event or before it. The events of all children ahead of the place rise.
@@ -277,7 +278,7 @@ fn count_ahead(runs: &[Run], end: u32, event: u32) -> usize
     ensures to { AllWithin (λ r. is_ahead end event r ≡ true) runs.now 0 result }
     ensures behind { AllWithin (λ r. is_ahead end event r ≡ false) runs.now result (length runs.now) }
 {
-    runs.partition_point(|run| is_ahead(run, end, event))
+    count_passing(runs, |run| is_ahead(run, end, event))
 }
 
 /// Whether the run begins ahead of a place, at an event or before it.

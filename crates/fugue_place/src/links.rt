@@ -40,7 +40,7 @@ pub fn put_link(links: &mut BTreeMap<u32, u32>, at: u32, head: u32) -> Result<Op
     }
 }
 
-/// Links a place that is linked to what it was linked to before, or to none.
+/// Undoes a link: the place leads again to what it led to before, or to nothing.
 pub fn take_back(links: &mut BTreeMap<u32, u32>, at: u32, was: Option<u32>)
     requires { IsSome (get nat_cmp links.old at) }
     ensures { (k : ℕ) → get nat_cmp links.new k ≡ (if nat_eq at k then was else get nat_cmp links.old k) }
@@ -51,7 +51,7 @@ pub fn take_back(links: &mut BTreeMap<u32, u32>, at: u32, was: Option<u32>)
     }
 }
 
-/// Links a place that is linked to another head.
+/// Changes the head of a linked place.
 fn relink(links: &mut BTreeMap<u32, u32>, at: u32, head: u32)
     requires { IsSome (get nat_cmp links.old at) }
     ensures { (k : ℕ) → get nat_cmp links.new k ≡ (if nat_eq at k then Some head else get nat_cmp links.old k) }
@@ -61,7 +61,7 @@ fn relink(links: &mut BTreeMap<u32, u32>, at: u32, head: u32)
     };
 }
 
-/// Links a place to none.
+/// Takes a link away.
 fn unlink(links: &mut BTreeMap<u32, u32>, at: u32)
     ensures { (k : ℕ) → get nat_cmp links.new k ≡ (if nat_eq at k then None else get nat_cmp links.old k) }
 {

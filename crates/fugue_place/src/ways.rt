@@ -16,7 +16,7 @@ use std::collections::BTreeMap;
 
 /// Children that lead outward on one side: each is followed by its outermost child there, if it has one, and so its subtree
 /// ends where its way ends. They are told by their places in the list of all children. A head is a child that is no heir.
-/// On the right a run is a head with the heirs behind it, on the left each child is a run.
+/// On the right a run is a head with the heirs behind it, on the left it is the head alone.
 #[derive(Drop)]
 pub struct Ways {
     /// The side.
@@ -25,7 +25,8 @@ pub struct Ways {
     pub count: usize,
     /// The places of the heads.
     pub heads: Vec<u32>,
-    /// The number of the head that follows a place. Any other is followed by the next one of its run, if by one.
+    /// The number of the head that follows each linked place. A place that isn't linked is followed by the next one of its run, if
+    /// there is one.
     pub links: BTreeMap<u32, u32>,
     /// No place from this one on is linked.
     pub free: usize,

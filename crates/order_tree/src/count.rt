@@ -46,6 +46,29 @@ pub fn part_at<R: Run, T: Part<R>>(parts: &[T], count: Count, i: u32) -> (usize,
     unreachable!()
 }
 
+/// The part with the i-th of the characters that are visible in what is prepared, its number there, and how many characters of the
+/// text are in the parts before it.
+pub fn visible_part<R: Run, T: Part<R>>(parts: &[T], i: u32) -> (usize, u32, u32)
+    requires within { i < total R.prepared (all_pairs T.pairs parts.now) }
+    requires small { total R.effect (all_pairs T.pairs parts.now) < 2 ^ 32 }
+    ensures within { result.0 < length parts.now }
+    ensures before { total R.prepared (all_pairs T.pairs (take result.0 parts.now)) + result.1 ≡ i }
+    ensures inside { (d : T) → result.1 < total R.prepared (T.pairs (slice_index_or parts.now result.0 d)) }
+    ensures effect { result.2 ≡ total R.effect (all_pairs T.pairs (take result.0 parts.now)) }
+{
+    let mut rest = i;
+    let mut effect = 0;
+    for (k, part) in parts.iter().enumerate() {
+        let sums = part.sums();
+        if rest < sums.prepared {
+            return (k, rest, effect);
+        }
+        rest -= sums.prepared;
+        effect += sums.effect;
+    }
+    unreachable!()
+}
+
 /// How many characters of the text are in the parts.
 pub fn effect_in<R: Run, T: Part<R>>(parts: &[T]) -> u32
     requires { total R.effect (all_pairs T.pairs parts.now) < 2 ^ 32 }

@@ -40,23 +40,22 @@ impl<R: Run> Part<R> for (u64, R) {
     }
 }
 
-/// How many parts begin at a label up to this one, where the first labels of the parts rise.
+/// How many parts begin at a label up to this one. All are looked at, since they are few: at the steps of a search by halving a
+/// processor would often guess wrong.
 fn count_up_to<R: Run, T: Part<R>>(parts: &[T], label: u64) -> usize
+    requires some { AllSome T.pairs parts.now }
+    requires rising { IsRising (all_pairs T.pairs parts.now) }
     ensures within { result ≤ length parts.now }
     ensures before { (d : T) → 0 < result → first_or_zero (T.pairs (slice_index_or parts.now (result - 1) d)) ≤ label }
     ensures behind { (d : T) → result < length parts.now → label < first_or_zero (T.pairs (slice_index_or parts.now result d)) }
 {
-    let mut low = 0;
-    let mut high = parts.len();
-    while low < high {
-        let middle = low + (high - low) / 2;
-        if parts[middle].first() <= label {
-            low = middle + 1;
-        } else {
-            high = middle;
+    let mut count = 0;
+    for part in parts {
+        if part.first() <= label {
+            count += 1;
         }
     }
-    low
+    count
 }
 
 /// The last part that begins at a label up to this one, or else the first part.

@@ -6,7 +6,7 @@ ghost use Rattle.order_tree.specs.Parts.{all_pairs};
 ghost use Rattle.order_tree.specs.Shape.{AllBelow};
 
 use crate::branch::Branch;
-use crate::count::{Count, effect_in, part_at};
+use crate::count::visible_part;
 use ew_model::run::Run;
 
 /// A character that is visible in what is prepared: its run with its label, its place among the run's characters that are
@@ -28,8 +28,7 @@ pub fn visible_in<R: Run>(entries: &[(u64, R)], i: u32) -> Visible<'_, R>
     ensures run { Contains entries.now (result.label, result.run.now) }
     ensures before { result.before ≡ total R.effect (lower entries.now result.label) }
 {
-    let (k, place) = part_at(entries, Count::Prepared, i);
-    let before = effect_in(&entries[..k]);
+    let (k, place, before) = visible_part(entries, i);
     let entry = &entries[k];
     Visible {
         label: entry.0,
@@ -54,7 +53,6 @@ pub fn kid_visible<R: Run>(kids: &[Branch<R>], depth: u32, i: u32) -> (&Branch<R
     ensures before { (label : ℕ) (r : R) → Contains result.0.now.pairs (label, r) → result.1 + total R.effect (lower result.0.now.pairs label) ≡ total R.effect (lower (all_pairs (λ k. k.pairs) kids.now) label) }
     ensures fits { (label : ℕ) → result.1 + total R.effect (lower result.0.now.pairs label) < 2 ^ 32 }
 {
-    let (k, rest) = part_at(kids, Count::Prepared, i);
-    let before = effect_in(&kids[..k]);
+    let (k, rest, before) = visible_part(kids, i);
     (&kids[k], before, rest)
 }

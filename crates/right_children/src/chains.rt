@@ -7,6 +7,7 @@ ghost use Rattle.right_children.specs.Chains.{parent_by, parent_in, AreInOrder, 
 
 use ew_model::NoMem;
 use ew_model::node::Node;
+use sorted_search::count_passing;
 use std::alloc::Global;
 use std::marker::Model;
 
@@ -188,7 +189,7 @@ fn count_to(chains: &[Chain], position: u32) -> usize
     if all_begin_to(chains, position) {
         return chains.len();
     }
-    chains.partition_point(|chain| chain.first <= position)
+    count_passing(chains, |chain| chain.first <= position)
 }
 
 /// Whether there are chains, and all of them begin at a position or before it.

@@ -4,12 +4,12 @@ use Rattle.std.proofs.lemmas.Bool.{ltb-true, ltb-false}
 use Rattle.std.proofs.lemmas.List.Sorted.{IsPartitionPoint-from_clause, IsPartitionedBy-ltb}
 use Rattle.critical.specs.declared.spans.CutSpan.{CutSpan}
 use Rattle.critical.proofs.SpanSearches.{firsts_rise}
-use Rattle.critical.proofs.spans.count_below.Goals.{After-partition_point}
+use Rattle.critical.proofs.spans.count_below.Goals.{After-count_passing}
 use Rattle.critical.proofs.spans.count_below.Goals as goal
 
-point : (c : After-partition_point) → IsPartitionPoint (λ (s : CutSpan). nat_lt s.first c.args.end ≡ true) (λ (s : CutSpan). nat_lt s.first c.args.end ≡ false) c.args.spans.now c.partition_point.result
+point : (c : After-count_passing) → IsPartitionPoint (λ (s : CutSpan). nat_lt s.first c.args.end ≡ true) (λ (s : CutSpan). nat_lt s.first c.args.end ≡ false) c.args.spans.now c.count_passing.result
 point c =
-    IsPartitionPoint-from_clause (λ (s : CutSpan). nat_lt s.first c.args.end) c.args.spans.now c.partition_point.result c.partition_point.ensures.partitioned
+    IsPartitionPoint-from_clause (λ (s : CutSpan). nat_lt s.first c.args.end) c.args.spans.now c.count_passing.result c.count_passing.ensures.partitioned
     (IsPartitionedBy-ltb (λ (s : CutSpan). s.first) c.args.spans.now c.args.end (firsts_rise c.args.spans.now c.requires))
     (λ a r f' h. search rules)
 

@@ -4,12 +4,12 @@ use Rattle.std.proofs.lemmas.List.Sorted.{IsPartitionPoint-from_clause}
 use Rattle.fugue_place.specs.declared.children.Run.{Run}
 use Rattle.fugue_place.specs.Members.{is_ahead}
 use Rattle.fugue_place.proofs.HalvingLaws.{ahead_first}
-use Rattle.fugue_place.proofs.children.count_ahead.Goals.{After-partition_point}
+use Rattle.fugue_place.proofs.children.count_ahead.Goals.{After-count_passing}
 use Rattle.fugue_place.proofs.children.count_ahead.Goals as goal
 
-point : (c : After-partition_point) → IsPartitionPoint (λ (r : Run). is_ahead c.args.end c.args.event r ≡ true) (λ (r : Run). is_ahead c.args.end c.args.event r ≡ false) c.args.runs.now c.partition_point.result
+point : (c : After-count_passing) → IsPartitionPoint (λ (r : Run). is_ahead c.args.end c.args.event r ≡ true) (λ (r : Run). is_ahead c.args.end c.args.event r ≡ false) c.args.runs.now c.count_passing.result
 point c =
-    IsPartitionPoint-from_clause (is_ahead c.args.end c.args.event) c.args.runs.now c.partition_point.result c.partition_point.ensures.partitioned
+    IsPartitionPoint-from_clause (is_ahead c.args.end c.args.event) c.args.runs.now c.count_passing.result c.count_passing.ensures.partitioned
     (ahead_first c.requires.0 c.args.runs.now c.requires.1 c.args.end c.requires.2 c.requires.3 c.args.event)
     (λ a r f' h. search rules)
 

@@ -4,12 +4,12 @@ use Rattle.std.proofs.lemmas.Bool.{leb-true, leb-false}
 use Rattle.std.proofs.lemmas.List.Sorted.{IsPartitionPoint-from_clause, IsPartitionedBy-leb}
 use Rattle.right_children.specs.declared.chains.Chain.{Chain}
 use Rattle.right_children.proofs.ChainLaws.{starts_rise}
-use Rattle.right_children.proofs.chains.count_to.Goals.{After-partition_point}
+use Rattle.right_children.proofs.chains.count_to.Goals.{After-count_passing}
 use Rattle.right_children.proofs.chains.count_to.Goals as goal
 
-point : (c : After-partition_point) → IsPartitionPoint (λ (x : Chain). nat_le x.first c.args.position ≡ true) (λ (x : Chain). nat_le x.first c.args.position ≡ false) c.args.chains.now c.partition_point.result
+point : (c : After-count_passing) → IsPartitionPoint (λ (x : Chain). nat_le x.first c.args.position ≡ true) (λ (x : Chain). nat_le x.first c.args.position ≡ false) c.args.chains.now c.count_passing.result
 point c =
-    IsPartitionPoint-from_clause (λ (x : Chain). nat_le x.first c.args.position) c.args.chains.now c.partition_point.result c.partition_point.ensures.partitioned
+    IsPartitionPoint-from_clause (λ (x : Chain). nat_le x.first c.args.position) c.args.chains.now c.count_passing.result c.count_passing.ensures.partitioned
     (IsPartitionedBy-leb (λ (x : Chain). x.first) c.args.chains.now c.args.position (λ i j d l m. starts_rise c.args.chains.now 0 i j d c.requires l m))
     (λ a r f' h. search rules)
 
