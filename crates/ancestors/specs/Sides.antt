@@ -17,9 +17,9 @@ has_right Left = false
 has_right Right = true
 has_right Both = true
 
--- pending on a side: for that walk, or for both
+-- pending for a walk: put in for it, or for both at once
 abbrev pub is_on : List ℕ → List ℕ → ℕ → Bool
-is_on alone both position = is_named nat_eq alone position || is_named nat_eq both position
+is_on own both position = is_named nat_eq own position || is_named nat_eq both position
 
 -- pending for the left walk
 abbrev pub on_left : Sides → ℕ → Bool

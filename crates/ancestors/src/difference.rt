@@ -16,8 +16,8 @@ use frontier::Parentage;
 use std::alloc::Global;
 
 /// The events that version `a` knows and `b` doesn't, and those that `b` knows and `a` doesn't. Both know all events
-/// below the floor. The walk takes a whole chain of events at each step. It ends where nothing is pending for one of the
-/// two alone, and begins no chain below the floor.
+/// below the floor. The walk takes a whole chain of events at each step. It ends where all that is pending from the floor
+/// on was put in for both at once, and begins no chain below the floor.
 pub fn diff<G: Parentage>(
     alloc: Global,
     g: &G,
@@ -79,7 +79,10 @@ fn take_chain<G: Parentage>(g: &G, lv: u32, sides: &mut Sides, side: Side) -> Re
     ensures left { IfOk result (λ first. (q : ℕ) → on_left sides.new q ≡ (on_left sides.old q || (has_left side && is_named nat_eq (parents_at (G.parents g.now) first) q))) }
     ensures right { IfOk result (λ first. (q : ℕ) → on_right sides.new q ≡ (on_right sides.old q || (has_right side && is_named nat_eq (parents_at (G.parents g.now) first) q))) }
 {
-    let chain = g.chain_to(lv);
+    let Some(chain) = g.chain_to(lv) else {
+        sides.put_all(side, &g.parents_of(lv))?;
+        return Ok(lv);
+    };
     match sides.highest() {
         Some(other) if chain.first <= other => {
             sides.put(side, other)?;

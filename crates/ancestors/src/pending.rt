@@ -11,8 +11,8 @@ use std::alloc::Global;
 use std::collections::BinaryHeap;
 use std::marker::Model;
 
-/// Positions that a walk still has to come to, the highest first. One may stand there several times. Contracts see the
-/// list, in no order.
+/// Positions that a walk still has to come to. The highest is taken first, and one may stand there several times. Contracts
+/// see a list of them, whose order means nothing.
 #[derive(Drop)]
 pub struct Pending {
     positions: BinaryHeap<u32>,
@@ -113,7 +113,10 @@ impl Pending {
         ensures above { IfOk result (λ first. (q : ℕ) → is_named nat_eq self.old q ≡ true → q < first) }
         ensures put { IfOk result (λ first. (q : ℕ) → is_named nat_eq self.new q ≡ (is_named nat_eq self.old q || (nat_le floor q && is_named nat_eq (parents_at (G.parents g.now) first) q))) }
     {
-        let chain = g.chain_to(lv);
+        let Some(chain) = g.chain_to(lv) else {
+            self.put_from(floor, &g.parents_of(lv))?;
+            return Ok(lv);
+        };
         match self.highest() {
             Some(other) if chain.first <= other => Ok(other + 1),
             _ => {

@@ -61,7 +61,8 @@ impl Sides {
         }
     }
 
-    /// Takes out the highest position, unless the two walks have the same pending from the floor on.
+    /// Takes out the highest position. None where all that is left from the floor on was put in for both walks at once: both have
+    /// the same pending there.
     pub fn pop_from(&mut self, floor: u32) -> Option<(u32, Side)>
         ensures none { IfNone result (AgreeFrom floor (on_left self.old) (on_right self.old)) }
         ensures highest { IfSome result (λ top. IsHighest (on_left self.old) (on_right self.old) top.0) }
@@ -85,7 +86,8 @@ impl Sides {
         higher(apart, self.both.highest())
     }
 
-    /// The highest position, unless the two walks have the same pending from the floor on.
+    /// The highest position. None where all that is left from the floor on was put in for both walks at once: both have the same
+    /// pending there.
     fn highest_from(&self, floor: u32) -> Option<u32>
         ensures none { IfNone result (AgreeFrom floor (on_left self.now) (on_right self.now)) }
         ensures highest { IfSome result (λ n. IsHighest (on_left self.now) (on_right self.now) n) }

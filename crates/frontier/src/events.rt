@@ -1,6 +1,6 @@
 //! A history as its events' parents.
 
-ghost use Rattle.std.specs.Prelude.{◌≡◌, ℕ, ◌<◌, List, length};
+ghost use Rattle.std.specs.Prelude.{◌≡◌, ℕ, ◌<◌, List, length, IfSome};
 ghost use Rattle.ew_model.specs.Positions.{AreParents, IsHistoryOfParents, parents_at};
 ghost use Rattle.frontier.specs.Chains.{IsChain};
 
@@ -31,10 +31,13 @@ pub trait Parentage {
         ensures value { result.items ≡ parents_at (parents self.now) lv }
         ensures lower { AreParents lv result.items };
 
-    /// A chain to the event at a position, as long as it is known: of that event alone, or of events before it too.
-    fn chain_to(&self, lv: u32) -> Chain<'_>
+    /// A chain to the event at a position, where chains are kept. A walk goes on by that event alone where there is none.
+    fn chain_to(&self, lv: u32) -> Option<Chain<'_>>
         requires { lv < length (parents self.now) }
-        ensures chain { IsChain (parents self.now) result.first lv }
-        ensures value { result.parents.now ≡ parents_at (parents self.now) result.first }
-        ensures lower { AreParents result.first result.parents.now };
+        ensures chain { IfSome result (λ chain. IsChain (parents self.now) chain.first lv) }
+        ensures value { IfSome result (λ chain. chain.parents.now ≡ parents_at (parents self.now) chain.first) }
+        ensures lower { IfSome result (λ chain. AreParents chain.first chain.parents.now) }
+    {
+        None
+    }
 }
