@@ -4,12 +4,12 @@ use Rattle.std.specs.List.{AllWithin, range_with_len}
 use Rattle.std.proofs.lemmas.Bool.{ltb-true, ltb-false, true≢false}
 use Rattle.std.proofs.lemmas.List.{length-map, map-append}
 use Rattle.std.proofs.lemmas.List.FromFn.{length-range_with_len}
-use Rattle.std.proofs.lemmas.Option.{same_Some, slice_get-get_or, get_or_from_slice_get}
+use Rattle.std.proofs.lemmas.Option.{same_Some, slice_get-get_or, slice_get_within, get_or_from_slice_get}
 use Rattle.ew_model.specs.declared.id.Id.{Id}
 use Rattle.ew_model.specs.Ids.{id_eq}
 use Rattle.ew_model.proofs.IdLaws.{is_same_id}
 use Rattle.agent_ids.specs.declared.runs.IdRun.{IdRun}
-use Rattle.agent_ids.specs.IdRuns.{id_runs, id_with, last_in, is_next, ids_in, last_of, IsApart, AreRuns, goes_on, with_more, with_more_by, shortened}
+use Rattle.agent_ids.specs.IdRuns.{id_runs, id_with, last_in, is_next, ids_in, last_of, IsApart, AreRuns, IsHeldAt, goes_on, with_more, with_more_by, shortened}
 use Rattle.ew_model.proofs.Ranges.{range_more}
 
 -- so many ids of an agent, from a number on
@@ -328,3 +328,11 @@ next_in (y ∷ runs) end x are e =
     let place : length (y ∷ runs) - 1 ≡ at = omega arith in
     let one : last_of r ≡ x = same_Some (last_of r) x (sym (last_of_last (y ∷ runs) end r are (omega arith) (ap (slice_get (y ∷ runs)) place ∙ there)) ∙ e) in
     last_goes_on (y ∷ runs) at r (id_with x.agent (suc x.seq)) refl there ∙ subst (λ (z : Id). is_next (last_of r) (id_with z.agent (suc z.seq)) ≡ true) one (next_of_agent r.agent (r.seq + r.more) (suc (r.seq + r.more)) refl)
+
+-- the run at a place that is held is the one that is read there
+pub found : (runs seen : List IdRun) (at place : ℕ) (run : IdRun) → seen ≡ runs → IsHeldAt seen at place → run ≡ slice_index_or runs at run → (slice_get runs at ≡ Some run) × (run.start ≤ place) × (place ≤ run.start + run.more)
+found runs seen at place run same h is =
+    let there : slice_get runs at ≡ Some h.run = ap (λ (rs : List IdRun). slice_get rs at) (sym same) ∙ h.there in
+    let here : slice_get runs at ≡ Some run = slice_get-get_or runs at run (slice_get_within runs at h.run there) ∙ ap Some (sym is) in
+    let one : h.run ≡ run = same_Some h.run run (sym there ∙ here) in
+    (here, subst (λ (r : IdRun). r.start ≤ place) one h.from, subst (λ (r : IdRun). place ≤ r.start + r.more) one h.to)

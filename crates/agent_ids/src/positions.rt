@@ -6,6 +6,7 @@ ghost use Rattle.agent_ids.specs.declared.positions.PositionRun.{PositionRun};
 ghost use Rattle.agent_ids.specs.PositionRuns.{positions_in, ArePositionRuns, goes_on_at};
 
 use ew_model::NoMem;
+use sorted_search::count_passing;
 use std::alloc::Global;
 use std::marker::Model;
 
@@ -113,7 +114,7 @@ fn count_below(runs: &[PositionRun], seq: u32) -> usize
     ensures below { AllWithin (λ r. r.seq < seq) runs.now 0 result }
     ensures behind { AllWithin (λ r. seq ≤ r.seq) runs.now result (length runs.now) }
 {
-    runs.partition_point(|run| run.seq < seq)
+    count_passing(runs, |run| run.seq < seq)
 }
 
 /// The position of the id with this number, by halving.

@@ -9,6 +9,7 @@ ghost use Rattle.agent_ids.specs.IdRuns.{id_runs, id_with, last_in, ids_in, AreR
 use ew_model::NoMem;
 use ew_model::id::Id;
 use ew_model::name::Name;
+use sorted_search::count_passing;
 use std::alloc::Global;
 use std::marker::Model;
 
@@ -193,7 +194,7 @@ fn count_to(runs: &[IdRun], place: u32) -> usize
     if all_begin_to(runs, place) {
         return runs.len();
     }
-    runs.partition_point(|run| run.start <= place)
+    count_passing(runs, |run| run.start <= place)
 }
 
 /// Whether there are runs, and all of them begin at a place or before it.

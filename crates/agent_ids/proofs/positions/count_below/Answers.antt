@@ -4,12 +4,12 @@ use Rattle.std.proofs.lemmas.Bool.{ltb-true, ltb-false}
 use Rattle.std.proofs.lemmas.List.Sorted.{IsPartitionPoint-from_clause, IsPartitionedBy-ltb}
 use Rattle.agent_ids.specs.declared.positions.PositionRun.{PositionRun}
 use Rattle.agent_ids.proofs.PositionLists.{seqs_rise}
-use Rattle.agent_ids.proofs.positions.count_below.Goals.{After-partition_point}
+use Rattle.agent_ids.proofs.positions.count_below.Goals.{After-count_passing}
 use Rattle.agent_ids.proofs.positions.count_below.Goals as goal
 
-point : (c : After-partition_point) → IsPartitionPoint (λ (r : PositionRun). nat_lt r.seq c.args.seq ≡ true) (λ (r : PositionRun). nat_lt r.seq c.args.seq ≡ false) c.args.runs.now c.partition_point.result
+point : (c : After-count_passing) → IsPartitionPoint (λ (r : PositionRun). nat_lt r.seq c.args.seq ≡ true) (λ (r : PositionRun). nat_lt r.seq c.args.seq ≡ false) c.args.runs.now c.count_passing.result
 point c =
-    IsPartitionPoint-from_clause (λ (r : PositionRun). nat_lt r.seq c.args.seq) c.args.runs.now c.partition_point.result c.partition_point.ensures.partitioned
+    IsPartitionPoint-from_clause (λ (r : PositionRun). nat_lt r.seq c.args.seq) c.args.runs.now c.count_passing.result c.count_passing.ensures.partitioned
     (IsPartitionedBy-ltb (λ (r : PositionRun). r.seq) c.args.runs.now c.args.seq (λ i j d l m. seqs_rise c.args.runs.now 0 c.requires.0 i j d c.requires.1 l m))
     (λ a r f' h. search rules)
 

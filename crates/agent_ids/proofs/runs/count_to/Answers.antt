@@ -4,12 +4,12 @@ use Rattle.std.proofs.lemmas.Bool.{leb-true, leb-false}
 use Rattle.std.proofs.lemmas.List.Sorted.{IsPartitionPoint-from_clause, IsPartitionedBy-leb}
 use Rattle.agent_ids.specs.declared.runs.IdRun.{IdRun}
 use Rattle.agent_ids.proofs.RunLists.{starts_rise}
-use Rattle.agent_ids.proofs.runs.count_to.Goals.{After-partition_point}
+use Rattle.agent_ids.proofs.runs.count_to.Goals.{After-count_passing}
 use Rattle.agent_ids.proofs.runs.count_to.Goals as goal
 
-point : (c : After-partition_point) → IsPartitionPoint (λ (r : IdRun). nat_le r.start c.args.place ≡ true) (λ (r : IdRun). nat_le r.start c.args.place ≡ false) c.args.runs.now c.partition_point.result
+point : (c : After-count_passing) → IsPartitionPoint (λ (r : IdRun). nat_le r.start c.args.place ≡ true) (λ (r : IdRun). nat_le r.start c.args.place ≡ false) c.args.runs.now c.count_passing.result
 point c =
-    IsPartitionPoint-from_clause (λ (r : IdRun). nat_le r.start c.args.place) c.args.runs.now c.partition_point.result c.partition_point.ensures.partitioned
+    IsPartitionPoint-from_clause (λ (r : IdRun). nat_le r.start c.args.place) c.args.runs.now c.count_passing.result c.count_passing.ensures.partitioned
     (IsPartitionedBy-leb (λ (r : IdRun). r.start) c.args.runs.now c.args.place (λ i j d l m. starts_rise c.args.runs.now 0 c.requires.0 i j d c.requires.1 l m))
     (λ a r f' h. search rules)
 

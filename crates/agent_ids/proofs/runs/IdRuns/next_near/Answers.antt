@@ -1,9 +1,9 @@
-use Rattle.std.proofs.Common.{◌≡◌, ◌∙◌, ◌≤◌, ◌+◌, ◌-◌, ℕ, List, length, Some, slice_get, slice_index_or, sym, ap, subst, arith}
-use Rattle.std.proofs.lemmas.Option.{slice_get-get_or, slice_get_within, same_Some}
+use Rattle.std.proofs.Common.{◌≡◌, ◌∙◌, ◌≤◌, ◌+◌, ◌-◌, ℕ, List, length, Some, slice_get, sym, ap, subst, arith}
+use Rattle.std.proofs.lemmas.Option.{slice_get_within, same_Some}
 use Rattle.ew_model.specs.declared.id.Id.{Id}
 use Rattle.agent_ids.specs.declared.runs.IdRun.{IdRun}
-use Rattle.agent_ids.specs.IdRuns.{id_with, AreRuns, IsHeldAt}
-use Rattle.agent_ids.proofs.RunLists.{length_in, read_run}
+use Rattle.agent_ids.specs.IdRuns.{id_with, AreRuns}
+use Rattle.agent_ids.proofs.RunLists.{length_in, read_run, found}
 use Rattle.agent_ids.proofs.runs.IdRuns.next_near.Goals as goal
 
 pub find_run_near-found-requires : goal.find_run_near-found-requires
@@ -18,13 +18,6 @@ index-run-requires c =
     let within = slice_get_within c.deref.result.now c.find_run_near-found.result h.run h.there in
     let long = ap (length {A = IdRun}) c.deref.ensures.value in
     omega (arith, within, long, c.self.inside.runs.ok.0)
-
-found : (runs seen : List IdRun) (at place : ℕ) (run : IdRun) → seen ≡ runs → IsHeldAt seen at place → run ≡ slice_index_or runs at run → (slice_get runs at ≡ Some run) × (run.start ≤ place) × (place ≤ run.start + run.more)
-found runs seen at place run same h is =
-    let there : slice_get runs at ≡ Some h.run = ap (λ (rs : List IdRun). slice_get rs at) (sym same) ∙ h.there in
-    let here : slice_get runs at ≡ Some run = slice_get-get_or runs at run (slice_get_within runs at h.run there) ∙ ap Some (sym is) in
-    let one : h.run ≡ run = same_Some h.run run (sym there ∙ here) in
-    (here, subst (λ (r : IdRun). r.start ≤ place) one h.from, subst (λ (r : IdRun). place ≤ r.start + r.more) one h.to)
 
 pub returns : goal.returns
 returns c = λ x here k le.
