@@ -24,7 +24,7 @@ UNCLAIMED = {"trial_rows"}
 # Where a search begins, which changes no answer.
 HINT = ("near", "Near")
 # What is lent to a call and isn't used any more where it is refused, and steps of which nothing is claimed, those of a net.
-LENT = {("walk", "state"), ("push_to", "ops"), ("step", "steps"), ("run_script", "steps"), ("net", "steps")}
+LENT = {("walk", "state"), ("walk_runs", "state"), ("step", "steps"), ("run_script", "steps"), ("net", "steps")}
 OK, ERR = re.compile(r"\b(IfOk|OnOk|IsOkAnd|IsOk)\b"), re.compile(r"\b(IfErr|OnErr|IsErr|IsErrAnd)\b")
 
 

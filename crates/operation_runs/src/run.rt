@@ -1,6 +1,6 @@
 //! Operations that go on from one another.
 
-ghost use Rattle.std.specs.Prelude.{◌≡◌, ◌<◌, ◌≤◌, ◌++◌, length, drop, take, slice_get, Some, OnOk};
+ghost use Rattle.std.specs.Prelude.{◌≡◌, ◌<◌, ◌≤◌, ◌++◌, length, drop, take, slice_get, Some, OnOk, OnErr};
 ghost use Rattle.operation_runs.specs.Runs.{run_ops, RunFits};
 
 use ew_model::NoMem;
@@ -76,7 +76,8 @@ impl<'a> OperationRun<'a> {
     /// Puts the operations behind others, one by one.
     pub fn push_to(&self, ops: &mut Vec<TextOp>) -> Result<(), NoMem>
         requires { RunFits self.now }
-        ensures { OnOk result (ops.new.items ≡ ops.old.items ++ run_ops self.now) }
+        ensures ok { OnOk result (ops.new.items ≡ ops.old.items ++ run_ops self.now) }
+        ensures err { OnErr result (ops.new.items ≡ ops.old.items) }
     {
         let count = self.count();
         ops.reserve(count as usize)?;
