@@ -48,10 +48,10 @@ module _ (text more : List ℕ) (half at : ℕ) (long : half ≤ length text) wh
       let n : length (take half text) ≡ half = length-take-le half text long in
       sym (more_before (take half text) (drop half text) more at (omega (arith, n, le))) ∙ ap (λ (cs : List ℕ). with_more cs at more) (take-append-drop half text)
 
-  pub more_right : half < at → take half text ++ with_more (drop half text) (at - half) more ≡ with_more text at more
-  more_right lt =
+  pub more_right : half ≤ at → take half text ++ with_more (drop half text) (at - half) more ≡ with_more text at more
+  more_right le =
       let n : length (take half text) ≡ half = length-take-le half text long in
-      let place : length (take half text) + (at - half) ≡ at = omega (arith, n, lt) in
+      let place : length (take half text) + (at - half) ≡ at = omega (arith, n, le) in
       sym (more_behind (take half text) (drop half text) more (at - half))
       ∙ ap (λ (i : ℕ). with_more (take half text ++ drop half text) i more) place ∙ ap (λ (cs : List ℕ). with_more cs at more) (take-append-drop half text)
 

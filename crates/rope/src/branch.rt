@@ -318,7 +318,7 @@ impl Branch {
         }
     }
 
-    /// Puts the characters of typed operations in at an index. Where the node was full, its second half is the answer. What is wanting
+    /// Puts the characters of typed operations in at an index. Where the node was full, its second part is the answer. What is wanting
     /// for the nodes that are cut in two is taken before the first change: so many full nodes stand right above.
     pub fn insert(
         &mut self,

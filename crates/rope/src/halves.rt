@@ -8,11 +8,17 @@ ghost use Rattle.rope.specs.Rights.{chars_of_right, IsLike, with_right, HasSpare
 ghost use Rattle.rope.specs.Typed.{typed, with_more};
 
 use crate::branch::Branch;
-use crate::leaf::{HALF, Leaf, MOST_CHARS};
+use crate::leaf::{Leaf, MOST_CHARS};
 use crate::spares::{MOST_KIDS, Spares};
 use crate::typed::put_typed;
 use ew_model::NoMem;
 use ew_model::text_op::TextOp;
+
+/// How many characters stay at least in a leaf that is cut in two.
+const LEAST_KEPT: u32 = 16;
+
+/// How many stay at most where it is cut before its end, so that as many as the least go out of a full one.
+const MOST_KEPT: u32 = 48;
 
 /// Puts a branch into a node of this depth at a place. Where the node is full, its second half goes into the block, and is the answer.
 pub fn put_kid(
@@ -42,7 +48,7 @@ pub fn put_kid(
     }
 }
 
-/// Puts the second half of a branch that was cut in two at its place, with a spare block where the node is full.
+/// Puts the second part of a branch that was cut in two at its place, with a spare block where the node is full.
 pub fn settle(
     depth: u32,
     kids: &mut Vec<Branch>,
@@ -145,7 +151,7 @@ fn move_tail(from: &mut Vec<Branch>, at: usize, to: &mut Vec<Branch>)
     to.reverse();
 }
 
-/// Puts the characters of typed operations into a leaf. Where there is no room for them, its second half is the answer; for it, and
+/// Puts the characters of typed operations into a leaf. Where there is no room for them, its second part is the answer; for it, and
 /// for so many full nodes right above, leaves and blocks are held before the first change.
 pub fn insert_in_leaf(
     leaf: &mut Leaf,
@@ -172,25 +178,43 @@ pub fn insert_in_leaf(
     }
     spares.hold(1, above)?;
     let mut tail = spares.take_leaf();
-    insert_halving(leaf, at, ops, &mut tail);
+    insert_cutting(leaf, at, ops, &mut tail);
     Ok(Some(Branch::leaf(tail)))
 }
 
-/// Puts the characters of typed operations into a leaf whose second half goes into the empty one.
-fn insert_halving(leaf: &mut Leaf, at: u32, ops: &[TextOp], tail: &mut Leaf)
+/// Puts the characters of typed operations into a leaf that has no room for them, and whose second part goes into the empty one.
+fn insert_cutting(leaf: &mut Leaf, at: u32, ops: &[TextOp], tail: &mut Leaf)
     requires at_most { at ≤ length leaf.old }
-    requires many { 32 < length leaf.old }
+    requires over { 64 < length leaf.old + length ops.now }
     requires short { length leaf.old ≤ 64 }
+    requires typed { 0 < length (typed ops.now) }
     requires few { length ops.now ≤ 32 }
     requires empty { tail.old ≡ [] }
     ensures chars { leaf.new ++ tail.new ≡ with_more leaf.old at (typed ops.now) }
     ensures left { 0 < length leaf.new }
     ensures right { 0 < length tail.new }
 {
-    leaf.move_half(tail);
-    if at <= HALF as u32 {
+    let kept = kept_of(leaf.len(), at);
+    leaf.move_tail(kept, tail);
+    if at <= kept && kept as usize + ops.len() <= MOST_CHARS {
         put_typed(leaf, at, ops);
     } else {
-        put_typed(tail, at - HALF as u32, ops);
+        put_typed(tail, at - kept, ops);
+    }
+}
+
+/// How many characters stay in a leaf of so many that is cut in two for an insertion at an index.
+// Mostly those before the index: characters typed forwards leave full leaves behind, and no part gets tiny.
+fn kept_of(len: u32, at: u32) -> u32
+    requires many { 32 < len }
+    requires at_most { at ≤ len }
+    ensures within { result ≤ len }
+    ensures first { at < result → result ≡ 16 }
+    ensures last { result < at → result ≡ 48 }
+{
+    if at == len {
+        len
+    } else {
+        at.clamp(LEAST_KEPT, MOST_KEPT)
     }
 }

@@ -36,7 +36,7 @@ pub fn kid_at(kids: &[Branch], at: u32) -> (usize, u32)
     unreachable!()
 }
 
-/// The first branch into which a character at an index may be put, and its index there.
+/// The branch into which a character at an index is put, and its index there. Where two branches meet it is the one behind.
 pub fn kid_open(kids: &[Branch], at: u32) -> (usize, u32)
     requires some { 0 < length kids.now }
     requires in_range { at ≤ length (all_chars kids.now) }
@@ -44,9 +44,10 @@ pub fn kid_open(kids: &[Branch], at: u32) -> (usize, u32)
     ensures before { at ≡ length (all_chars (take result.0 kids.now)) + result.1 }
     ensures inside { (d : Seen) → result.1 ≤ length (slice_index_or kids.now result.0 d).chars }
 {
+    let last = kids.len() - 1;
     let mut rest = at;
     for (k, kid) in kids.iter().enumerate() {
-        if rest <= kid.len() {
+        if rest < kid.len() || k == last {
             return (k, rest);
         }
         rest -= kid.len();

@@ -10,9 +10,6 @@ use ew_model::NoMem;
 use std::alloc::Global;
 use std::marker::Model;
 
-/// How many characters a leaf keeps where it is cut in two.
-pub const HALF: usize = 32;
-
 /// How many characters a leaf has at most.
 pub const MOST_CHARS: usize = 64;
 
@@ -92,17 +89,17 @@ impl Leaf {
         many
     }
 
-    /// Moves the characters behind the first thirty-two into an empty leaf.
-    pub fn move_half(&mut self, to: &mut Leaf)
-        requires many { 32 ≤ length self.old }
+    /// Moves the characters from an index on into an empty leaf.
+    pub fn move_tail(&mut self, at: u32, to: &mut Leaf)
+        requires within { at ≤ length self.old }
         requires empty { to.old ≡ [] }
-        ensures left { self.new ≡ take 32 self.old }
-        ensures right { to.new ≡ drop 32 self.old }
+        ensures left { self.new ≡ take at self.old }
+        ensures right { to.new ≡ drop at self.old }
     {
-        let Ok(()) = to.chars.extend_from_slice(&self.chars[HALF..]) else {
+        let Ok(()) = to.chars.extend_from_slice(&self.chars[at as usize..]) else {
             unreachable!()
         };
-        self.chars.truncate(HALF);
+        self.chars.truncate(at as usize);
     }
 
     /// How much room the characters take.

@@ -13,9 +13,8 @@ ghost use Rattle.operation_runs.specs.Runs.{run_ops, RunFits};
 
 use crate::branch::Branch;
 use crate::deletions::first_deletions;
-use crate::leaf::HALF;
 use crate::spares::Spares;
-use crate::typed::{put_typed, typed_length};
+use crate::typed::{MOST_TYPED, put_typed, typed_length};
 use ew_model::NoMem;
 use ew_model::text_op::TextOp;
 use operation_runs::{OperationRun, OperationRuns};
@@ -80,7 +79,7 @@ fn plant(root: &mut Option<Branch>, ops: &[TextOp], spares: &mut Spares) -> Resu
     Ok(())
 }
 
-/// Puts a new root above the old one and its second half, where it was cut in two.
+/// Puts a new root above the old one and its second part, where it was cut in two.
 fn raise(root: &mut Option<Branch>, right: Option<Branch>, spares: &mut Spares)
     requires root { IsRooted root.old }
     requires like { IsLike (depth_of root.old) right }
@@ -252,7 +251,7 @@ pub fn change_by_runs(
     ensures root { IsRoot root.new }
 {
     let mut spares = Spares::new(alloc);
-    let mut some = Vec::with_capacity(alloc, HALF)?;
+    let mut some = Vec::with_capacity(alloc, MOST_TYPED)?;
     let mut reader = ops.reader();
     while let Some(run) = reader.next_run() {
         change_by_run(root, run, &mut some, &mut spares)?;
@@ -308,7 +307,7 @@ fn insert_run(
     let count = run.count();
     let mut from = 0;
     while from < count {
-        let many = (count - from).min(HALF as u32);
+        let many = (count - from).min(MOST_TYPED as u32);
         set_to(some, run.part(from, from + many))?;
         insert_typed(root, at + from, some, spares)?;
         from += many;

@@ -3,8 +3,11 @@
 ghost use Rattle.std.specs.Prelude.{◌≡◌, ◌+◌, ◌<◌, ◌≤◌, [], ◌∷◌, IsTrue, IfSome, length, take};
 ghost use Rattle.rope.specs.Typed.{typed, with_more, IsTyped};
 
-use crate::leaf::{HALF, Leaf};
+use crate::leaf::Leaf;
 use ew_model::text_op::TextOp;
+
+/// How many characters go in by one way down at most.
+pub const MOST_TYPED: usize = 32;
 
 /// How many of the operations, of which the first is an insertion, insert one behind another: thirty-two at most.
 pub fn typed_length(at: u32, ops: &[TextOp]) -> usize
@@ -30,7 +33,7 @@ fn looked_at(ops: &[TextOp]) -> usize
     ensures within { result ≤ length ops.now }
     ensures most { result ≤ 32 }
 {
-    ops.len().min(HALF)
+    ops.len().min(MOST_TYPED)
 }
 
 /// Whether an operation is an insertion at a place so many behind the first.

@@ -3,4 +3,4 @@ use Rattle.rope.specs.Nodes.{all_chars}
 use Rattle.rope.proofs.kids.kid_open.Given as goal
 
 abbrev pub invariant-loop-k : goal.invariant-loop-k
-invariant-loop-k l = (length (all_chars (take l.k l.kids)) + l.rest ≡ l.at) × (0 < l.k → 0 < l.rest)
+invariant-loop-k l = (length (all_chars (take l.k l.kids)) + l.rest ≡ l.at) × (l.k < length l.kids)
