@@ -38,8 +38,7 @@ pub fn changes_from<L: Ledger>(
     let base = replica.length_at(cut);
     let mut state = State::base(alloc, base)?;
     let walked = walk(alloc, graph, &mut state, cut, count, steps)?;
-    let ops = walked.ops.to_vec(alloc)?;
-    Ok(ops)
+    Ok(walked.ops)
 }
 
 /// What the events from number `count` on do to the text, as `changes_from` says. No walk is made where these are just the events of the

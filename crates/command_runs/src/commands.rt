@@ -27,7 +27,7 @@ use ew_model::id::Id;
 use ew_model::limits::Limits;
 use ew_model::steps::Steps;
 use ew_outside::{Fault, Shelf};
-use history_view::{check_text, heads_text, log_text, marks_text, replay_text};
+use history_view::{check_text, heads_text, into_replay_text, log_text, marks_text};
 use opened_files::load::{Loaded, load_whole};
 use opened_files::open::{Found, open};
 use opened_files::reply::Reply;
@@ -150,7 +150,7 @@ fn list<L: Ledger>(
         Listing::Past(version) => listed(past_text(version, &replica, steps)),
         Listing::Heads => Ok(heads_text(alloc, &replica)?),
         Listing::Log => Ok(log_text(alloc, &replica)?),
-        Listing::Replay => Ok(replay_text(alloc, replica, steps)?),
+        Listing::Replay => Ok(into_replay_text(alloc, replica, steps)?),
         Listing::Numbers => Ok(check_text(alloc, &replica)?),
         Listing::Question => Ok(question_bytes(alloc, &replica)?),
         Listing::Marks => Ok(marks_text(alloc, &replica)?),

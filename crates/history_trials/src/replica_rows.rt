@@ -8,6 +8,7 @@ use ew_model::event::{Event, Op};
 use ew_model::limits::Limits;
 use ew_model::name::Name;
 use ew_model::steps::Steps;
+use history_view::replay_text;
 use replica::{EditFault, LoadFault, Replica, VersionFault};
 use std::alloc::Global;
 use std::fmt::Write;
@@ -79,6 +80,7 @@ fn change<L: Ledger>(
         "undo" => undo_from(alloc, replica, rest, steps),
         "load" => load(alloc, replica, rest, steps),
         "at" => text_at(alloc, replica, rest, steps),
+        "replay" => replay(alloc, replica, steps),
         "back" => Ok(show::yes_or_no(alloc, is_read_back(alloc, replica, steps)?)?),
         _ => ask(alloc, replica, verb, rest),
     }
@@ -274,6 +276,21 @@ fn text_at<L: Ledger>(
         Err(VersionFault::Unknown(id)) => Ok(format!(in alloc; "unknown {id}")?),
         Err(VersionFault::OutOfMemory) => Err(Fault::OutOfMemory),
     }
+}
+
+/// The replay, its lines one behind the other.
+fn replay<L: Ledger>(
+    alloc: Global,
+    replica: &Replica,
+    steps: &mut Steps<L>,
+) -> Result<String, Fault> {
+    let lines = show::bytes(alloc, &replay_text(alloc, replica, steps)?)?;
+    let mut out = String::new(alloc);
+    for word in lines.split_whitespace() {
+        show::space(&mut out)?;
+        out.push_str(word)?;
+    }
+    Ok(out)
 }
 
 /// The text, how long it is after each event, the positions of the heads, and their ids.

@@ -8,4 +8,4 @@ pub mod replays;
 
 pub use lines::push_number;
 pub use listings::{check_text, heads_text, log_text, marks_text};
-pub use replays::replay_text;
+pub use replays::{into_replay_text, replay_text};

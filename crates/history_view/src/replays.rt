@@ -13,11 +13,24 @@ use operation_runs::{OperationRun, OperationRuns};
 use replica::Replica;
 use std::alloc::Global;
 use std::sync::ledger::Ledger;
-use transform::replay;
+use transform::replay_runs;
 
 /// The replay: what each event in the history's order does to the text of those before it, on a line, as `ins AT CH`, `del AT`
-/// or `nothing`. The replica is let go before the text is made. The steps taken are at most the touches of the history.
+/// or `nothing`. The steps taken are at most the touches of the history.
 pub fn replay_text<L: Ledger>(
+    alloc: Global,
+    replica: &Replica,
+    steps: &mut Steps<L>,
+) -> Result<Vec<u8>, NoMem>
+    ensures text { IfOk result (λ text. text.items ≡ model.replay_text replica.now.held) }
+    ensures touches { steps.new ≤ steps.old + touches replica.now.held 0 }
+{
+    let ops = replay_runs(alloc, replica.graph(), steps)?;
+    changes_text(alloc, &ops)
+}
+
+/// The replay of a replica that isn't needed any more: it is let go before the text is made.
+pub fn into_replay_text<L: Ledger>(
     alloc: Global,
     replica: Replica,
     steps: &mut Steps<L>,
@@ -40,7 +53,7 @@ fn into_operations<L: Ledger>(
 {
     match replica.into_operations() {
         Ok(ops) => Ok(ops),
-        Err(replica) => replay(alloc, replica.graph(), steps),
+        Err(replica) => replay_runs(alloc, replica.graph(), steps),
     }
 }
 

@@ -16,6 +16,7 @@ use Rattle.replica.specs.declared.length_runs.Course.TheVariants.{Rises, Falls, 
 use Rattle.replica.specs.LengthRuns.{course_of, course_length, course_lengths, CourseFits, AllTake}
 use Rattle.replica.specs.Lengths.{lengths_through}
 use Rattle.replica.proofs.LengthRunLaws.{fits_both, length_further}
+use Rattle.replica.proofs.RoundTexts.{through_joined}
 
 -- With the lengths so far, and those that the operations left lead through from a text of this length on, all are there; and the
 -- operations end at this text.
@@ -158,11 +159,6 @@ nothings_take (suc n) = (refl, nothings_take n)
 pub run_begins : (len : ℕ) (lengths : List ℕ) (ops : List TextOp) (text : List ℕ) → length text ≡ len → AllFit text ops → AllStayShort text ops → IsOnTheWay len lengths ops (lengths ++ lengths_through text ops) (changed_by_all ops text)
 run_begins len lengths ops text long fit short = record { now = text; long = long; fit = fit; short = short; rest = refl; ends = refl }
 
--- lengths through operations and others behind them
-lengths_joined : (xs ys : List TextOp) (text : List ℕ) → lengths_through text (xs ++ ys) ≡ lengths_through text xs ++ lengths_through (changed_by_all xs text) ys
-lengths_joined [] ys text = refl
-lengths_joined (x ∷ xs) ys text = ap (λ ls. length (changed_by x text) ∷ ls) (lengths_joined xs ys (changed_by x text))
-
 -- a whole run further
 pub run_further : (len next : ℕ) (lengths more all end : List ℕ) (ops left : List TextOp) (h : IsOnTheWay len lengths (ops ++ left) all end) → next ≡ length (changed_by_all ops h.now) → more ≡ lengths ++ lengths_through h.now ops → IsOnTheWay next more left all end
 run_further len next lengths more all end ops left h long are = record {
@@ -170,7 +166,7 @@ run_further len next lengths more all end ops left h long are = record {
   long = sym long;
   fit = (fit_front ops left h.now h.fit).1;
   short = (short_front ops left h.now h.short).1;
-  rest = ap (λ ls. ls ++ lengths_through (changed_by_all ops h.now) left) are ∙ append_assoc lengths (lengths_through h.now ops) (lengths_through (changed_by_all ops h.now) left) ∙ ap (λ ls. lengths ++ ls) (sym (lengths_joined ops left h.now)) ∙ h.rest;
+  rest = ap (λ ls. ls ++ lengths_through (changed_by_all ops h.now) left) are ∙ append_assoc lengths (lengths_through h.now ops) (lengths_through (changed_by_all ops h.now) left) ∙ ap (λ ls. lengths ++ ls) (sym (through_joined ops left h.now)) ∙ h.rest;
   ends = sym (change_both ops left h.now) ∙ h.ends;
 }
 

@@ -28,7 +28,8 @@ pub fit_behind : (xs ys : List TextOp) (text : List ℕ) → AllFit text (xs ++ 
 fit_behind [] ys text h = h
 fit_behind (x ∷ xs) ys text h = fit_behind xs ys (changed_by x text) h.1
 
-through_joined : (xs ys : List TextOp) (text : List ℕ) → lengths_through text (xs ++ ys) ≡ lengths_through text xs ++ lengths_through (changed_by_all xs text) ys
+-- lengths through operations and others behind them
+pub through_joined : (xs ys : List TextOp) (text : List ℕ) → lengths_through text (xs ++ ys) ≡ lengths_through text xs ++ lengths_through (changed_by_all xs text) ys
 through_joined [] ys text = refl
 through_joined (x ∷ xs) ys text = ap (λ ls. length (changed_by x text) ∷ ls) (through_joined xs ys (changed_by x text))
 

@@ -5,6 +5,7 @@ ghost use Rattle.std.specs.List.{AllWithin};
 ghost use Rattle.replica.specs.LengthRuns.{course_length, course_lengths, CourseFits, lengths_in, AreLengthRuns, LastEndsAt, AreGrown};
 
 use ew_model::NoMem;
+use sorted_search::count_passing;
 use std::alloc::Global;
 use std::marker::Model;
 
@@ -125,7 +126,7 @@ fn count_below(runs: &[LengthRun], end: u32) -> usize
     ensures below { AllWithin (λ r. r.start < end) runs.now 0 result }
     ensures above { AllWithin (λ r. end ≤ r.start) runs.now result (length runs.now) }
 {
-    runs.partition_point(|run| run.start < end)
+    count_passing(runs, |run| run.start < end)
 }
 
 /// The length at a place.

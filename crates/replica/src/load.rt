@@ -24,7 +24,7 @@ use ew_model::verdict::Verdict;
 use operation_runs::OperationRuns;
 use std::alloc::Global;
 use std::sync::ledger::Ledger;
-use transform::{State, Walk, walk};
+use transform::{State, WalkedRuns, walk_runs};
 
 /// The text of the events of a graph, and how long it is after each, or, as `walk_good` tells it, the first of all given events
 /// that isn't good.
@@ -82,11 +82,11 @@ fn walk_all<L: Ledger>(
     graph: &Graph,
     emit_from: u32,
     steps: &mut Steps<L>,
-) -> Result<Walk, NoMem>
+) -> Result<WalkedRuns, NoMem>
     ensures stopped { IfOk result (λ w. option_map bad_at w.stopped ≡ first_bad graph.now) }
     ensures ops { IfOk result (λ w. w.ops ≡ drop emit_from (operations (walked_of graph.now w.stopped))) }
     ensures touches { steps.new ≤ steps.old + touches graph.now 0 }
 {
     let mut state = State::base(alloc, 0)?;
-    walk(alloc, graph, &mut state, 0, emit_from, steps)
+    walk_runs(alloc, graph, &mut state, 0, emit_from, steps)
 }

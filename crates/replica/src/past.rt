@@ -15,7 +15,7 @@ use ew_model::steps::Steps;
 use rope::Rope;
 use std::alloc::Global;
 use std::sync::ledger::Ledger;
-use transform::replay;
+use transform::replay_runs;
 
 /// The text of a version, in UTF-8, or the first of its ids that isn't held. It is made from the version's own events
 /// alone.
@@ -46,7 +46,7 @@ fn text_of<L: Ledger>(alloc: Global, graph: &Graph, steps: &mut Steps<L>) -> Res
     ensures text { IfOk result (λ bytes. bytes.items ≡ encode_utf8_all (model.text_of graph.now)) }
     ensures touches { steps.new ≤ steps.old + touches graph.now 0 }
 {
-    let ops = replay(alloc, graph, steps)?;
+    let ops = replay_runs(alloc, graph, steps)?;
     let text = Rope::written(alloc, &ops)?;
     let mut bytes = Vec::new(alloc);
     text.write_to(&mut bytes)?;

@@ -28,7 +28,7 @@ use ew_model::steps::Steps;
 use operation_runs::OperationRuns;
 use std::alloc::Global;
 use std::sync::ledger::Ledger;
-use transform::{State, Walk, walk};
+use transform::{State, WalkedRuns, walk_runs};
 use waiting_pool::Pool;
 
 /// What there is when a round begins, besides the events held: the limits, the events that wait, how far receiving has come, and the
@@ -53,7 +53,7 @@ pub struct Rounded {
 #[derive(Drop)]
 struct Reached {
     desk: Desk,
-    walked: Walk,
+    walked: WalkedRuns,
     hold: Hold,
 }
 
@@ -89,7 +89,7 @@ pub fn round<L: Ledger>(
         return Err(fault);
     }
     graph.keep(hold);
-    let Walk { ops, stopped } = walked;
+    let WalkedRuns { ops, stopped } = walked;
     Ok(Rounded {
         desk,
         ops,
@@ -162,7 +162,7 @@ fn reach_all<L: Ledger>(
 }
 
 /// Holds the events before the one that a walk stopped at, and answers that one. Out of memory, no more are held than before.
-fn reach_stop(intake: Intake<'_>, graph: &mut Graph, walked: Walk) -> Result<Reached, NoMem>
+fn reach_stop(intake: Intake<'_>, graph: &mut Graph, walked: WalkedRuns) -> Result<Reached, NoMem>
     requires desk { IsDesk intake.limits.now graph.old intake.events.now intake.pool.now intake.progress.now }
     requires few { length intake.events.now < 2 ^ 32 }
     ensures leads { IfOk result (λ r. (b : Bool) × LeadsTo intake.entry.limits.now walked.stopped (desk_at graph.old (events_of intake.entry.pool.now) intake.entry.events.now intake.entry.progress.now) (desk_as graph.new intake.entry.events.now r.desk) intake.entry.progress.now r.desk.progress b) }
@@ -198,7 +198,7 @@ fn look<L: Ledger>(
     lengths: &LengthRuns,
     desk: &mut Desk,
     steps: &mut Steps<L>,
-) -> Result<Walk, NoMem>
+) -> Result<WalkedRuns, NoMem>
     requires desk { IsDesk intake.limits.now graph.old intake.events.now desk.old.pool desk.old.progress }
     requires good { IsGood graph.old }
     requires lengths { lengths.now ≡ prefix_lengths graph.old }
@@ -215,5 +215,5 @@ fn look<L: Ledger>(
     judge_all(intake.limits, None, graph, desk, intake.events)?;
     let cut = graph.latest_cut(count);
     let mut state = State::base(alloc, length_below(lengths, cut))?;
-    walk(alloc, graph, &mut state, cut, count, steps)
+    walk_runs(alloc, graph, &mut state, cut, count, steps)
 }

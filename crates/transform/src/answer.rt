@@ -1,13 +1,21 @@
 //! What walks answer.
 
+use ew_model::text_op::TextOp;
 use operation_runs::OperationRuns;
 
 /// What a walk answers.
 #[derive(Drop)]
 pub struct Walk {
     /// What each walked event does to the text of the events before it, one operation for each.
-    pub ops: OperationRuns,
+    pub ops: Vec<TextOp>,
     /// The position of the first event whose index is out of range, and the length of the text at its parents.
+    pub stopped: Option<(u32, u32)>,
+}
+
+/// The same, with the operations in runs.
+#[derive(Drop)]
+pub struct WalkedRuns {
+    pub ops: OperationRuns,
     pub stopped: Option<(u32, u32)>,
 }
 

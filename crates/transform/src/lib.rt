@@ -13,7 +13,7 @@ mod turn;
 pub mod walking;
 
 pub use advance_retreat::State;
-pub use answer::{Placed, Walk};
+pub use answer::{Placed, Walk, WalkedRuns};
 pub use placing::placed;
-pub use replaying::replay;
-pub use walking::walk;
+pub use replaying::{replay, replay_runs};
+pub use walking::{walk, walk_runs};

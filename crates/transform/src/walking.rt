@@ -11,7 +11,7 @@ ghost use Rattle.transform.specs.Reaching.{WalkedTo};
 ghost use Rattle.transform.specs.Running.{TurnsTo, emitted_to, judged_to, walked_to};
 ghost use Rattle.transform.specs.Walking.{bad_at, cut_left, judged_of, walked_of, StandsBehind};
 
-use crate::answer::Walk;
+use crate::answer::{Walk, WalkedRuns};
 use crate::cut::pass_cut;
 use crate::run::{Turns, apply_run};
 use crate::turn::reach;
@@ -47,6 +47,30 @@ pub fn walk<L: Ledger>(
     requires good { IsGood (take from_cut graph.now) }
     requires base { StandsFor state.old (base_at graph.now from_cut) [] [] }
     ensures stopped { IfOk result (λ w. option_map bad_at w.stopped ≡ first_bad graph.now) }
+    ensures ops { IfOk result (λ w. w.ops.items ≡ drop emit_from (operations (walked_of graph.now w.stopped))) }
+    ensures touches { IfOk result (λ w. steps.new ≡ steps.old + touches (judged_of graph.now w.stopped) from_cut) }
+    ensures most { steps.new ≤ steps.old + touches graph.now from_cut }
+    ensures state { IfOk result (λ w. StandsBehind graph.now (cut_left graph.now from_cut w.stopped) (walked_of graph.now w.stopped) state.new) }
+{
+    let WalkedRuns { ops, stopped } = walk_runs(alloc, graph, state, from_cut, emit_from, steps)?;
+    let ops = ops.to_vec(alloc)?;
+    Ok(Walk { ops, stopped })
+}
+
+/// The same walk, with its operations in runs.
+pub fn walk_runs<L: Ledger>(
+    alloc: Global,
+    graph: &Graph,
+    state: &mut State,
+    from_cut: u32,
+    emit_from: u32,
+    steps: &mut Steps<L>,
+) -> Result<WalkedRuns, NoMem>
+    requires cut { is_critical graph.now from_cut ≡ true }
+    requires emit { from_cut ≤ emit_from }
+    requires good { IsGood (take from_cut graph.now) }
+    requires base { StandsFor state.old (base_at graph.now from_cut) [] [] }
+    ensures stopped { IfOk result (λ w. option_map bad_at w.stopped ≡ first_bad graph.now) }
     ensures ops { IfOk result (λ w. w.ops ≡ drop emit_from (operations (walked_of graph.now w.stopped))) }
     ensures touches { IfOk result (λ w. steps.new ≡ steps.old + touches (judged_of graph.now w.stopped) from_cut) }
     ensures most { steps.new ≤ steps.old + touches graph.now from_cut }
@@ -64,14 +88,14 @@ pub fn walk<L: Ledger>(
         match turns {
             Turns::To(position) => next = position,
             Turns::OutOfRange(position, len) => {
-                return Ok(Walk {
+                return Ok(WalkedRuns {
                     ops,
                     stopped: Some((position, len)),
                 });
             }
         }
     }
-    Ok(Walk { ops, stopped: None })
+    Ok(WalkedRuns { ops, stopped: None })
 }
 
 /// Walks over the event at a position, where those before it were walked, and over others that come behind it in its run. `line` is the

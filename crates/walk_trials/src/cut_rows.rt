@@ -98,7 +98,7 @@ fn walked<L: Ledger>(
         return Err(Fault::Unreadable);
     }
     let walk = walk(alloc, &gathered.graph, &mut state, cut, from, steps)?;
-    let mut out = show::operations(alloc, &walk.ops.to_vec(alloc)?)?;
+    let mut out = show::operations(alloc, &walk.ops)?;
     if let Some((position, len)) = walk.stopped {
         show::space(&mut out)?;
         write!(out, "stopped {position} past {len}")?;

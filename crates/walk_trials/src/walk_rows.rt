@@ -67,7 +67,7 @@ fn replayed<L: Ledger>(
         return Err(Fault::Unreadable);
     }
     let ops = replay(alloc, graph, steps)?;
-    Ok(show::operations(alloc, &ops.to_vec(alloc)?)?)
+    Ok(show::operations(alloc, &ops)?)
 }
 
 /// More events never come.
@@ -102,7 +102,7 @@ fn walked<L: Ledger>(
 ) -> Result<String, Fault> {
     let mut state = State::base(alloc, 0)?;
     let walk = walk_over(alloc, graph, &mut state, from, steps)?;
-    let mut out = show::operations(alloc, &walk.ops.to_vec(alloc)?)?;
+    let mut out = show::operations(alloc, &walk.ops)?;
     if let Some((position, len)) = walk.stopped {
         show::space(&mut out)?;
         write!(out, "stopped {position} past {len}")?;

@@ -1,4 +1,4 @@
-use Rattle.std.proofs.Common.{◌∙◌, arith}
+use Rattle.std.proofs.Common.{arith}
 use Rattle.changes.proofs.LaterTexts.{all_judged, cut_base, cut_critical, cut_good, cut_low, cut_touches, later_fit, later_operations, later_text}
 use Rattle.changes.proofs.changes_from.Goals as goal
 
@@ -22,23 +22,20 @@ walk-requires-clause-base g c =
 
 pub returns-clause-changes : goal.returns-clause-changes
 returns-clause-changes g c =
-    c.in_ok-ops.ensures
-    ∙ later_operations c.args.replica.now.held c.graph-graph.result.now c.in_ok-walked.walked.stopped c.graph-graph.ensures.graph c.graph-graph.ensures.kept.orderly.good c.in_ok-walked.ensures.stopped
-    c.args.count c.in_ok-walked.walked.ops c.in_ok-walked.ensures.ops
+    later_operations c.args.replica.now.held c.graph-graph.result.now c.in_ok-walked.walked.stopped c.graph-graph.ensures.graph c.graph-graph.ensures.kept.orderly.good c.in_ok-walked.ensures.stopped
+    c.args.count c.in_ok-walked.walked.ops.items c.in_ok-walked.ensures.ops
 
 pub returns-clause-fit : goal.returns-clause-fit
 returns-clause-fit g c =
-    later_fit c.args.replica.now.held c.args.count c.in_ok-ops.ops.items c.graph-graph.ensures.kept.orderly.good
-    (c.in_ok-ops.ensures
-    ∙ later_operations c.args.replica.now.held c.graph-graph.result.now c.in_ok-walked.walked.stopped c.graph-graph.ensures.graph c.graph-graph.ensures.kept.orderly.good c.in_ok-walked.ensures.stopped
-    c.args.count c.in_ok-walked.walked.ops c.in_ok-walked.ensures.ops)
+    later_fit c.args.replica.now.held c.args.count c.in_ok-walked.walked.ops.items c.graph-graph.ensures.kept.orderly.good
+    (later_operations c.args.replica.now.held c.graph-graph.result.now c.in_ok-walked.walked.stopped c.graph-graph.ensures.graph c.graph-graph.ensures.kept.orderly.good c.in_ok-walked.ensures.stopped
+    c.args.count c.in_ok-walked.walked.ops.items c.in_ok-walked.ensures.ops)
 
 pub returns-clause-text : goal.returns-clause-text
 returns-clause-text g c =
-    later_text c.args.replica.now.held c.args.count c.in_ok-ops.ops.items c.graph-graph.ensures.kept.orderly.good
-    (c.in_ok-ops.ensures
-    ∙ later_operations c.args.replica.now.held c.graph-graph.result.now c.in_ok-walked.walked.stopped c.graph-graph.ensures.graph c.graph-graph.ensures.kept.orderly.good c.in_ok-walked.ensures.stopped
-    c.args.count c.in_ok-walked.walked.ops c.in_ok-walked.ensures.ops)
+    later_text c.args.replica.now.held c.args.count c.in_ok-walked.walked.ops.items c.graph-graph.ensures.kept.orderly.good
+    (later_operations c.args.replica.now.held c.graph-graph.result.now c.in_ok-walked.walked.stopped c.graph-graph.ensures.graph c.graph-graph.ensures.kept.orderly.good c.in_ok-walked.ensures.stopped
+    c.args.count c.in_ok-walked.walked.ops.items c.in_ok-walked.ensures.ops)
 
 pub returns-clause-touches : goal.returns-clause-touches
 returns-clause-touches g c = omega (

@@ -3,7 +3,7 @@ use Rattle.ew_model.specs.Touches.{touches}
 use Rattle.transform.specs.Running.{TurnsTo, emitted_to, judged_to, walked_to}
 use Rattle.transform.proofs.CutFronts.{critical_within}
 use Rattle.transform.proofs.Loops.{starts, starts_empty, starts_untouched, stops, ends, base_length}
-use Rattle.transform.proofs.walking.walk.Goals as goal
+use Rattle.transform.proofs.walking.walk_runs.Goals as goal
 
 pub loop-next-init : goal.loop-next-init
 loop-next-init g c =

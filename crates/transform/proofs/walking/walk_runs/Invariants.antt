@@ -2,7 +2,7 @@ use Rattle.std.proofs.Common.{◌≡◌, ◌+◌, ◌-◌, ◌≤◌, take, leng
 use Rattle.ew_model.specs.Touches.{touches}
 use Rattle.transform.specs.Reaching.{WalkedTo}
 use Rattle.transform.specs.Running.{emitted_to}
-use Rattle.transform.proofs.walking.walk.Given as goal
+use Rattle.transform.proofs.walking.walk_runs.Given as goal
 
 abbrev pub invariant-loop-next : goal.invariant-loop-next
 invariant-loop-next g l = record {
