@@ -6,7 +6,8 @@ ghost use Rattle.std.specs.Fn.{ComputesKey};
 ghost use Rattle.std.specs.List.Sorted.{IsPartitionedBy, IsPartitionPoint};
 
 /// How many items pass a test, where each that passes stands before each that fails. It answers what `partition_point` of slices
-/// answers. Where the search goes on is found by a sum and not by a branch, which a processor would often guess wrong.
+/// answers. After the first look, where the search goes on is found by a sum and not by a branch, which a processor would often
+/// guess wrong.
 pub fn count_passing<T, P: FnMut(&T) -> bool>(items: &[T], mut passes: P) -> usize
     requires { P.IsAlwaysCallable passes }
     ensures bound { result ≤ length items.now }

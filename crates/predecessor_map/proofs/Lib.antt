@@ -1,0 +1,5 @@
+mod BlockLaws
+mod ChangeLaws
+mod EntryLaws
+mod LastLaws
+mod TreeRanges

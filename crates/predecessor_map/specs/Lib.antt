@@ -1,0 +1,5 @@
+pub mod Labels
+pub mod Entries
+pub mod Blocks
+pub mod Tables
+pub mod Maps
