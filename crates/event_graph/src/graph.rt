@@ -54,9 +54,6 @@ use smallvec::SmallVec;
 use std::alloc::Global;
 use std::marker::Model;
 
-/// A walk takes a chain through so many runs at once at most.
-const MOST_RUNS: u32 = 32;
-
 /// A history of events, each of which was judged good when it came. Contracts see the list of its events, the oldest
 /// first. A position is a place in that list, from 0; a parameter that is called `lv`, for local version, is one too.
 pub struct Graph {
@@ -620,54 +617,24 @@ impl Parentage for Graph {
         self.events.parents_at(lv)
     }
 
+    fn chain_start(&self, lv: u32) -> u32 {
+        self.events.chain_start(lv)
+    }
+
     fn chain_to(&self, lv: u32) -> Option<Chain<'_>> {
-        let chain = self.chain_in_run(lv);
-        match event_before(&chain) {
-            Some(before) => Some(self.chain_through_runs(before)),
-            None => Some(chain),
-        }
+        Some(self.chain_in_runs(lv))
     }
 }
 
 impl Graph {
-    /// A chain to the event at a position: that in its run, and those in the runs before it where they go on from one another, but
-    /// in no more than so many of them. It stands apart, since most chains aren't looked at so far.
-    #[inline(never)]
-    fn chain_through_runs(&self, lv: u32) -> Chain<'_>
-        requires { lv < length (parent_positions self.now) }
-        ensures chain { IsChain (parent_positions self.now) result.first lv }
-        ensures value { result.parents.now ≡ parents_at (parent_positions self.now) result.first }
-        ensures lower { AreParents result.first result.parents.now }
-    {
-        let mut chain = self.chain_in_run(lv);
-        for _ in 0..MOST_RUNS {
-            let Some(before) = event_before(&chain) else {
-                break;
-            };
-            chain = self.chain_in_run(before);
-        }
-        chain
-    }
-
-    /// The chain to the event at a position in its run.
-    fn chain_in_run(&self, lv: u32) -> Chain<'_>
+    /// A chain to the event at a position, through its run and through those before it.
+    fn chain_in_runs(&self, lv: u32) -> Chain<'_>
         requires { lv < length (parent_positions self.now) }
         ensures chain { IsChain (parent_positions self.now) result.first lv }
         ensures value { result.parents.now ≡ parents_at (parent_positions self.now) result.first }
         ensures lower { AreParents result.first result.parents.now }
     {
         self.events.chain_at(lv)
-    }
-}
-
-/// The event before a chain, where the chain goes on from it: it is the only parent of the first event.
-fn event_before(chain: &Chain<'_>) -> Option<u32>
-    ensures before { IfSome result (λ p. chain.now.first ≡ p + 1) }
-    ensures only { IfSome result (λ p. chain.now.parents.now ≡ p ∷ []) }
-{
-    match chain.parents {
-        [parent] if chain.first.checked_sub(1) == Some(*parent) => Some(*parent),
-        _ => None,
     }
 }
 

@@ -9,3 +9,4 @@ pub mod Rests
 pub mod RunEvents
 pub mod RunLines
 pub mod StepOps
+pub mod FollowedChains

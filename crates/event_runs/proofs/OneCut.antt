@@ -43,7 +43,7 @@ none_longer position r s (next ∷ runs) rest m run e l =
     let many = length-take-le n s (omega (arith, l)) in
     m.1 (subst (IsRun position) (sym front) (run_front position (take n s) (drop n s) (subst (IsRun position) (sym (take-append-drop n s)) run) (omega (arith, many))))
 
-order : (m n : ℕ) → (m < n) ⊎ ((n < m) ⊎ (m ≡ n))
+pub order : (m n : ℕ) → (m < n) ⊎ ((n < m) ⊎ (m ≡ n))
 order zero zero = inr (inr refl)
 order zero (suc n) = inl (omega arith)
 order (suc m) zero = inr (inl (omega arith))

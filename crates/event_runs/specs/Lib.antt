@@ -5,3 +5,4 @@ pub mod Rests
 pub mod RunOps
 pub mod Runs
 pub mod Steps
+pub mod Following

@@ -1,6 +1,7 @@
 //! What the events of a history do, and on which events: their operations and parents, by position, kept in runs.
 #![tactic(auto)]
 
+mod following;
 mod lists;
 pub mod ops;
 mod runs;

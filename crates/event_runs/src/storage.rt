@@ -10,6 +10,7 @@ ghost use Rattle.event_runs.specs.Runs.{AreRunsOf, IsRunCount, IsRunEnd, IsRunSt
 ghost use Rattle.frontier.specs.Chains.{IsChain};
 ghost use Rattle.operation_runs.specs.Runs.{run_ops, RunFits};
 
+use crate::following::first_followed;
 use crate::lists::NumberLists;
 use crate::ops::RunOps;
 use crate::runs::{Run, find_run, find_run_near, keep_below, last_takes, lengthen_last_by, put};
@@ -255,20 +256,20 @@ impl EventRuns {
         }
     }
 
-    /// The chain to the event at a position in its run.
+    /// A chain to the event at a position: through its run, and through the runs before it as far as they follow one another, and through
+    /// thirty-two runs at most.
     pub fn chain_at(&self, lv: u32) -> Chain<'_>
         requires { lv < length self.now }
         ensures chain { IsChain (parents_in self.now) result.first lv }
         ensures value { result.parents.now ≡ parents_at (parents_in self.now) result.first }
         ensures lower { AreParents result.first result.parents.now }
-        ensures start { IsRunStart self.now lv result.first }
-        ensures only { (start : ℕ) → IsRunStart self.now lv start → start ≡ result.first }
     {
         let _count = self.count;
-        let place = find_run(&self.runs, &self.starts, lv);
+        let last = find_run(&self.runs, &self.starts, lv);
+        let first = first_followed(&self.runs, &self.parents, last);
         Chain {
-            first: self.runs[place].start,
-            parents: self.parents.get(place),
+            first: self.runs[first].start,
+            parents: self.parents.get(first),
         }
     }
 
@@ -319,6 +320,17 @@ impl Parentage for EventRuns {
 
     fn parents_of(&self, lv: u32) -> SmallVec<u32, 16> {
         self.parents_at(lv)
+    }
+
+    /// The position of the first event in the run of an event.
+    fn chain_start(&self, lv: u32) -> u32
+        requires { lv < length (parents_in self.now) }
+        ensures chain { IsChain (parents_in self.now) result lv }
+        ensures start { IsRunStart self.now lv result }
+        ensures only { (start : ℕ) → IsRunStart self.now lv start → start ≡ result }
+    {
+        let mut near = 0;
+        self.chain_start_near(lv, &mut near)
     }
 
     fn chain_to(&self, lv: u32) -> Option<Chain<'_>> {

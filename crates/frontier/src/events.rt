@@ -31,7 +31,18 @@ pub trait Parentage {
         ensures value { result.items ≡ parents_at (parents self.now) lv }
         ensures lower { AreParents lv result.items };
 
-    /// A chain to the event at a position, where chains are kept. A walk goes on by that event alone where there is none.
+    /// The position of an event from which a chain goes to the one at this position: each event behind the first has exactly the one
+    /// before it as its parents. Which chain it is isn't promised. Where none is known, it is the event alone, and the answer its own
+    /// position.
+    fn chain_start(&self, lv: u32) -> u32
+        requires { lv < length (parents self.now) }
+        ensures { IsChain (parents self.now) result lv }
+    {
+        lv
+    }
+
+    /// A chain to the event at a position, or none. It may begin anywhere. A walk that is given none goes on by that event alone: what
+    /// it answers doesn't depend on the chains, only how much it has to do.
     fn chain_to(&self, lv: u32) -> Option<Chain<'_>>
         requires { lv < length (parents self.now) }
         ensures chain { IfSome result (λ chain. IsChain (parents self.now) chain.first lv) }

@@ -2,6 +2,7 @@
 
 use crate::kept::Kept;
 use event_runs::EventRuns;
+use frontier::Parentage;
 use std::alloc::Global;
 use trial_rows::fault::Fault;
 use trial_rows::report::Report;
@@ -58,7 +59,7 @@ fn runs(alloc: Global, kept: &Kept) -> Result<String, Fault> {
 fn starts(alloc: Global, events: &EventRuns) -> Result<String, Fault> {
     let mut starts = Vec::new(alloc);
     for position in 0..events.count() {
-        starts.push(events.chain_at(position).first)?;
+        starts.push(events.chain_start(position))?;
     }
     Ok(show::numbers(alloc, &starts)?)
 }

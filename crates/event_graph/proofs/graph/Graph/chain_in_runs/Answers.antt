@@ -4,7 +4,7 @@ use Rattle.ew_model.specs.Positions.{parents_at}
 use Rattle.frontier.specs.Chains.{IsChain}
 use Rattle.event_graph.specs.Keeping.{IsKeptOf}
 use Rattle.event_graph.proofs.Kept.{length_events, length_parents, parents_are}
-use Rattle.event_graph.proofs.graph.Graph.chain_in_run.Goals as goal
+use Rattle.event_graph.proofs.graph.Graph.chain_in_runs.Goals as goal
 
 pub chain_at-requires : goal.chain_at-requires
 chain_at-requires c =
