@@ -182,7 +182,8 @@ pub fn insert_in_leaf(
     Ok(Some(Branch::leaf(tail)))
 }
 
-/// Puts the characters of typed operations into a leaf that has no room for them, and whose second part goes into the empty one.
+/// Cuts a leaf that has no room for the characters of typed operations in two, or leaves it whole where they come behind it, and puts
+/// them into one of the parts. The second part goes into the empty leaf.
 fn insert_cutting(leaf: &mut Leaf, at: u32, ops: &[TextOp], tail: &mut Leaf)
     requires at_most { at ≤ length leaf.old }
     requires over { 64 < length leaf.old + length ops.now }
@@ -204,7 +205,8 @@ fn insert_cutting(leaf: &mut Leaf, at: u32, ops: &[TextOp], tail: &mut Leaf)
 }
 
 /// How many characters stay in a leaf of so many that is cut in two for an insertion at an index.
-// Mostly those before the index: characters typed forwards leave full leaves behind, and no part gets tiny.
+// Mostly those before the index: characters typed on at the end of a text leave full leaves behind, and no part of a full leaf gets
+// tiny.
 fn kept_of(len: u32, at: u32) -> u32
     requires many { 32 < len }
     requires at_most { at ≤ len }

@@ -1,12 +1,13 @@
 //! The branches of a node: which of them a change or a search goes into, and what they have together.
 
-ghost use Rattle.std.specs.Prelude.{◌≡◌, ◌+◌, ◌<◌, ◌≤◌, ◌^◌, length, take, slice_index_or, nat_lt, if◌then◌else◌};
+ghost use Rattle.std.specs.Prelude.{◌≡◌, ◌+◌, ◌<◌, ◌≤◌, ◌^◌, length, take, slice_index_or, nat_lt, if◌then◌else◌, IsTrue, false};
 ghost use Rattle.rope.specs.Nodes.{Seen, all_chars, all_leaves};
 ghost use Rattle.rope.specs.Blocks.{IsRoomy, HasPlace};
 ghost use Rattle.rope.specs.Counts.{wide_chars, utf8_bytes};
 ghost use Rattle.rope.specs.Shape.{AllBelow};
 
 use crate::branch::Branch;
+use crate::leaf::MOST_CHARS;
 use crate::spares::MOST_KIDS;
 
 /// How many characters some branches have, how many leaves, how many of the characters take two code units of UTF-16, and how many bytes
@@ -36,7 +37,8 @@ pub fn kid_at(kids: &[Branch], at: u32) -> (usize, u32)
     unreachable!()
 }
 
-/// The branch into which a character at an index is put, and its index there. Where two branches meet it is the one behind.
+/// The branch into which a character at an index is put, and its index there. Where two branches meet the one behind is taken, or
+/// the one before, where that is a leaf with room.
 pub fn kid_open(kids: &[Branch], at: u32) -> (usize, u32)
     requires some { 0 < length kids.now }
     requires in_range { at ≤ length (all_chars kids.now) }
@@ -47,12 +49,21 @@ pub fn kid_open(kids: &[Branch], at: u32) -> (usize, u32)
     let last = kids.len() - 1;
     let mut rest = at;
     for (k, kid) in kids.iter().enumerate() {
-        if rest < kid.len() || k == last {
+        if k == last || takes(kid, rest) {
             return (k, rest);
         }
         rest -= kid.len();
     }
     unreachable!()
+}
+
+/// Whether a character at an index is put into the branch: before its end, or at the end of a leaf that has room.
+fn takes(branch: &Branch, at: u32) -> bool
+    ensures yes { IsTrue result → at ≤ length branch.now.chars }
+    ensures no { result ≡ false → length branch.now.chars ≤ at }
+{
+    let len = branch.len();
+    at < len || at == len && branch.leaves() == 1 && (len as usize) < MOST_CHARS
 }
 
 /// How many full nodes stand right above the branches of a node, where so many stand right above it.

@@ -46,7 +46,8 @@ fn shape(alloc: Global, text: &Rope) -> Result<String, NoMem> {
     format!(in alloc; "{} leaves, {} levels", shape.leaves, shape.depth)
 }
 
-/// Where the turn's character goes into so many: at the front, at the end, in the middle, or at both ends in turn.
+/// Where the turn's character goes into so many: at the front, at the end, in the middle, at both ends in turn, or first at the end and
+/// then in front of the last twenty.
 fn place(way: &str, turn: u32, len: u32) -> Result<u32, Fault>
     ensures { IfOk result (λ at. at ≤ len) }
 {
@@ -54,6 +55,11 @@ fn place(way: &str, turn: u32, len: u32) -> Result<u32, Fault>
         "front" => Ok(0),
         "end" => Ok(len),
         "middle" => Ok(len / 2),
+        "caret" => Ok(if turn < 64 {
+            len
+        } else {
+            len.saturating_sub(20)
+        }),
         "both-ends" => Ok(if turn % 2 == 0 { 0 } else { len }),
         _ => Err(Fault::Unreadable),
     }
