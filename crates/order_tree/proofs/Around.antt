@@ -84,7 +84,7 @@ module _ {R : Type 0} (front mid back : List (ℕ × R)) (label : ℕ) where
       record { run = h.run; held = held_all (label, h.run) h.held; before = omega (arith, sum, h.before); inside = h.inside }
 
 module _ {R : Type 0} (known : R → ℕ) where
-  known_above : (low : ℕ) (ps : List (ℕ × R)) → RisesFrom low ps → 0 < last_known known ps → low < last_known known ps
+  pub known_above : (low : ℕ) (ps : List (ℕ × R)) → RisesFrom low ps → 0 < last_known known ps → low < last_known known ps
   known_above low [] rises some = absurd (omega (arith, some))
   known_above low (p ∷ ps) rises some = by_last (last_known known ps) (nat_lt 0 (known p.1)) (λ more. known_above p.0 ps rises.1 more) some
     where

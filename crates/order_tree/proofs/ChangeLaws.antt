@@ -1,15 +1,17 @@
 -- Runs of which one gave way to another.
-use Rattle.std.proofs.Common.{◌≡◌, ◌≢◌, ℕ, zero, suc, ◌+◌, ◌^◌, ◌<◌, true, false, List, [], ◌∷◌, ◌++◌, length, take, drop, slice_set, slice_index_or, All, nat_eq, if◌then◌else◌, arith, refl, sym, ap, ◌∙◌, subst, eq-eqb}
-use Rattle.std.proofs.lemmas.Bool.{ne_eqb, eqb-true, cond_both}
+use Rattle.std.proofs.Common.{◌≡◌, ◌≢◌, ℕ, zero, suc, ◌+◌, ◌^◌, ◌<◌, ◌≤◌, Bool, true, false, List, [], ◌∷◌, ◌++◌, length, take, drop, slice_set, slice_index_or, All, Contains, nat_eq, nat_lt, cond, if◌then◌else◌, arith, refl, sym, ap, ◌∙◌, subst, eq-eqb}
+use Rattle.std.proofs.lemmas.Bool.{ne_eqb, eqb-true, cond_both, lt-ltb}
 use Rattle.std.proofs.lemmas.List.{map-append, length-map, set_split}
-use Rattle.std.proofs.lemmas.List.Elements.{All-nil, All-cons, All-head, All-tail, All-weaker}
+use Rattle.std.proofs.lemmas.List.Elements.{All-nil, All-cons, All-head, All-tail, All-weaker, All-contains}
 use Rattle.ew_model.specs.declared.run.Run.{Ghosts}
 use Rattle.order_tree.specs.declared.summary.Sums.{Sums}
-use Rattle.order_tree.specs.Pairs.{Tree, RisesFrom, SumsFit, changed}
-use Rattle.order_tree.specs.Parts.{all_pairs, one_pair, sums_of, IsMoved}
+use Rattle.order_tree.specs.declared.summary.Summary.{Summary}
+use Rattle.order_tree.specs.Pairs.{Tree, RisesFrom, IsRising, SumsFit, changed}
+use Rattle.order_tree.specs.Parts.{first_or_zero, last_known, all_pairs, one_pair, sums_of, summary_of, IsMoved, IsKnownAfter}
 use Rattle.order_tree.specs.Shape.{AllBelow}
 use Rattle.order_tree.specs.Whole.{IsWhole}
-use Rattle.order_tree.proofs.PairLaws.{total-one}
+use Rattle.order_tree.proofs.PairLaws.{total-one, rises_above, at_some}
+use Rattle.order_tree.proofs.Around.{known_above}
 use Rattle.order_tree.proofs.PartLists.{entries_are, parts_at, parts_set}
 use Rattle.order_tree.proofs.InnerEdits.{total-around, fit_part}
 
@@ -45,6 +47,11 @@ module _ {R : Type 0} (label : ℕ) (run : R) where
   below_changed bound (p ∷ ps) h =
       All-cons (λ q. q.0 < bound) (if nat_eq p.0 label then (label, run) else p) (changed ps label run) (omega (arith, All-head (λ q. q.0 < bound) p ps h, label_same p)) (below_changed bound ps (All-tail (λ q. q.0 < bound) p ps h))
 
+  -- the first label too
+  pub first_changed : (ps : List (ℕ × R)) → first_or_zero (changed ps label run) ≡ first_or_zero ps
+  first_changed [] = refl
+  first_changed (p ∷ ps) = label_same p
+
   pub length-changed : (ps : List (ℕ × R)) → length (changed ps label run) ≡ length ps
   length-changed ps = length-map ps (λ (p : ℕ × R). if nat_eq p.0 label then (label, run) else p)
 
@@ -65,7 +72,64 @@ module _ {R : Type 0} (label : ℕ) (run : R) where
         flat = λ none. depth ∙ h.flat (none_before old.pairs (sym pairs ∙ none));
       }
 
+-- the last label with a known character is that of a run behind the one that changed, or its own, or one before
+module _ {R : Type 0} (known : R → ℕ) (label : ℕ) (run : R) where
+  last_own : (n : ℕ) (b : Bool) (own : ℕ) → own ≡ label → (0 < n → label < n) → IsKnownAfter (cond (nat_eq n 0) (cond b own 0) n) label (known run) (cond (nat_eq n 0) (cond (nat_lt 0 (known run)) label 0) n)
+  last_own zero true own same later = record { greater = λ lt. absurd (omega (arith, lt, same)); own = λ le some. let e : nat_lt 0 (known run) ≡ true = lt-ltb 0 (known run) some in rw e refl }
+  last_own zero false own same later = record { greater = λ lt. absurd (omega (arith, lt)); own = λ le some. let e : nat_lt 0 (known run) ≡ true = lt-ltb 0 (known run) some in rw e refl }
+  last_own (suc n) b own same later =
+      let old = at_some (suc n) (cond b own 0) (omega arith) in
+      let less : label < suc n = later (omega arith) in
+      record {
+        greater = λ lt. at_some (suc n) (cond (nat_lt 0 (known run)) label 0) (omega arith) ∙ sym old;
+        own = λ le some. absurd (omega (arith, le, old, less));
+      }
+
+  last_other : (n m : ℕ) (b : Bool) (own : ℕ) → own < label → IsKnownAfter n label (known run) m → IsKnownAfter (cond (nat_eq n 0) (cond b own 0) n) label (known run) (cond (nat_eq m 0) (cond b own 0) m)
+  last_other n m b own less h = record { greater = λ lt. stays n b lt h.greater; own = λ le some. comes (h.own (within n b le) some) }
+    where
+      stays : (n : ℕ) (b : Bool) → label < cond (nat_eq n 0) (cond b own 0) n → (label < n → m ≡ n) → cond (nat_eq m 0) (cond b own 0) m ≡ cond (nat_eq n 0) (cond b own 0) n
+      stays zero true lt same = absurd (omega (arith, lt, less))
+      stays zero false lt same = absurd (omega (arith, lt))
+      stays (suc n) b lt same =
+          let e = at_some (suc n) (cond b own 0) (omega arith) in
+          ap (λ (k : ℕ). cond (nat_eq k 0) (cond b own 0) k) (same (omega (arith, lt, e)))
+
+      within : (n : ℕ) (b : Bool) → cond (nat_eq n 0) (cond b own 0) n ≤ label → n ≤ label
+      within zero b le = omega arith
+      within (suc n) b le = let e = at_some (suc n) (cond b own 0) (omega arith) in omega (arith, le, e)
+
+      comes : m ≡ label → cond (nat_eq m 0) (cond b own 0) m ≡ label
+      comes e = at_some m (cond b own 0) (omega (arith, e, less)) ∙ e
+
+  pub last_changed : (low : ℕ) (ps : List (ℕ × R)) (r : R) → RisesFrom low ps → Contains ps (label, r) → IsKnownAfter (last_known known ps) label (known run) (last_known known (changed ps label run))
+  last_changed low ps r rises h = at h.0 low ps rises h.1 h.2
+    where
+      at : (k low : ℕ) (ps : List (ℕ × R)) → RisesFrom low ps → k < length ps → slice_index_or ps k (label, r) ≡ (label, r) → IsKnownAfter (last_known known ps) label (known run) (last_known known (changed ps label run))
+      at k low [] rises lt e = absurd (omega (arith, lt))
+      at zero low (p ∷ ps) rises lt e =
+          let same : p.0 ≡ label = ap (λ (q : ℕ × R). q.0) e in
+          let here : nat_eq p.0 label ≡ true = eq-eqb p.0 label same in
+          let rest : changed ps label run ≡ ps = changed_other label run ps (All-weaker (λ q. p.0 < q.0) (λ q. q.0 ≢ label) (λ q less is. omega (arith, less, is, same)) ps (rises_above p.0 ps rises.1)) in
+          let now : changed (p ∷ ps) label run ≡ (label, run) ∷ ps = ap (λ (b : Bool). (if b then (label, run) else p) ∷ changed ps label run) here ∙ ap (λ (qs : List (ℕ × R)). (label, run) ∷ qs) rest in
+          subst (λ (qs : List (ℕ × R)). IsKnownAfter (last_known known (p ∷ ps)) label (known run) (last_known known qs)) (sym now)
+          (last_own (last_known known ps) (nat_lt 0 (known p.1)) p.0 same (λ some. let more = known_above known p.0 ps rises.1 some in omega (arith, more, same)))
+      at (suc k) low (p ∷ ps) rises lt e =
+          let less : p.0 < label = All-contains (λ q. p.0 < q.0) ps (label, r) (rises_above p.0 ps rises.1) (k, omega (arith, lt), e) in
+          let here : nat_eq p.0 label ≡ false = ne_eqb p.0 label (λ is. omega (arith, is, less)) in
+          let now : changed (p ∷ ps) label run ≡ p ∷ changed ps label run = ap (λ (b : Bool). (if b then (label, run) else p) ∷ changed ps label run) here in
+          subst (λ (qs : List (ℕ × R)). IsKnownAfter (last_known known (p ∷ ps)) label (known run) (last_known known qs)) (sym now)
+          (last_other (last_known known ps) (last_known known (changed ps label run)) (nat_lt 0 (known p.1)) p.0 less (at k p.0 ps rises.1 (omega (arith, lt)) e))
+
 module _ {R : Type 0} (G : Ghosts R) where
+  -- the same of what is kept
+  pub known_kept : (label : ℕ) (run : R) (old new : List (ℕ × R)) (r : R) (kept : Summary) (gained : ℕ) → IsRising old → Contains old (label, r) → kept ≡ summary_of G old → new ≡ changed old label run → gained ≡ G.known run
+      → IsKnownAfter kept.last_known label gained (last_known G.known new)
+  known_kept label run old new r kept gained rising held is put more =
+      subst (λ (n : ℕ). IsKnownAfter kept.last_known label n (last_known G.known new)) (sym more)
+      (subst (λ (n : ℕ). IsKnownAfter n label (G.known run) (last_known G.known new)) (sym (ap (λ (s : Summary). s.last_known) is))
+      (subst (λ (ps : List (ℕ × R)). IsKnownAfter (last_known G.known old) label (G.known run) (last_known G.known ps)) (sym put) (last_changed G.known label run 0 old r rising held)))
+
   -- what a change moves in the middle it moves in the whole
   pub moved_around : (front mid new back : List (ℕ × R)) (lost gained : Sums) → IsMoved (sums_of G mid) lost gained (sums_of G new) → IsMoved (sums_of G (front ++ (mid ++ back))) lost gained (sums_of G (front ++ (new ++ back)))
   moved_around front mid new back lost gained h =

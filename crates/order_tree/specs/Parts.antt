@@ -45,3 +45,8 @@ pub record IsMoved (old lost gained new : Sums) : Type 0 where
   pub known : new.known + lost.known ≡ old.known + gained.known
   pub prepared : new.prepared + lost.prepared ≡ old.prepared + gained.prepared
   pub effect : new.effect + lost.effect ≡ old.effect + gained.effect
+
+-- these are the last labels with a known character, or 0, before and after a change of the run at a label: a greater one stays, and else it is that of the run, if this has known characters now
+pub record IsKnownAfter (old label known new : ℕ) : Type 0 where
+  pub greater : label < old → new ≡ old
+  pub own : old ≤ label → 0 < known → new ≡ label

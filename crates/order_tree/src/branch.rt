@@ -2,9 +2,9 @@
 
 ghost use Rattle.std.specs.Prelude.{◌≡◌, ℕ, ◌+◌, ◌*◌, ◌^◌, ◌<◌, ◌≤◌, Some, ◌++◌, length, Contains, vec_capacity, IfOk, OnErr};
 ghost use Rattle.order_tree.specs.Pairs.{labels, runs, IsRising, EndsWith, total, lower, up_to, next_label, first_label, counted_after, IsPlace, SumsFit, changed};
-ghost use Rattle.order_tree.specs.Parts.{first_or_zero, last_known, sums_of, summary_of, all_pairs, IsMoved};
+ghost use Rattle.order_tree.specs.Parts.{first_or_zero, last_known, sums_of, summary_of, all_pairs, IsMoved, IsKnownAfter};
 ghost use Rattle.order_tree.specs.Counts.{count_of};
-ghost use Rattle.order_tree.specs.Shape.{AllBelow, IsNode, pairs_in};
+ghost use Rattle.order_tree.specs.Shape.{AllBelow, pairs_in};
 ghost use Rattle.order_tree.specs.Edits.{IsPlaced, IsFree, StaysFit};
 ghost use Rattle.order_tree.specs.Relabels.{relabelled, renamed, reached};
 ghost use Rattle.order_tree.specs.Rights.{IsBranchEdit};
@@ -19,7 +19,7 @@ use crate::finish::{edit_entries, finish};
 use crate::halves::{inner_summary, leaf_summary, way_down};
 use crate::kids::{kid_at, kid_before, kid_known_after, kid_last, kid_up_to, kid_with};
 use crate::leaf::Way;
-use crate::part::{Part, place_of, summary_after, summary_with};
+use crate::part::{Part, last_known_in, place_of, summary_with};
 use crate::relabel::{Reached, relabel_entries};
 use crate::spares::Spares;
 use crate::summary::{Summary, Sums};
@@ -309,18 +309,36 @@ impl<R: Run + Drop> Branch<R> {
 }
 
 impl<R: Run> Node<R> {
-    /// What is kept of the node after a change below it, from the sums that were kept before.
-    fn kept_after(&self, depth: u32, old: Sums, moved: Moved) -> Summary
-        requires shape { IsNode depth self.now }
+    /// The label of the last run with a known character below the node, after a change of the run at a label, from the one before.
+    fn last_known_after(&self, old: u64, label: u64, gained: u32) -> u64
+        requires { IsKnownAfter old label gained (last_known R.known (pairs_in self.now)) }
+        ensures { result ≡ last_known R.known (pairs_in self.now) }
+    {
+        if label < old {
+            return old;
+        }
+        if gained > 0 {
+            return label;
+        }
+        match self {
+            Node::Leaf(entries) => last_known_in(entries.as_slice()),
+            Node::Inner(kids) => last_known_in(kids.as_slice()),
+        }
+    }
+
+    /// What is kept of the node after a change of the run at a label, from what was kept before.
+    fn kept_after(&self, old: Summary, label: u64, moved: Moved) -> Summary
+        requires first { old.first ≡ first_or_zero (pairs_in self.now) }
+        requires known { IsKnownAfter old.last_known label moved.gained.known (last_known R.known (pairs_in self.now)) }
         requires fit { SumsFit R.Run (pairs_in self.now) }
-        requires moved { IsMoved old moved.lost moved.gained (sums_of R.Run (pairs_in self.now)) }
+        requires moved { IsMoved old.sums moved.lost moved.gained (sums_of R.Run (pairs_in self.now)) }
         ensures { result ≡ summary_of R.Run (pairs_in self.now) }
     {
-        match self {
-            Node::Leaf(entries) => {
-                summary_after(entries.as_slice(), old, moved.lost, moved.gained)
-            }
-            Node::Inner(kids) => summary_after(kids.as_slice(), old, moved.lost, moved.gained),
+        let known = moved.gained.known;
+        Summary {
+            first: old.first,
+            last_known: self.last_known_after(old.last_known, label, known),
+            sums: old.sums.minus(moved.lost).plus(moved.gained),
         }
     }
 }
@@ -334,19 +352,20 @@ impl<R: Run + Drop> Branch<R> {
         ensures pairs { self.new.pairs ≡ changed self.old.pairs label run }
         ensures depth { self.new.depth ≡ self.old.depth }
         ensures moved { IsMoved (sums_of R.Run self.old.pairs) result.lost result.gained (sums_of R.Run self.new.pairs) }
+        ensures gained { result.gained.known ≡ R.known run }
         ensures cost { visits.new ≡ visits.old + self.old.depth }
     {
         visits.tick();
         match &mut self.node {
             Node::Leaf(entries) => {
                 let moved = change_entry(entries, label, run);
-                self.summary = self.node.kept_after(self.depth, self.summary.sums, moved);
+                self.summary = self.node.kept_after(self.summary, label, moved);
                 moved
             }
             Node::Inner(kids) => {
                 let k = place_of(kids.as_slice(), label);
                 let moved = kids[k].change(label, run, visits);
-                self.summary = self.node.kept_after(self.depth, self.summary.sums, moved);
+                self.summary = self.node.kept_after(self.summary, label, moved);
                 moved
             }
         }

@@ -22,6 +22,7 @@ pub fn change_entry<R: Run + Drop>(entries: &mut Vec<(u64, R)>, label: u64, run:
     requires held { (r : R) × Contains entries.old.items (label, r) }
     ensures pairs { entries.new.items ≡ changed entries.old.items label run }
     ensures moved { IsMoved (sums_of R.Run entries.old.items) result.lost result.gained (sums_of R.Run entries.new.items) }
+    ensures gained { result.gained.known ≡ R.known run }
     ensures room { 16 ≤ vec_capacity entries.new }
 {
     let list = entries.as_slice();

@@ -3,19 +3,26 @@ use Rattle.std.proofs.lemmas.List.{length-set}
 use Rattle.order_tree.specs.declared.summary.Summary.{Summary}
 use Rattle.order_tree.specs.declared.summary.Sums.{Sums}
 use Rattle.order_tree.specs.Pairs.{Tree, IsRising, SumsFit, changed}
-use Rattle.order_tree.specs.Parts.{sums_of, all_pairs, IsMoved}
+use Rattle.order_tree.specs.Parts.{first_or_zero, sums_of, all_pairs, IsMoved}
 use Rattle.order_tree.specs.Shape.{pairs_in}
 use Rattle.order_tree.proofs.KidLaws.{kids_some, kid_lower}
 use Rattle.order_tree.proofs.KidPlaces.{part_rises, part_holds}
-use Rattle.order_tree.proofs.ChangeLaws.{length-changed, kid_fits, kid_changed, kid_moved, AllBelow-same}
+use Rattle.order_tree.proofs.ChangeLaws.{first_changed, known_kept, length-changed, kid_fits, kid_changed, kid_moved, AllBelow-same}
 use Rattle.order_tree.proofs.branch.Branch.+change.Goals as goal
 
 -- LEAF
-pub kept_after-self-inside-requires-clause-shape : goal.kept_after-self-inside-requires-clause-shape
-kept_after-self-inside-requires-clause-shape g t c =
-    let shape = rw c.in-Leaf.is at c.self.invariant.shape in
-    let long = ap length c.change_entry-moved.ensures.pairs ∙ length-changed c.args.label c.args.run c.in-Leaf.entries.items in
-    (shape.0, omega (arith, long, shape.1), omega (arith, long, shape.2), c.change_entry-moved.ensures.room)
+pub kept_after-self-inside-requires-clause-first : goal.kept_after-self-inside-requires-clause-first
+kept_after-self-inside-requires-clause-first g t c =
+    let kept = rw c.in-Leaf.is at c.self.invariant.kept in
+    ap (λ (s : Summary). s.first) kept ∙ sym (ap first_or_zero c.change_entry-moved.ensures.pairs ∙ first_changed c.args.label c.args.run c.in-Leaf.entries.items)
+
+pub kept_after-self-inside-requires-clause-known : goal.kept_after-self-inside-requires-clause-known
+kept_after-self-inside-requires-clause-known g t c =
+    let here : c.args.self.now.pairs ≡ c.in-Leaf.entries.items = sym (ap (λ (s : Tree _). s.pairs) c.self.view_is) ∙ ap pairs_in c.in-Leaf.is in
+    let kept = rw c.in-Leaf.is at c.self.invariant.kept in
+    let rising : IsRising c.in-Leaf.entries.items = subst (λ (ps : List (ℕ × _)). IsRising ps) here c.requires.rising in
+    let held = subst (λ (ps : List (ℕ × _)). Contains ps (c.args.label, c.requires.held.0)) here c.requires.held.1 in
+    known_kept g.R.Run c.args.label c.args.run c.in-Leaf.entries.items c.change_entry-moved.new.entries.items c.requires.held.0 c.self.inside.summary c.change_entry-moved.result.gained.known rising held kept c.change_entry-moved.ensures.pairs c.change_entry-moved.ensures.gained
 
 pub kept_after-self-inside-requires-clause-fit : goal.kept_after-self-inside-requires-clause-fit
 kept_after-self-inside-requires-clause-fit g t c =
@@ -86,9 +93,9 @@ change-moved-requires g t c κs within =
       ),
     )
 
-pub kept_after-self-inside-requires-in-Inner-clause-shape : goal.kept_after-self-inside-requires-in-Inner-clause-shape
-kept_after-self-inside-requires-in-Inner-clause-shape g t c =
-    let shape = rw c.in-Inner.is at c.self.invariant.shape in
+pub kept_after-self-inside-requires-in-Inner-clause-first : goal.kept_after-self-inside-requires-in-Inner-clause-first
+kept_after-self-inside-requires-in-Inner-clause-first g t c =
+    let kept = rw c.in-Inner.is at c.self.invariant.kept in
     let kids = c.in-Inner.kids.items in
     let k = c.place_of-k.result in
     let list = c.as_slice.ensures.value in
@@ -98,9 +105,26 @@ kept_after-self-inside-requires-in-Inner-clause-shape g t c =
     let kid = c.index_mut.result.now in
     let is : kid ≡ slice_index_or kids k kid = c.index_mut.ensures.value in
     let w = c.change-moved.new.self in
-    let kept_below = AllBelow-same c.self.inside.depth kids k kid w shape.0 is c.change-moved.ensures.depth (ap length c.change-moved.ensures.pairs ∙ length-changed c.args.label c.args.run kid.pairs) in
-    let len = length-set kids k w in
-    (kept_below, omega (arith, len, shape.1), omega (arith, len, shape.2), shape.3)
+    ap (λ (s : Summary). s.first) kept
+    ∙ sym (ap first_or_zero (kid_changed g.R.Run kids k c.args.label kid lt is below above c.args.run w c.change-moved.ensures.pairs) ∙ first_changed c.args.label c.args.run (all_pairs (λ t. t.pairs) kids))
+
+pub kept_after-self-inside-requires-in-Inner-clause-known : goal.kept_after-self-inside-requires-in-Inner-clause-known
+kept_after-self-inside-requires-in-Inner-clause-known g t c =
+    let here : c.args.self.now.pairs ≡ all_pairs (λ k. k.pairs) c.in-Inner.kids.items = sym (ap (λ (s : Tree _). s.pairs) c.self.view_is) ∙ ap pairs_in c.in-Inner.is in
+    let kept = rw c.in-Inner.is at c.self.invariant.kept in
+    let rising : IsRising (all_pairs (λ k. k.pairs) c.in-Inner.kids.items) = subst (λ (ps : List (ℕ × _)). IsRising ps) here c.requires.rising in
+    let held = subst (λ (ps : List (ℕ × _)). Contains ps (c.args.label, c.requires.held.0)) here c.requires.held.1 in
+    let kids = c.in-Inner.kids.items in
+    let k = c.place_of-k.result in
+    let list = c.as_slice.ensures.value in
+    let lt : k < length kids = rw list at c.place_of-k.ensures.within in
+    let below = rw list at c.place_of-k.ensures.before in
+    let above = rw list at c.place_of-k.ensures.behind in
+    let kid = c.index_mut.result.now in
+    let is : kid ≡ slice_index_or kids k kid = c.index_mut.ensures.value in
+    let w = c.change-moved.new.self in
+    known_kept g.R.Run c.args.label c.args.run (all_pairs (λ t. t.pairs) kids) (all_pairs (λ t. t.pairs) (slice_set kids k w)) c.requires.held.0 c.self.inside.summary c.change-moved.result.gained.known rising held kept
+    (kid_changed g.R.Run kids k c.args.label kid lt is below above c.args.run w c.change-moved.ensures.pairs) c.change-moved.ensures.gained
 
 pub kept_after-self-inside-requires-in-Inner-clause-fit : goal.kept_after-self-inside-requires-in-Inner-clause-fit
 kept_after-self-inside-requires-in-Inner-clause-fit g t c =
