@@ -184,7 +184,8 @@ fn is_held_at(runs: &[IdRun], at: usize, place: u32) -> bool
     }
 }
 
-/// How many of the runs begin at a place or before it.
+/// How many of the runs begin at a place or before it. It isn't inlined, since most ids are found without it.
+#[inline(never)]
 fn count_to(runs: &[IdRun], place: u32) -> usize
     requires { (end : ℕ) × AreRuns 0 runs.now end }
     ensures bound { result ≤ length runs.now }
