@@ -35,3 +35,4 @@ pub mod TypedStates
 pub mod TypingOn
 pub mod TreeTyping
 pub mod TypedTargets
+pub mod DeletingEach

@@ -1,9 +1,9 @@
 -- What a state keeps: a record for each character, in order, and which character each event is about: a mark is about none, and the root stands in its place.
-use Rattle.std.specs.Prelude.{◌≡◌, ℕ, ◌+◌, ◌<◌, ◌≤◌, nat_eq, List, [], ◌∷◌, ◌++◌, map, find, Option, Some, option_map}
+use Rattle.std.specs.Prelude.{◌≡◌, ℕ, zero, suc, ◌+◌, ◌<◌, ◌≤◌, nat_eq, List, [], ◌∷◌, ◌++◌, map, find, Option, Some, option_map}
 use Rattle.std.specs.List.{range_with_len}
 use Rattle.ew_model.specs.declared.node.Node.{Node}
 use Rattle.ew_model.specs.declared.node.Node.TheVariants.{Root, Event}
-use Rattle.walker_record.specs.Stretches.{Stretch}
+use Rattle.walker_record.specs.Stretches.{Stretch, node_on}
 use Rattle.fugue_place.specs.declared.child.Attached.{Attached}
 use Rattle.character_runs.specs.declared.change.Change.TheVariants.{Strike}
 use Rattle.character_runs.specs.declared.change.Positions.{Positions}
@@ -54,6 +54,19 @@ with_deletion s lv v = record {
   targets = s.targets ++ record { lv = lv; node = v } ∷ [];
   lost = s.lost;
 }
+
+-- the same but that so many events from this position on, the latest, delete characters: the first the node's, each further one that of the next node
+abbrev pub with_deletions : Kept → ℕ → Node → ℕ → Kept
+with_deletions s lv v zero = s
+with_deletions s lv v (suc n) = with_deletion (with_deletions s lv v n) (lv + n) (node_on v n)
+
+-- what the event so many places behind a position is about: the character of the node so many places on
+abbrev pub deletion_target : ℕ → Node → ℕ → Target
+deletion_target lv v k = record { lv = lv + k; node = node_on v k }
+
+-- what each of so many events from the position on is about: the characters of the nodes from this one on
+abbrev pub deletion_targets : ℕ → Node → ℕ → List Target
+deletion_targets lv v n = map (deletion_target lv v) (range_with_len 0 n)
 
 -- what the event so many places and one more behind a position is about: the character that it inserted
 abbrev pub typed_target : ℕ → ℕ → Target

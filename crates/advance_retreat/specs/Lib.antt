@@ -1,4 +1,5 @@
 pub mod Conditions
+pub mod Deleting
 pub mod Hanging
 pub mod Kept
 pub mod Lines

@@ -8,12 +8,13 @@ ghost use Rattle.ew_model.specs.Places.Act.{InsertAs, DeleteAt, MarkAs};
 ghost use Rattle.ew_model.specs.Tree.{Applied, tree_of};
 ghost use Rattle.ew_model.specs.Moves.{after_advances, after_retreats};
 ghost use Rattle.ew_model.specs.Records.{next_of, without, prepared_entries, applied_entries};
-ghost use Rattle.walker_record.specs.Stretches.{Stretch};
+ghost use Rattle.walker_record.specs.Stretches.{Stretch, HasNumbers};
 ghost use Rattle.fugue_place.specs.Attachments.{is_there, AreAttached};
 ghost use Rattle.fugue_place.specs.Heirs.{AreNew};
 ghost use Rattle.ew_model.specs.declared.node.Node.TheVariants as nodes;
 ghost use Rattle.advance_retreat.specs.declared.fault.ApplyFault.TheVariants as apply;
-ghost use Rattle.advance_retreat.specs.Kept.{with_lost, with_deletion, with_mark, target_at, AreWithin};
+ghost use Rattle.advance_retreat.specs.Kept.{with_lost, with_deletion, with_deletions, with_mark, target_at, AreWithin};
+ghost use Rattle.character_runs.specs.Deleting.{deletion_op};
 ghost use Rattle.character_runs.specs.States.{HasRoom, is_of, shown_in};
 ghost use Rattle.character_runs.specs.Laid.{records_in};
 ghost use Rattle.advance_retreat.specs.declared.line.Way.TheVariants as lines;
@@ -22,6 +23,7 @@ ghost use Rattle.advance_retreat.specs.Standing.{most, StandsFor};
 ghost use Rattle.advance_retreat.specs.Placing.{AreInOrder, DeletesOf, IsNoDeletion};
 ghost use Rattle.advance_retreat.specs.Refusals.{lost_after, one_more};
 ghost use Rattle.advance_retreat.specs.Conditions.{MayInsert, MayDelete, MayMark, MayAdvanceTo, MayRetreatFrom, MayAdvanceEach, MayRetreatEach, Advanced, Retreated, PartAdvanced, PartRetreated, AllPrepared};
+ghost use Rattle.advance_retreat.specs.Deleting.{MayDeleteEach, DeletedEach};
 ghost use Rattle.advance_retreat.specs.Hanging.{MayHang, Puts, IsNewest, PutEach};
 ghost use Rattle.advance_retreat.specs.Typing.{MayType, TypedEach};
 
@@ -48,6 +50,15 @@ pub struct State {
     tree: Tree,
     targets: Targets,
     lost: u32,
+}
+
+/// Deletions that were applied in one go.
+#[derive(Clone, Copy)]
+pub struct Deleted {
+    /// How many.
+    pub count: u32,
+    /// The index of each in the text when it is deleted, which is the same for all. None where they aren't in the text.
+    pub index: Option<u32>,
 }
 
 impl Drop for State {
@@ -228,14 +239,19 @@ impl State {
         }
     }
 
+    /// Whether the history may have so many more events.
+    fn has_room_for_events(&self, count: u32) -> bool
+        ensures { IsTrue result → length self.now.targets + count ≤ most }
+    {
+        count <= MOST && self.targets.len() <= (MOST - count) as usize
+    }
+
     /// Whether the history may have so many more events, and the text as many more characters.
     fn has_room_for(&self, count: u32) -> bool
         ensures events { IsTrue result → length self.now.targets + count ≤ most }
         ensures text { IsTrue result → shown_in self.now.records + count ≤ most }
     {
-        count <= MOST
-            && self.targets.len() <= (MOST - count) as usize
-            && self.tree.shown() <= MOST - count
+        self.has_room_for_events(count) && self.tree.shown() <= MOST - count
     }
 
     /// Puts the character of a new event into the tree. Answers its index in the text. Counts a want of memory.
@@ -303,6 +319,70 @@ impl State {
         }
         self.strike(lv, deletion.node)?;
         Ok(deletion.op)
+    }
+
+    /// Applies deletions by the events at the positions from this on, one after another, each of the character at an index of the
+    /// prepared version: at most so many, and at least two. Prepares them too. Answers how many they are, and their index in the text.
+    /// None may come at any time: then nothing has changed, and the deletions are to be applied one by one. No step is counted.
+    ///
+    /// After an error for want of memory the state is as it was before, but that `lost` counts it.
+    pub fn delete_run(&mut self, lv: u32, most: u32, at: u32) -> Result<Option<Deleted>, NoMem>
+        requires few { lv + most < 2 ^ 32 }
+        requires may { (b : ℕ) × (events : List (Applied ℕ)) × (prepared : List ℕ) × StandsFor self.old b events prepared × MayDeleteEach events lv most }
+        ensures deleted { (b : ℕ) (events : List (Applied ℕ)) (prepared : List ℕ) → StandsFor self.old b events prepared → MayDeleteEach events lv most → IfOk result (λ o. IfSome o (λ d. DeletedEach self.old self.new lv at (deletion_op d.index) d.count)) }
+        ensures some { IfOk result (λ o. IfSome o (λ d. 1 < d.count)) }
+        ensures most { IfOk result (λ o. IfSome o (λ d. d.count ≤ most)) }
+        ensures none { IfOk result (λ o. IfNone o (self.new ≡ self.old)) }
+        ensures err { OnErr result (self.new ≡ with_lost self.old (one_more self.old.lost)) }
+        ensures lost { OnOk result (self.new.lost ≡ self.old.lost) }
+    {
+        if most < 2 {
+            return Ok(None);
+        }
+        let Some(deletions) = self.tree.deletions_at(at, most) else {
+            return Ok(None);
+        };
+        if deletions.count < 2 || !self.has_room_for_events(deletions.count) {
+            return Ok(None);
+        }
+        let done = self.strike_run(lv, deletions.first, deletions.count)?;
+        if done {
+            Ok(Some(Deleted {
+                count: deletions.count,
+                index: deletions.index,
+            }))
+        } else {
+            Ok(None)
+        }
+    }
+
+    /// Notes the deletions of so many characters from a node's on, one after another. Answers whether that was done. It is where they are
+    /// of one run and visible in what is prepared; where not, nothing has changed. Counts a want of memory.
+    fn strike_run(&mut self, lv: u32, first: Node, count: u32) -> Result<bool, NoMem>
+        requires few { lv + count < 2 ^ 32 }
+        requires numbers { HasNumbers first count }
+        requires room { AllByRecursion HasRoom self.old.records }
+        requires new { (k : ℕ) → k < count → target_at self.old.targets (lv + k) ≡ None }
+        ensures yes { IfOk result (λ done. IsTrue done → self.new ≡ with_deletions self.old lv first count) }
+        ensures no { IfOk result (λ done. done ≡ false → self.new ≡ self.old) }
+        ensures err { OnErr result (self.new ≡ with_lost self.old (one_more self.old.lost)) }
+    {
+        if let Err(e) = self.targets.add_deletions(lv, first, count) {
+            self.lost = one_more(self.lost);
+            return Err(e);
+        }
+        match self.tree.delete_run(first, count) {
+            Ok(true) => Ok(true),
+            Ok(false) => {
+                self.targets.take_back_deletions(lv, first, count);
+                Ok(false)
+            }
+            Err(e) => {
+                self.targets.take_back_deletions(lv, first, count);
+                self.lost = one_more(self.lost);
+                Err(e)
+            }
+        }
     }
 
     /// Notes the deletion of a character. Counts a want of memory.

@@ -3,8 +3,9 @@
 ghost use Rattle.std.specs.Prelude.{◌≡◌, ◌+◌, ◌<◌, ◌^◌, true, false, None, Some, [], ◌∷◌, ◌++◌, List, length, IfSome, IsTrue, OnOk, OnErr, ℕ, nat_eq, if◌then◌else◌};
 ghost use Rattle.std.specs.Ordering.{nat_cmp};
 ghost use Rattle.std.specs.BTreeMap.{get};
+ghost use Rattle.walker_record.specs.Stretches.{HasNumbers, node_on};
 ghost use Rattle.advance_retreat.specs.declared.target.Target.{Target as One};
-ghost use Rattle.advance_retreat.specs.Kept.{target_at, typed_targets, AreWithin};
+ghost use Rattle.advance_retreat.specs.Kept.{target_at, deletion_targets, typed_targets, AreWithin};
 ghost use Rattle.advance_retreat.specs.Lines.{IsLineFrom};
 ghost use Rattle.advance_retreat.specs.Placing.{other_event};
 
@@ -158,7 +159,40 @@ impl Targets {
         }
     }
 
-    /// The same for one that doesn't go on with the last run.
+    /// Adds deletions of so many characters from a node's on, by the events at the positions from this on. Where there is no memory
+    /// for them, none is added.
+    pub fn add_deletions(&mut self, lv: u32, node: Node, count: u32) -> Result<(), NoMem>
+        requires few { lv + count < 2 ^ 32 }
+        requires numbers { HasNumbers node count }
+        requires new { (k : ℕ) → k < count → target_at self.old (lv + k) ≡ None }
+        ensures ok { OnOk result (self.new ≡ self.old ++ deletion_targets lv node count) }
+        ensures err { OnErr result (self.new ≡ self.old) }
+    {
+        let mut place = 0;
+        while place < count {
+            if let Err(e) = self.add(lv + place, node_on(node, place)) {
+                self.take_back_deletions(lv, node, place);
+                return Err(e);
+            }
+            place += 1;
+        }
+        Ok(())
+    }
+
+    /// Takes back so many deletions at the positions from this on, which are the last events.
+    pub fn take_back_deletions(&mut self, lv: u32, node: Node, count: u32)
+        requires few { lv + count < 2 ^ 32 }
+        requires last { (ts : List One) × (self.old ≡ ts ++ deletion_targets lv node count) × ((k : ℕ) → k < count → target_at ts (lv + k) ≡ None) }
+        ensures { (ts : List One) → self.old ≡ ts ++ deletion_targets lv node count → self.new ≡ ts }
+    {
+        let mut left = count;
+        while left > 0 {
+            left -= 1;
+            self.take_back(lv + left);
+        }
+    }
+
+    /// Adds an event that doesn't go on with the last run.
     #[inline(never)]
     fn add_apart(&mut self, lv: u32, node: Node) -> Result<(), NoMem>
         requires { target_at self.old lv ≡ None }
@@ -171,7 +205,7 @@ impl Targets {
         self.add_later(lv, node)
     }
 
-    /// The same for an event behind those in runs.
+    /// Adds an event behind those in runs.
     fn add_later(&mut self, lv: u32, node: Node) -> Result<(), NoMem>
         requires { target_at self.old lv ≡ None }
         ensures ok { OnOk result (self.new ≡ self.old ++ record { lv = lv; node = node } ∷ []) }
@@ -194,6 +228,18 @@ impl Targets {
             let _ = self.later.pop();
             forget(&mut self.others, lv);
         }
+    }
+}
+
+/// The node so many places on.
+fn node_on(node: Node, n: u32) -> Node
+    requires { HasNumbers node (n + 1) }
+    ensures { result ≡ node_on node n }
+{
+    match node {
+        Node::Root => Node::Root,
+        Node::Base(i) => Node::Base(i + n),
+        Node::Event(i) => Node::Event(i + n),
     }
 }
 

@@ -1,17 +1,19 @@
 //! The characters of a state, and the tree that their nodes hang in.
 
-ghost use Rattle.std.specs.Prelude.{◌≡◌, ℕ, ◌+◌, ◌*◌, ◌<◌, ◌≤◌, ◌^◌, Bool, List, true, false, ◌∷◌, [], ◌++◌, length, map, IfSome, IfNone, IfOk, OnOk, OnErr};
+ghost use Rattle.std.specs.Prelude.{◌≡◌, ℕ, ◌+◌, ◌*◌, ◌<◌, ◌≤◌, ◌^◌, Bool, List, true, false, ◌∷◌, [], ◌++◌, length, map, IfSome, IfNone, IfOk, IsTrue, OnOk, OnErr};
 ghost use Rattle.std.specs.List.{AllByRecursion, list_any};
 ghost use Rattle.ew_model.specs.declared.node.Node.{Node as Nodes};
 ghost use Rattle.ew_model.specs.declared.node.Node.TheVariants as nodes;
+ghost use Rattle.walker_record.specs.Stretches.{HasNumbers, node_on};
 ghost use Rattle.fugue_place.specs.declared.child.Side.TheVariants as sides;
 ghost use Rattle.fugue_place.specs.declared.neighbour.Place.{Place};
 ghost use Rattle.fugue_place.specs.Attachments.{is_attached, is_there, has_id, AreAttached};
 ghost use Rattle.fugue_place.specs.Heirs.{AreNew, HaveHeirs};
 ghost use Rattle.fugue_place.specs.Neighbours.{has_beyond, IsPlaceOfNew};
 ghost use Rattle.advance_retreat.specs.declared.target.Target.{Target};
+ghost use Rattle.character_runs.specs.Deleting.{struck_each, AreDeletions, AreAllAmong};
 ghost use Rattle.character_runs.specs.EventPositions.{event_positions};
-ghost use Rattle.character_runs.specs.States.{is_of, visible_in, shown_in, base_records, changed_at, HasRoom};
+ghost use Rattle.character_runs.specs.States.{is_of, sees, visible_in, shown_in, base_records, changed_at, HasRoom};
 ghost use Rattle.character_runs.specs.Laid.{records_in};
 ghost use Rattle.character_runs.specs.Loose.{loose_in, AreAmong};
 ghost use Rattle.advance_retreat.specs.Refusals.{is_told};
@@ -21,7 +23,7 @@ ghost use Rattle.right_children.specs.Rights.{HangWithin};
 ghost use Rattle.character_runs.specs.Spots.{IsSlot, IsDeletion, Comes, ComeEach};
 ghost use Rattle.advance_retreat.specs.Hanging.{has_known_right, has_next_base};
 
-use character_runs::{Change, Characters, Deletion, KnownRights, Positions, Slot};
+use character_runs::{Change, Characters, Deletion, Deletions, KnownRights, Positions, Slot};
 use ew_model::NoMem;
 use ew_model::id::Id;
 use ew_model::node::Node;
@@ -136,6 +138,34 @@ impl Tree {
         ensures same { self.new ≡ self.old }
     {
         self.characters.deletion_at(at)
+    }
+
+    /// The deletions of at most so many characters, one after another at an index of what is prepared. None where no character is
+    /// there.
+    pub fn deletions_at(&mut self, at: u32, most: u32) -> Option<Deletions>
+        ensures some { IfSome result (AreDeletions self.old.records at) }
+        ensures most { IfSome result (λ ds. ds.count ≤ most) }
+        ensures one { IfSome result (λ ds. 0 < most → 0 < ds.count) }
+        ensures numbers { IfSome result (λ ds. HasNumbers ds.first ds.count) }
+        ensures none { IfNone result (visible_in self.old.records ≤ at) }
+        ensures same { self.new ≡ self.old }
+    {
+        self.characters.deletions_at(at, most)
+    }
+
+    /// Deletes so many characters from a node's on, one after another. Answers whether that was done. It is where they are of one run
+    /// and visible in what is prepared; where not, nothing has changed.
+    pub fn delete_run(&mut self, first: Node, count: u32) -> Result<bool, NoMem>
+        requires { AllByRecursion HasRoom self.old.records }
+        ensures yes { IfOk result (λ done. IsTrue done → self.new.records ≡ struck_each self.old.records first count) }
+        ensures visible { IfOk result (λ done. IsTrue done → (k : ℕ) → k < count → sees self.old.records (node_on first k) ≡ true) }
+        ensures no { IfOk result (λ done. done ≡ false → self.new ≡ self.old) }
+        ensures err { OnErr result (self.new.records ≡ self.old.records) }
+        ensures attached { self.new.attached ≡ self.old.attached }
+        ensures loose { (among : Nodes → Bool) → loose_in among self.new.runs ≤ loose_in among self.old.runs + 2 }
+        ensures told { (among : Nodes → Bool) → AreAllAmong among first count → loose_in among self.new.runs ≤ loose_in among self.old.runs }
+    {
+        self.characters.delete_run(first, count)
     }
 
     /// Changes the states of a character.

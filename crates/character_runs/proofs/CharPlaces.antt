@@ -1,5 +1,5 @@
 -- The places of nodes' characters among all.
-use Rattle.std.proofs.Common.{◌≡◌, ℕ, zero, suc, ◌+◌, ◌<◌, Bool, true, false, ◌||◌, List, [], ◌∷◌, ◌++◌, map, Some, None, length, slice_get, slice_index_or, ◌≤◌, Contains, refl, sym, ap, ◌∙◌, subst, inl, arith, length-append}
+use Rattle.std.proofs.Common.{◌≡◌, ℕ, zero, suc, ◌+◌, ◌<◌, Bool, true, false, ◌&&◌, ◌||◌, List, [], ◌∷◌, ◌++◌, map, Some, None, length, slice_get, slice_index_or, ◌≤◌, Contains, refl, sym, ap, ◌∙◌, subst, inl, arith, length-append}
 use Rattle.std.specs.List.{list_any}
 use Rattle.std.proofs.lemmas.Bool.{false≢true}
 use Rattle.std.proofs.lemmas.List.Folds.{list_any-append}
@@ -14,7 +14,7 @@ use Rattle.order_tree.proofs.Around.{up_to_around}
 use Rattle.order_tree.proofs.PairLaws.{up_to_all}
 use Rattle.std.proofs.lemmas.List.Elements.{All-nil, All-cons}
 use Rattle.character_runs.specs.declared.labels.Labels.{Labels}
-use Rattle.character_runs.specs.States.{is_of}
+use Rattle.character_runs.specs.States.{is_of, is_visible, sees}
 use Rattle.character_runs.specs.Labelled.{label_of}
 use Rattle.character_runs.specs.Laid.{Stands, AreLabelled, record_of, records_of, chars_in}
 use Rattle.character_runs.specs.Spots.{IsIndex}
@@ -25,15 +25,15 @@ use Rattle.character_runs.proofs.RunChars.{node_on_none, length-records_of, char
 use Rattle.ew_model.proofs.Outcomes.{none_by}
 
 -- in a run
-or_right : (a b : Bool) → b ≡ true → (a || b) ≡ true
+pub or_right : (a b : Bool) → b ≡ true → (a || b) ≡ true
 or_right true b e = refl
 or_right false b e = e
 
-or_left : (a b : Bool) → a ≡ true → (a || b) ≡ true
+pub or_left : (a b : Bool) → a ≡ true → (a || b) ≡ true
 or_left true b e = refl
 or_left false b e = absurd (false≢true e)
 
-or_none : (a b : Bool) → a ≡ false → b ≡ false → (a || b) ≡ false
+pub or_none : (a b : Bool) → a ≡ false → b ≡ false → (a || b) ≡ false
 or_none true b e f = e
 or_none false b e f = f
 
@@ -78,6 +78,32 @@ any_of ps l n v s = at ps s.held.0 s.held.1 s.held.2
     at (q ∷ qs) (suc k) lt e =
         list_any-append (is_of v) (records_of q.1) (chars_in qs)
         ∙ or_right (list_any (is_of v) (records_of q.1)) (list_any (is_of v) (chars_in qs)) (at qs k (omega (arith, lt)) e)
+
+-- one of a run that is visible is seen
+abbrev seen_as : Node → Stretch → Bool
+seen_as v r = is_of v r && is_visible r
+
+seen_in : (n k : ℕ) (w v : Node) (e : Bool) → k < n → node_on w k ≡ v → list_any (seen_as v) (map record_of (states_from w n 1 e)) ≡ true
+seen_in zero k w v e lt is = absurd (omega (arith, lt))
+seen_in (suc n) zero w v e lt is =
+    let same : node_eq w v ≡ true = ap (node_eq w) (sym is ∙ node_on_none w) ∙ node_itself w in
+    ap (λ (b : Bool). (b && true) || list_any (seen_as v) (map record_of (states_from (node_on w 1) n 1 e))) same
+seen_in (suc n) (suc k) w v e lt is =
+    or_right (node_eq w v && true) (list_any (seen_as v) (map record_of (states_from (node_on w 1) n 1 e)))
+    (seen_in n k (node_on w 1) v e (omega (arith, lt)) (on_on w 1 k ∙ ap (node_on w) (next_to k) ∙ is))
+
+pub sees_there : (ps : List (ℕ × Stretch)) (l n : ℕ) (v : Node) (run : Stretch) → Contains ps (l, run) → n < run.len → node_on run.from n ≡ v → run.prepared ≡ 1 → sees (chars_in ps) v ≡ true
+sees_there ps l n v run held inside node visible = at ps held.0 held.1 held.2
+  where
+    here : (q : ℕ × Stretch) → q ≡ (l, run) → list_any (seen_as v) (records_of q.1) ≡ true
+    here q e =
+        subst (λ (r : Stretch). list_any (seen_as v) (records_of r) ≡ true) (sym (ap (λ (x : ℕ × Stretch). x.1) e))
+        (subst (λ (p : ℕ). list_any (seen_as v) (map record_of (states_from run.from run.len p run.effect)) ≡ true) (sym visible) (seen_in run.len n run.from v run.effect inside node))
+
+    at : (qs : List (ℕ × Stretch)) (k : ℕ) → k < length qs → slice_index_or qs k (l, run) ≡ (l, run) → list_any (seen_as v) (chars_in qs) ≡ true
+    at [] k lt e = absurd (omega (arith, lt))
+    at (q ∷ qs) zero lt e = list_any-append (seen_as v) (records_of q.1) (chars_in qs) ∙ or_left (list_any (seen_as v) (records_of q.1)) (list_any (seen_as v) (chars_in qs)) (here q e)
+    at (q ∷ qs) (suc k) lt e = list_any-append (seen_as v) (records_of q.1) (chars_in qs) ∙ or_right (list_any (seen_as v) (records_of q.1)) (list_any (seen_as v) (chars_in qs)) (at qs k (omega (arith, lt)) e)
 
 -- so where none of them is the node's, it stands nowhere, and has no label
 pub stands_not : (ps : List (ℕ × Stretch)) (v : Node) → list_any (is_of v) (chars_in ps) ≡ false → (l n : ℕ) → Stands ps l n v → ⊥

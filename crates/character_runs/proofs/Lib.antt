@@ -53,3 +53,6 @@ pub mod StruckFirsts
 pub mod Typing
 pub mod VisiblePlaces
 pub mod TypedOn
+pub mod StruckRuns
+pub mod FoundDeletions
+pub mod PartRuns

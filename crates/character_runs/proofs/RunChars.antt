@@ -14,7 +14,7 @@ node_on_none Root = refl
 node_on_none (Base i) = let same : i + 0 ≡ i = omega arith in ap Base same
 node_on_none (Event i) = let same : i + 0 ≡ i = omega arith in ap Event same
 
-next_on : (v : Node) (n : ℕ) → node_on (node_on v 1) n ≡ node_on v (suc n)
+pub next_on : (v : Node) (n : ℕ) → node_on (node_on v 1) n ≡ node_on v (suc n)
 next_on Root n = refl
 next_on (Base i) n = let same : i + 1 + n ≡ i + suc n = omega arith in ap Base same
 next_on (Event i) n = let same : i + 1 + n ≡ i + suc n = omega arith in ap Event same
@@ -84,7 +84,7 @@ dropped_in n (suc k) v p e =
     (λ i. drop (suc k) (map record_of (states_from v (more i) p e))) ∙ dropped_in n k (node_on v 1) p e ∙ ap (λ (w : Node). map record_of (states_from w n p e)) (next_on v k)
 
 module _ {X : Type 0} where
-  take_behind : (xs ys : List X) (k : ℕ) → take (length xs + k) (xs ++ ys) ≡ xs ++ take k ys
+  pub take_behind : (xs ys : List X) (k : ℕ) → take (length xs + k) (xs ++ ys) ≡ xs ++ take k ys
   take_behind [] ys k = let none : 0 + k ≡ k = omega arith in ap (λ n. take n (ys)) none
   take_behind (x ∷ xs) ys k = let more : suc (length xs) + k ≡ suc (length xs + k) = omega arith in ap (λ n. take n (x ∷ (xs ++ ys))) more ∙ ap (λ (zs : List X). x ∷ zs) (take_behind xs ys k)
 
@@ -92,7 +92,7 @@ module _ {X : Type 0} where
   drop_behind [] ys k = let none : 0 + k ≡ k = omega arith in ap (λ n. drop n (ys)) none
   drop_behind (x ∷ xs) ys k = let more : suc (length xs) + k ≡ suc (length xs + k) = omega arith in ap (λ n. drop n (x ∷ (xs ++ ys))) more ∙ drop_behind xs ys k
 
-  get_behind : (xs ys : List X) (k : ℕ) → slice_get (xs ++ ys) (length xs + k) ≡ slice_get ys k
+  pub get_behind : (xs ys : List X) (k : ℕ) → slice_get (xs ++ ys) (length xs + k) ≡ slice_get ys k
   get_behind [] ys k = let none : 0 + k ≡ k = omega arith in ap (λ n. slice_get (ys) n) none
   get_behind (x ∷ xs) ys k = let more : suc (length xs) + k ≡ suc (length xs + k) = omega arith in ap (λ n. slice_get (x ∷ (xs ++ ys)) n) more ∙ get_behind xs ys k
 

@@ -1,18 +1,17 @@
 -- Nodes with labels in two maps.
-use Rattle.std.specs.Prelude.{◌≡◌, ℕ, ◌≤◌, Option, Some, None, IsSome, nat_le, Bool, true, false, if◌then◌else◌}
-use Rattle.std.specs.Ordering.{nat_cmp}
-use Rattle.std.specs.BTreeMap.{get}
+use Rattle.std.specs.Prelude.{◌≡◌, ℕ, Option, Some, None, IsSome, nat_le, Bool, true, false, if◌then◌else◌}
 use Rattle.ew_model.specs.declared.node.Node.{Node}
 use Rattle.ew_model.specs.declared.node.Node.TheVariants.{Root, Base, Event}
 use Rattle.fugue_place.specs.Attachments.{node_eq}
+use Rattle.predecessor_map.specs.Maps.{label_at}
 use Rattle.character_runs.specs.declared.kept.Kept.{Kept}
 use Rattle.character_runs.specs.declared.kept.Tag.{Tag}
 
 -- the label that the maps have for a node
 abbrev pub kept_label : Kept → Node → Option ℕ
 kept_label t Root = None
-kept_label t (Base i) = get nat_cmp t.base i
-kept_label t (Event i) = get nat_cmp t.events i
+kept_label t (Base i) = label_at t.base i
+kept_label t (Event i) = label_at t.events i
 
 -- the node of the same kind with this number
 abbrev pub numbered : Node → ℕ → Node
@@ -54,9 +53,3 @@ label_by (Some tag) has v = if node_eq tag.node v then Some tag.label else has v
 -- the label in the maps of each node after one of them got this one, or was left without one
 abbrev pub Keeps : Kept → Kept → Node → Option ℕ → Type 0
 Keeps old new v label = (w : Node) → kept_label new w ≡ (if node_eq v w then label else kept_label old w)
-
--- the label is that of the last number up to this one that has one
-pub record IsLastIn (kept : ℕ → Option ℕ) (n key label : ℕ) : Type 0 where
-  pub before : key ≤ n
-  pub has : kept key ≡ Some label
-  pub last : (k : ℕ) → k ≤ n → IsSome (kept k) → k ≤ key

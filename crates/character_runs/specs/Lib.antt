@@ -1,4 +1,5 @@
 pub mod Cursors
+pub mod Deleting
 pub mod Entering
 pub mod EventPositions
 pub mod Kept

@@ -33,6 +33,10 @@ is_of v r = node_eq r.from v
 abbrev pub knows : List Stretch → Node → Bool
 knows rs v = list_any (λ (r : Stretch). is_of v r && is_inserted r) rs
 
+-- the node's character is visible there
+abbrev pub sees : List Stretch → Node → Bool
+sees rs v = list_any (λ (r : Stretch). is_of v r && is_visible r) rs
+
 -- a deletion does nothing to the text where the character isn't there
 abbrev pub deletion_by : Bool → ℕ → TextOp
 deletion_by true n = Del n

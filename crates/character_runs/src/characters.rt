@@ -1,17 +1,18 @@
 //! The characters that a state keeps, in order.
 
-ghost use Rattle.std.specs.Prelude.{◌≡◌, ℕ, ◌+◌, ◌-◌, ◌*◌, ◌<◌, ◌≤◌, ◌^◌, Bool, List, true, false, ◌∷◌, [], ◌++◌, length, map, Contains, IfSome, IfNone, IfOk, OnOk, OnErr, Some};
+ghost use Rattle.std.specs.Prelude.{◌≡◌, ℕ, ◌+◌, ◌-◌, ◌*◌, ◌<◌, ◌≤◌, ◌^◌, Bool, List, true, false, ◌∷◌, [], ◌++◌, length, map, Contains, IfSome, IfNone, IfOk, IsTrue, OnOk, OnErr, Some};
 ghost use Rattle.std.specs.List.{AllByRecursion, list_any};
 ghost use Rattle.ew_model.specs.declared.node.Node.{Node as Nodes};
 ghost use Rattle.ew_model.specs.declared.node.Node.TheVariants as nodes;
 ghost use Rattle.fugue_place.specs.declared.neighbour.Place.TheVariants as places;
-ghost use Rattle.walker_record.specs.Stretches.{Stretch, is_continued, prepared_of, effect_of};
+ghost use Rattle.walker_record.specs.Stretches.{Stretch, HasNumbers, node_on, is_continued, prepared_of, effect_of};
 ghost use Rattle.fugue_place.specs.Attachments.{is_attached, is_there, has_id, node_eq};
 ghost use Rattle.fugue_place.specs.Heirs.{AreNew, HaveHeirs};
 ghost use Rattle.order_tree.specs.Pairs.{IsPlace, changed, lower, total};
 ghost use Rattle.character_runs.specs.declared.change.Change.TheVariants as changes;
 ghost use Rattle.character_runs.specs.Cursors.{IsCursor, MayBeCursor, GaveEnd, SettleSame, last_of, shorter, with_end, settled};
-ghost use Rattle.character_runs.specs.States.{is_of, knows, visible_in, shown_in, base_records, changed_at, HasRoom};
+ghost use Rattle.character_runs.specs.States.{is_of, knows, sees, visible_in, shown_in, base_records, changed_at, HasRoom};
+ghost use Rattle.character_runs.specs.Deleting.{struck_each, AreDeletions, AreAllAmong};
 ghost use Rattle.character_runs.specs.Entering.{attached_by, run_of, IsNewChild};
 ghost use Rattle.character_runs.specs.EventPositions.{event_positions};
 ghost use Rattle.character_runs.specs.Laid.{AreLabelled, chars_in, records_in};
@@ -61,6 +62,17 @@ impl Model for Characters {
 pub struct Deletion {
     pub node: Node,
     pub op: TextOp,
+}
+
+/// Deletions of characters one after another, the node of each next to that of the one before.
+#[derive(Clone, Copy)]
+pub struct Deletions {
+    /// The node of the first.
+    pub first: Node,
+    /// How many.
+    pub count: u32,
+    /// The index of each in the text when it is deleted, which is the same for all. None where they aren't in the text.
+    pub index: Option<u32>,
 }
 
 impl Characters {
@@ -123,6 +135,38 @@ impl Characters {
         } else {
             None
         }
+    }
+
+    /// The deletions of at most so many characters, one after another at an index of what is prepared. None where no character is
+    /// there.
+    pub fn deletions_at(&mut self, at: u32, most: u32) -> Option<Deletions>
+        ensures some { IfSome result (AreDeletions self.old.records at) }
+        ensures most { IfSome result (λ ds. ds.count ≤ most) }
+        ensures one { IfSome result (λ ds. 0 < most → 0 < ds.count) }
+        ensures numbers { IfSome result (λ ds. HasNumbers ds.first ds.count) }
+        ensures none { IfNone result (visible_in self.old.records ≤ at) }
+        ensures same { self.new ≡ self.old }
+    {
+        if at < self.visible {
+            Some(self.deletions_by::<Brand>(at, most, Blank::new(1)))
+        } else {
+            None
+        }
+    }
+
+    /// Deletes so many characters from a node's on, one after another. Answers whether that was done. It is where they are of one run
+    /// and visible in what is prepared; where not, nothing has changed.
+    pub fn delete_run(&mut self, first: Node, count: u32) -> Result<bool, NoMem>
+        requires { AllByRecursion HasRoom self.old.records }
+        ensures yes { IfOk result (λ done. IsTrue done → self.new.records ≡ struck_each self.old.records first count) }
+        ensures visible { IfOk result (λ done. IsTrue done → (k : ℕ) → k < count → sees self.old.records (node_on first k) ≡ true) }
+        ensures no { IfOk result (λ done. done ≡ false → self.new ≡ self.old) }
+        ensures err { OnErr result (self.new.records ≡ self.old.records) }
+        ensures known { (v : Nodes) → knows self.new.records v ≡ knows self.old.records v }
+        ensures loose { (among : Nodes → Bool) → loose_in among self.new.runs ≤ loose_in among self.old.runs + 2 }
+        ensures told { (among : Nodes → Bool) → AreAllAmong among first count → loose_in among self.new.runs ≤ loose_in among self.old.runs }
+    {
+        self.delete_run_by::<Brand>(first, count, Blank::new(1))
     }
 
     /// Changes the states of a character. Answers whether it is inserted, before and after.
@@ -305,6 +349,62 @@ impl Characters {
             node: found.node(),
             op: found.deletion(),
         }
+    }
+
+    fn deletions_by<L: Ledger>(&mut self, at: u32, most: u32, blank: Blank) -> Deletions
+        requires name { blank.name ≡ L.name }
+        requires parts { blank.parts ≡ L.parts }
+        requires some { 0 < blank.parts }
+        requires within { at < visible_in self.old.records }
+        ensures deletions { AreDeletions self.old.records at result }
+        ensures most { result.count ≤ most }
+        ensures one { 0 < most → 0 < result.count }
+        ensures numbers { HasNumbers result.first result.count }
+        ensures same { self.new ≡ self.old }
+    {
+        let mut visits: Steps<L> = Steps::new(blank);
+        self.runs.facts();
+        let found = find(
+            &mut self.runs,
+            &mut self.cursor,
+            &mut self.pending,
+            at,
+            &mut visits,
+        );
+        Deletions {
+            first: found.node(),
+            count: found.count(most),
+            index: found.index(),
+        }
+    }
+
+    fn delete_run_by<L: Ledger>(
+        &mut self,
+        first: Node,
+        count: u32,
+        blank: Blank,
+    ) -> Result<bool, NoMem>
+        requires name { blank.name ≡ L.name }
+        requires parts { blank.parts ≡ L.parts }
+        requires some { 0 < blank.parts }
+        requires room { AllByRecursion HasRoom self.old.records }
+        ensures yes { IfOk result (λ done. IsTrue done → self.new.records ≡ struck_each self.old.records first count) }
+        ensures visible { IfOk result (λ done. IsTrue done → (k : ℕ) → k < count → sees self.old.records (node_on first k) ≡ true) }
+        ensures no { IfOk result (λ done. done ≡ false → self.new ≡ self.old) }
+        ensures err { OnErr result (self.new.records ≡ self.old.records) }
+        ensures known { (v : Nodes) → knows self.new.records v ≡ knows self.old.records v }
+        ensures loose { (among : Nodes → Bool) → loose_in among self.new.runs ≤ loose_in among self.old.runs + 2 }
+        ensures told { (among : Nodes → Bool) → AreAllAmong among first count → loose_in among self.new.runs ≤ loose_in among self.old.runs }
+    {
+        let mut visits: Steps<L> = Steps::new(blank);
+        settle(&mut self.runs, &self.cursor, &mut self.pending, &mut visits);
+        self.cursor = None;
+        let Some(altered) = self.runs.delete_part(first, count, &mut visits)? else {
+            return Ok(false);
+        };
+        self.visible = altered.visible(self.visible);
+        self.shown = altered.shown(self.shown);
+        Ok(true)
     }
 
     fn change_by<L: Ledger>(

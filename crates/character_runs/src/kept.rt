@@ -1,22 +1,20 @@
 //! Labels of nodes in two maps.
 
-ghost use Rattle.std.specs.Prelude.{◌≡◌, ◌≤◌, ℕ, true, Some, None, IfSome, IfNone, OnOk, OnErr, nat_eq, if◌then◌else◌};
-ghost use Rattle.std.specs.Ordering.{nat_cmp};
-ghost use Rattle.std.specs.BTreeMap.{get};
+ghost use Rattle.std.specs.Prelude.{◌≡◌, true, Some, None, IfSome, IfNone, OnOk, OnErr};
 ghost use Rattle.ew_model.specs.declared.node.Node.{Node as Nodes};
 ghost use Rattle.ew_model.specs.declared.node.Node.TheVariants as nodes;
-ghost use Rattle.character_runs.specs.Kept.{kept_label, numbered, is_up_to, IsLastOf, AreLastOf, IsLastIn, Keeps};
+ghost use Rattle.character_runs.specs.Kept.{kept_label, numbered, is_up_to, IsLastOf, AreLastOf, Keeps};
 
 use ew_model::NoMem;
 use ew_model::node::Node;
+use predecessor_map::PredecessorMap;
 use std::alloc::Global;
-use std::collections::BTreeMap;
 
 /// A label for each of some nodes.
 #[derive(Drop)]
 pub struct Kept {
-    base: BTreeMap<u32, u64>,
-    events: BTreeMap<u32, u64>,
+    base: PredecessorMap,
+    events: PredecessorMap,
 }
 
 /// A node with its label.
@@ -32,8 +30,8 @@ impl Kept {
         ensures { (v : Nodes) → kept_label result v ≡ None }
     {
         Kept {
-            base: BTreeMap::new(alloc),
-            events: BTreeMap::new(alloc),
+            base: PredecessorMap::new(alloc),
+            events: PredecessorMap::new(alloc),
         }
     }
 
@@ -53,8 +51,8 @@ impl Kept {
     {
         match node {
             Node::Root => None,
-            Node::Base(i) => last_in(&self.base, i),
-            Node::Event(i) => last_in(&self.events, i),
+            Node::Base(i) => self.base.last_up_to(i),
+            Node::Event(i) => self.events.last_up_to(i),
         }
     }
 
@@ -67,8 +65,8 @@ impl Kept {
     {
         match node {
             Node::Root => unreachable!(),
-            Node::Base(i) => insert_in(&mut self.base, i, label),
-            Node::Event(i) => insert_in(&mut self.events, i, label),
+            Node::Base(i) => self.base.insert(i, label),
+            Node::Event(i) => self.events.insert(i, label),
         }
     }
 
@@ -78,8 +76,8 @@ impl Kept {
     {
         match node {
             Node::Root => {}
-            Node::Base(i) => remove_in(&mut self.base, i),
-            Node::Event(i) => remove_in(&mut self.events, i),
+            Node::Base(i) => self.base.remove(i),
+            Node::Event(i) => self.events.remove(i),
         }
     }
 }
@@ -93,32 +91,4 @@ fn numbered(node: Node, number: u32) -> Node
         Node::Base(_) => Node::Base(number),
         Node::Event(_) => Node::Event(number),
     }
-}
-
-/// The last number up to this one that has a label, with that.
-fn last_in(map: &BTreeMap<u32, u64>, n: u32) -> Option<(u32, u64)>
-    ensures some { IfSome result (λ e. IsLastIn (get nat_cmp map.now) n e.0 e.1) }
-    ensures none { IfNone result ((k : ℕ) → k ≤ n → get nat_cmp map.now k ≡ None) }
-{
-    match map.range(..=n).next_back() {
-        Some((key, label)) => Some((*key, *label)),
-        None => None,
-    }
-}
-
-fn insert_in(map: &mut BTreeMap<u32, u64>, n: u32, label: u64) -> Result<(), NoMem>
-    ensures ok { OnOk result ((k : ℕ) → get nat_cmp map.new k ≡ (if nat_eq n k then Some label else get nat_cmp map.old k)) }
-    ensures err { OnErr result ((k : ℕ) → get nat_cmp map.new k ≡ get nat_cmp map.old k) }
-    ensures absent { OnErr result (get nat_cmp map.old n ≡ None) }
-{
-    match map.insert(n, label) {
-        Ok(_) => Ok(()),
-        Err(_) => Err(NoMem),
-    }
-}
-
-fn remove_in(map: &mut BTreeMap<u32, u64>, n: u32)
-    ensures { (k : ℕ) → get nat_cmp map.new k ≡ (if nat_eq n k then None else get nat_cmp map.old k) }
-{
-    let _ = map.remove(&n);
 }

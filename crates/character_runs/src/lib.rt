@@ -25,6 +25,6 @@ mod runs;
 mod slot;
 
 pub use change::{Change, Positions};
-pub use characters::{Characters, Deletion};
+pub use characters::{Characters, Deletion, Deletions};
 pub use runs::Known;
 pub use slot::{KnownRights, Slot};

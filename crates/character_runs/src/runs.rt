@@ -1,9 +1,10 @@
 //! The runs of a state: a counted tree of them, and the label of each by its first node.
 
-ghost use Rattle.std.specs.Prelude.{◌≡◌, ◌+◌, ◌<◌, ◌≤◌, ◌^◌, [], None, IfOk, length};
+ghost use Rattle.std.specs.Prelude.{◌≡◌, ◌+◌, ◌-◌, ◌<◌, ◌≤◌, ◌^◌, [], None, IfOk, length, min};
 ghost use Rattle.ew_model.specs.declared.node.Node.{Node as Nodes};
-ghost use Rattle.walker_record.specs.Stretches.{node_on};
+ghost use Rattle.walker_record.specs.Stretches.{node_on, HasNumbers};
 ghost use Rattle.character_runs.specs.States.{base_records, deletion_by};
+ghost use Rattle.character_runs.specs.Deleting.{deletion_op};
 ghost use Rattle.character_runs.specs.Labelled.{label_of};
 ghost use Rattle.character_runs.specs.Laid.{AreLabelled, chars_in};
 
@@ -63,17 +64,35 @@ impl Counted {
         node_at(&self.run, self.spot.offset)
     }
 
+    /// How many characters of its run there are from it on, at most so many.
+    pub fn count(&self, most: u32) -> u32
+        requires { self.now.spot.offset < self.now.run.len }
+        ensures is { result ≡ min most (self.now.run.len - self.now.spot.offset) }
+        ensures numbers { HasNumbers (node_on self.now.run.from self.now.spot.offset) result }
+    {
+        most.min(self.run.len - self.spot.offset)
+    }
+
+    /// Its index in the text. None where it isn't in the text.
+    pub fn index(&self) -> Option<u32>
+        requires { self.now.before + self.now.spot.offset < 2 ^ 32 }
+        ensures { deletion_op result ≡ deletion_by self.now.run.effect (self.now.before + self.now.spot.offset) }
+    {
+        if self.run.effect {
+            Some(self.before + self.spot.offset)
+        } else {
+            None
+        }
+    }
+
     /// What its deletion does to the text.
     pub fn deletion(&self) -> TextOp
         requires { self.now.before + self.now.spot.offset < 2 ^ 32 }
         ensures { result ≡ deletion_by self.now.run.effect (self.now.before + self.now.spot.offset) }
     {
-        if self.run.effect {
-            TextOp::Del {
-                at: self.before + self.spot.offset,
-            }
-        } else {
-            TextOp::Nothing
+        match self.index() {
+            Some(at) => TextOp::Del { at },
+            None => TextOp::Nothing,
         }
     }
 }

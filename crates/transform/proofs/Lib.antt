@@ -23,3 +23,4 @@ pub mod Turning
 pub mod TypedEvents
 pub mod WalkedEvents
 pub mod WholeWalks
+pub mod DeletedEvents

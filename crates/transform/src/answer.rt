@@ -6,7 +6,7 @@ use operation_runs::OperationRuns;
 /// What a walk answers.
 #[derive(Drop)]
 pub struct Walk {
-    /// What each walked event does to the text of the events before it, one operation for each.
+    /// What each walked event from `emit_from` on does to the text of the events before it, in their order.
     pub ops: Vec<TextOp>,
     /// The position of the first event whose index is out of range, and the length of the text at its parents.
     pub stopped: Option<(u32, u32)>,
@@ -15,7 +15,9 @@ pub struct Walk {
 /// The same, with the operations in runs.
 #[derive(Drop)]
 pub struct WalkedRuns {
+    /// What each walked event from `emit_from` on does to the text of the events before it, in their order.
     pub ops: OperationRuns,
+    /// The position of the first event whose index is out of range, and the length of the text at its parents.
     pub stopped: Option<(u32, u32)>,
 }
 

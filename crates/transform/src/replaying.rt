@@ -30,7 +30,7 @@ pub fn replay<L: Ledger>(
     ops.to_vec(alloc)
 }
 
-/// The same walk, with its operations in runs.
+/// The same walk. The operations are answered in runs, which mostly take less memory.
 pub fn replay_runs<L: Ledger>(
     alloc: Global,
     graph: &Graph,

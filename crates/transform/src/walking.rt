@@ -57,7 +57,7 @@ pub fn walk<L: Ledger>(
     Ok(Walk { ops, stopped })
 }
 
-/// The same walk, with its operations in runs.
+/// The same walk. The operations are answered in runs, which mostly take less memory.
 pub fn walk_runs<L: Ledger>(
     alloc: Global,
     graph: &Graph,

@@ -1,17 +1,19 @@
 //! Runs that get other states.
 
-ghost use Rattle.std.specs.Prelude.{◌≡◌, ◌+◌, ◌<◌, ◌≤◌, ◌^◌, ℕ, List, map, length, Contains, Bool, true, IfOk, OnOk, OnErr, IfSome, IfNone};
+ghost use Rattle.std.specs.Prelude.{◌≡◌, ◌+◌, ◌-◌, ◌<◌, ◌≤◌, ◌^◌, ℕ, List, map, length, Contains, Bool, true, IfOk, OnOk, OnErr, IfSome, IfNone};
 ghost use Rattle.std.specs.List.{AllByRecursion, list_any};
 ghost use Rattle.ew_model.specs.declared.node.Node.{Node as Nodes};
 ghost use Rattle.ew_model.specs.declared.node.Node.TheVariants as nodes;
 ghost use Rattle.walker_record.specs.Stretches.{Stretch, node_on, prepared_of, effect_of};
 ghost use Rattle.order_tree.specs.Pairs.{runs, IsRising, changed as with_run};
-ghost use Rattle.character_runs.specs.States.{is_inserted, is_of, knows, changed, changed_at, HasRoom};
+ghost use Rattle.character_runs.specs.States.{is_inserted, is_of, knows, sees, changed, changed_at, HasRoom};
+ghost use Rattle.character_runs.specs.Deleting.{struck_each, AreAllAmong};
 ghost use Rattle.character_runs.specs.Laid.{Stands, IsOffset, AreLabelled, chars_in};
 ghost use Rattle.character_runs.specs.Loose.{loose_in, MayBeCut};
 ghost use Rattle.character_runs.specs.Replacing.{StaysOr, AreNodesOf, ArePart, Recounted, changed_among, changed_in, were_inserted, are_inserted};
 
 use crate::change::{Change, Positions, changed};
+use crate::offsets::node_at;
 use crate::runs::Runs;
 use crate::runs::reading::Found;
 use ew_model::NoMem;
@@ -119,6 +121,77 @@ impl Runs {
         let lone = self.end_found(node, begun, visits)?;
         self.facts();
         Ok(lone)
+    }
+
+    /// Makes a run of so many characters from the first on, which stand in a run that was found. Answers that run. After an error for
+    /// want of memory the characters are the same.
+    fn part<L: Ledger>(
+        &mut self,
+        first: Node,
+        count: u32,
+        found: Found,
+        visits: &mut Steps<L>,
+    ) -> Result<Found, NoMem>
+        requires laid { AreLabelled self.old.tree.pairs self.old.labels }
+        requires held { Contains self.old.tree.pairs (found.label, found.run) }
+        requires offset { IsOffset found.run first found.offset }
+        requires some { 0 < count }
+        requires inside { found.offset + count ≤ found.run.len }
+        ensures laid { AreLabelled self.new.tree.pairs self.new.labels }
+        ensures chars { chars_in self.new.tree.pairs ≡ chars_in self.old.tree.pairs }
+        ensures held { IfOk result (λ f. Contains self.new.tree.pairs (f.label, f.run)) }
+        ensures first { IfOk result (λ f. f.run.from ≡ first) }
+        ensures long { IfOk result (λ f. f.run.len ≡ count) }
+        ensures prepared { IfOk result (λ f. f.run.prepared ≡ found.run.prepared) }
+        ensures cut { (mid : List Stretch) × MayBeCut (runs self.old.tree.pairs) mid first × MayBeCut mid (runs self.new.tree.pairs) (node_on (node_on first (count - 1)) 1) }
+    {
+        self.facts();
+        let Some(begun) = self.begin_found(first, found, visits)? else {
+            unreachable!()
+        };
+        self.facts();
+        let last = node_at(&begun.run, count - 1);
+        let behind = Found {
+            offset: count - 1,
+            ..begun
+        };
+        let Some(part) = self.end_found(last, behind, visits)? else {
+            unreachable!()
+        };
+        self.facts();
+        Ok(part)
+    }
+
+    /// Deletes so many characters from a node's on, one after another. Answers the run that they were and the one that they are then.
+    /// It is done where they are of one run and visible in what is prepared; where not, nothing has changed. After an error for want of
+    /// memory the characters are the same.
+    pub fn delete_part<L: Ledger>(
+        &mut self,
+        first: Node,
+        count: u32,
+        visits: &mut Steps<L>,
+    ) -> Result<Option<Altered>, NoMem>
+        requires laid { AreLabelled self.old.tree.pairs self.old.labels }
+        requires room { AllByRecursion HasRoom (chars_in self.old.tree.pairs) }
+        requires few { length (chars_in self.old.tree.pairs) < 2 ^ 32 }
+        ensures laid { AreLabelled self.new.tree.pairs self.new.labels }
+        ensures chars { IfOk result (λ o. IfSome o (λ _. chars_in self.new.tree.pairs ≡ struck_each (chars_in self.old.tree.pairs) first count)) }
+        ensures visible { IfOk result (λ o. IfSome o (λ _. (k : ℕ) → k < count → sees (chars_in self.old.tree.pairs) (node_on first k) ≡ true)) }
+        ensures recounted { IfOk result (λ o. IfSome o (Recounted (chars_in self.old.tree.pairs) (chars_in self.new.tree.pairs))) }
+        ensures none { IfOk result (λ o. IfNone o (self.new ≡ self.old)) }
+        ensures err { OnErr result (chars_in self.new.tree.pairs ≡ chars_in self.old.tree.pairs) }
+        ensures known { (v : Nodes) → knows (chars_in self.new.tree.pairs) v ≡ knows (chars_in self.old.tree.pairs) v }
+        ensures loose { (among : Nodes → Bool) → loose_in among (runs self.new.tree.pairs) ≤ loose_in among (runs self.old.tree.pairs) + 2 }
+        ensures told { (among : Nodes → Bool) → AreAllAmong among first count → loose_in among (runs self.new.tree.pairs) ≤ loose_in among (runs self.old.tree.pairs) }
+    {
+        let Some(found) = self.run_of(first, visits) else {
+            return Ok(None);
+        };
+        if count == 0 || count > found.run.len - found.offset || found.run.prepared != 1 {
+            return Ok(None);
+        }
+        let part = self.part(first, count, found, visits)?;
+        Ok(Some(self.recast(part, Change::Strike, visits)))
     }
 
     /// Changes the states of a run's characters.

@@ -6,8 +6,8 @@ use Rattle.character_runs.proofs.kept.Kept.last_number.Goals as goal
 
 pub returns-in-Base-clause-some : goal.returns-in-Base-clause-some
 returns-in-Base-clause-some c =
-    subst (λ (v : Node). IfSome c.last_in.result (λ (e : ℕ × ℕ). IsLastOf (kept_label c.args.self.now) v (record { node = numbered v e.0; label = e.1 }))) (sym c.in-Base.is) (some_base c.args.self.now c.in-Base.i c.last_in.result c.last_in.ensures.some)
+    subst (λ (v : Node). IfSome c.last_up_to.result (λ (e : ℕ × ℕ). IsLastOf (kept_label c.args.self.now) v (record { node = numbered v e.0; label = e.1 }))) (sym c.in-Base.is) (some_base c.args.self.now c.in-Base.i c.last_up_to.result c.last_up_to.ensures.some)
 
 pub returns-in-Event-clause-some : goal.returns-in-Event-clause-some
 returns-in-Event-clause-some c =
-    subst (λ (v : Node). IfSome c.last_in-in-Event.result (λ (e : ℕ × ℕ). IsLastOf (kept_label c.args.self.now) v (record { node = numbered v e.0; label = e.1 }))) (sym c.in-Event.is) (some_event c.args.self.now c.in-Event.i c.last_in-in-Event.result c.last_in-in-Event.ensures.some)
+    subst (λ (v : Node). IfSome c.last_up_to-in-Event.result (λ (e : ℕ × ℕ). IsLastOf (kept_label c.args.self.now) v (record { node = numbered v e.0; label = e.1 }))) (sym c.in-Event.is) (some_event c.args.self.now c.in-Event.i c.last_up_to-in-Event.result c.last_up_to-in-Event.ensures.some)
