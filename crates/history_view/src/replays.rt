@@ -16,20 +16,22 @@ use std::sync::ledger::Ledger;
 use transform::replay_runs;
 
 /// The replay: what each event in the history's order does to the text of those before it, on a line, as `ins AT CH`, `del AT`
-/// or `nothing`. The steps taken are at most the touches of the history.
+/// or `nothing`. The steps taken are the touches of the history, or fewer where memory is wanting.
 pub fn replay_text<L: Ledger>(
     alloc: Global,
     replica: &Replica,
     steps: &mut Steps<L>,
 ) -> Result<Vec<u8>, NoMem>
     ensures text { IfOk result (λ text. text.items ≡ model.replay_text replica.now.held) }
+    ensures exact { OnOk result (steps.new ≡ steps.old + touches replica.now.held 0) }
     ensures touches { steps.new ≤ steps.old + touches replica.now.held 0 }
 {
     let ops = replay_runs(alloc, replica.graph(), steps)?;
     changes_text(alloc, &ops)
 }
 
-/// The replay of a replica that isn't needed any more: it is let go before the text is made.
+/// The same replay, of a replica that isn't needed any more. It is let go before the text is made, and where memory is wanting it is
+/// gone too. The steps taken are at most the touches of the history.
 pub fn into_replay_text<L: Ledger>(
     alloc: Global,
     replica: Replica,

@@ -73,7 +73,7 @@ impl<'a> OperationRun<'a> {
         }
     }
 
-    /// Puts the operations behind others, one by one.
+    /// Puts the operations behind others, one by one. Where memory is wanting, the others stay as they are.
     pub fn push_to(&self, ops: &mut Vec<TextOp>) -> Result<(), NoMem>
         requires { RunFits self.now }
         ensures ok { OnOk result (ops.new.items ≡ ops.old.items ++ run_ops self.now) }
