@@ -1,5 +1,5 @@
 -- What an edit of a branch leaves.
-use Rattle.std.proofs.Common.{◌≡◌, ℕ, ◌+◌, ◌*◌, ◌^◌, ◌<◌, ◌≤◌, true, false, Bool, nat_lt, if◌then◌else◌, Option, Some, None, List, [], ◌∷◌, zero, suc, length, slice_set, slice_index_or, arith, refl, ap, ◌∙◌}
+use Rattle.std.proofs.Common.{◌≡◌, ℕ, ◌+◌, ◌^◌, ◌<◌, ◌≤◌, true, false, Bool, nat_lt, if◌then◌else◌, Option, Some, None, List, [], ◌∷◌, zero, suc, length, slice_set, slice_index_or, arith, refl, ap, ◌∙◌}
 use Rattle.std.specs.Prelude.{is_some, Result, Ok, Err, IfOk, OnErr, IsErr}
 use Rattle.std.proofs.lemmas.Bool.{false≢true}
 use Rattle.std.specs.declared.vec.Vec.{Vec}

@@ -1,4 +1,5 @@
 pub mod AboutLaws
+pub mod AlterLaws
 pub mod Around
 pub mod BranchEdits
 pub mod ChangeLaws

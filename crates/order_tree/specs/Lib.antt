@@ -1,4 +1,5 @@
 pub mod Abouts
+pub mod Alterations
 pub mod Blocks
 pub mod Counts
 pub mod Edits

@@ -46,7 +46,7 @@ pub record IsMoved (old lost gained new : Sums) : Type 0 where
   pub prepared : new.prepared + lost.prepared ≡ old.prepared + gained.prepared
   pub effect : new.effect + lost.effect ≡ old.effect + gained.effect
 
--- these are the last labels with a known character, or 0, before and after a change of the run at a label: a greater one stays, and else it is that of the run, if this has known characters now
+-- old and new are the labels of the last run with a known character, or 0, before the run at this label changed and after. A greater label stays. Else it is this one, where the run has so many known characters and there are some. Where there are none, nothing is said
 pub record IsKnownAfter (old label known new : ℕ) : Type 0 where
   pub greater : label < old → new ≡ old
   pub own : old ≤ label → 0 < known → new ≡ label

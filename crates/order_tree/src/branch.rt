@@ -8,10 +8,11 @@ ghost use Rattle.order_tree.specs.Shape.{AllBelow, pairs_in};
 ghost use Rattle.order_tree.specs.Edits.{IsPlaced, IsFree, StaysFit};
 ghost use Rattle.order_tree.specs.Relabels.{relabelled, renamed, reached};
 ghost use Rattle.order_tree.specs.Rights.{IsBranchEdit};
+ghost use Rattle.order_tree.specs.Alterations.{IsAnswer, WasKept};
 ghost use Rattle.order_tree.specs.Abouts.{IsTried, IsWithin, IsIdle};
 
 use crate::about::{Tried, count_beside, place_about, step_for};
-use crate::change::{Moved, change_entry};
+use crate::change::{Alteration, Moved, Taken, alter_entry, change_entry};
 use crate::count::Count;
 use crate::edit::Edit;
 use crate::entries::{effect_up_to_in, known_after_in, last_free_in, last_in, place_in, run_in};
@@ -367,6 +368,52 @@ impl<R: Run + Drop> Branch<R> {
                 let moved = kids[k].change(label, run, visits);
                 self.summary = self.node.kept_after(self.summary, label, moved);
                 moved
+            }
+        }
+    }
+}
+
+impl<R: Run + Copy> Node<R> {
+    /// What is kept of the node where the run at a label may have taken a change, from what was kept before.
+    fn kept_if(&self, old: Summary, label: u64, taken: &Option<Taken<R>>) -> Summary
+        requires { WasKept R.Run label (pairs_in self.now) old taken.now }
+        ensures { result ≡ summary_of R.Run (pairs_in self.now) }
+    {
+        match taken {
+            Some(taken) => self.kept_after(old, label, taken.moved),
+            None => old,
+        }
+    }
+}
+
+impl<R: Run + Copy + Drop> Branch<R> {
+    /// Tries a change on the run of a label. Writes what it did into `taken`, or None where the run refused it.
+    // Written there and not answered, so that it isn't copied on each level.
+    pub fn alter<A: Alteration<R>, L: Ledger>(
+        &mut self,
+        label: u64,
+        alteration: &A,
+        taken: &mut Option<Taken<R>>,
+        visits: &mut Steps<L>,
+    )
+        requires rising { IsRising self.old.pairs }
+        requires held { (r : R) × Contains self.old.pairs (label, r) }
+        requires suits { (run : R) → Contains self.old.pairs (label, run) → A.suits alteration.now run }
+        requires fit { (run after : R) → Contains self.old.pairs (label, run) → A.makes alteration.now run (Some after) → SumsFit R.Run (changed self.old.pairs label after) }
+        ensures taken { IsAnswer R.Run (A.makes alteration.now) label self.old.pairs self.new.pairs taken.new }
+        ensures depth { self.new.depth ≡ self.old.depth }
+        ensures cost { visits.new ≡ visits.old + self.old.depth }
+    {
+        visits.tick();
+        match &mut self.node {
+            Node::Leaf(entries) => {
+                *taken = alter_entry(entries, label, alteration);
+                self.summary = self.node.kept_if(self.summary, label, taken);
+            }
+            Node::Inner(kids) => {
+                let k = place_of(kids.as_slice(), label);
+                kids[k].alter(label, alteration, taken, visits);
+                self.summary = self.node.kept_if(self.summary, label, taken);
             }
         }
     }

@@ -23,6 +23,7 @@ mod tree;
 mod visible;
 
 pub use about::Relabelled;
+pub use change::{Alteration, Altered};
 pub use ew_model::NoMem;
 pub use tree::OrderTree;
 pub use visible::Visible;

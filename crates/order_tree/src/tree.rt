@@ -1,11 +1,12 @@
 //! The counted tree.
 
-ghost use Rattle.std.specs.Prelude.{◌≡◌, ℕ, ◌+◌, ◌-◌, ◌*◌, ◌^◌, ◌<◌, ◌≤◌, ◌↔◌, ◌⊎◌, IsTrue, Option, [], length, zip, All, Contains, IfSome, IfNone, IfOk, OnOk, IsOkAnd, OnErr};
+ghost use Rattle.std.specs.Prelude.{◌≡◌, ℕ, ◌+◌, ◌-◌, ◌*◌, ◌^◌, ◌<◌, ◌≤◌, ◌↔◌, ◌⊎◌, IsTrue, Option, Some, None, [], length, zip, All, Contains, IfSome, IfNone, IfOk, OnOk, IsOkAnd, OnErr};
 ghost use Rattle.order_tree.specs.Edits.{IsPlaced, IsBetween, IsFree};
 ghost use Rattle.order_tree.specs.Pairs.{Tree, labels, runs, IsRising, EndsWith, lower, first_label, next_label, HasRoom, counted_after, total, SumsFit, IsPlace, changed, inserted, IsCut, AreSpread, AreGivenIn};
 
 use crate::about::{Relabelled, Tried, own_of};
 use crate::branch::Branch;
+use crate::change::{Alteration, Altered};
 use crate::count::Count;
 use crate::edit::Edit;
 use crate::label::{Recent, share};
@@ -313,6 +314,37 @@ impl<R: Run + Drop> OrderTree<R> {
             unreachable!()
         };
         let _ = root.change(label, run, visits);
+    }
+}
+
+impl<R: Run + Copy + Drop> OrderTree<R> {
+    /// Tries a change on the run of a label. None, and nothing changes, where the run doesn't take it. It takes no memory.
+    pub fn alter<A: Alteration<R>, L: Ledger>(
+        &mut self,
+        label: u64,
+        alteration: &A,
+        visits: &mut Steps<L>,
+    ) -> Option<Altered<R>>
+        requires held { Contains (labels self.old.pairs) label }
+        requires suits { (run : R) → Contains self.old.pairs (label, run) → A.suits alteration.now run }
+        requires fit { (run after : R) → Contains self.old.pairs (label, run) → A.makes alteration.now run (Some after) → SumsFit R.Run (changed self.old.pairs label after) }
+        ensures before { IfSome result (λ a. Contains self.old.pairs (label, a.before)) }
+        ensures after { IfSome result (λ a. A.makes alteration.now a.before (Some a.after)) }
+        ensures pairs { IfSome result (λ a. self.new.pairs ≡ changed self.old.pairs label a.after) }
+        ensures refused { IfNone result ((run : R) → Contains self.old.pairs (label, run) → A.makes alteration.now run None) }
+        ensures none { IfNone result (self.new ≡ self.old) }
+        ensures depth { self.new.depth ≡ self.old.depth }
+        ensures cost { visits.new ≡ visits.old + self.old.depth }
+    {
+        let Some(root) = &mut self.root else {
+            unreachable!()
+        };
+        let mut taken = None;
+        root.alter(label, alteration, &mut taken, visits);
+        match taken {
+            Some(taken) => Some(taken.altered),
+            None => None,
+        }
     }
 }
 
