@@ -4,7 +4,7 @@ use Rattle.std.proofs.lemmas.Bool.{lt-ltb, le-ltb}
 use Rattle.std.proofs.lemmas.List.Elements.{Contains-append_right}
 use Rattle.ew_model.specs.declared.node.Node.{Node}
 use Rattle.walker_record.specs.Stretches.{Stretch, node_on, states_from, known_of}
-use Rattle.order_tree.specs.Pairs.{IsRising, greater, labels, first_label, counted_after}
+use Rattle.order_tree.specs.Pairs.{IsRising, greater, labels, runs, first_label, counted_after}
 use Rattle.character_runs.specs.Laid.{record_of, records_of, chars_in}
 use Rattle.character_runs.specs.Spots.{first_known}
 use Rattle.character_runs.proofs.PartedRuns.{same_run}
@@ -80,6 +80,15 @@ held_label ps n r h = at ps h.0 h.1 h.2
     at [] k lt e = absurd (omega (arith, lt))
     at (q ∷ qs) zero lt e = (0, omega arith, ap (λ (p : ℕ × Stretch). p.0) e)
     at (q ∷ qs) (suc k) lt e = Contains-append_right (q.0 ∷ []) (labels qs) n (at qs k (omega (arith, lt)) e)
+
+-- each run stands at a label
+pub label_of_run : (ps : List (ℕ × Stretch)) (r : Stretch) → Contains (runs ps) r → (label : ℕ) × Contains ps (label, r)
+label_of_run ps r h = at ps h.0 h.1 h.2
+  where
+    at : (qs : List (ℕ × Stretch)) (k : ℕ) → k < length (runs qs) → slice_index_or (runs qs) k r ≡ r → (label : ℕ) × Contains qs (label, r)
+    at [] k lt e = absurd (omega (arith, lt))
+    at (q ∷ qs) zero lt e = (q.0, (0, omega arith, ap (λ (s : Stretch). (q.0, s)) e))
+    at (q ∷ qs) (suc k) lt e = let rest = at qs k (omega (arith, lt)) e in (rest.0, Contains-append_right (q ∷ []) qs (rest.0, r) rest.1)
 
 -- BEHIND A CHARACTER OF A RUN
 behind : (r : Stretch) (k : ℕ) (rs : List Stretch) → k ≤ r.len

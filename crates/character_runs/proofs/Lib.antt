@@ -38,6 +38,7 @@ pub mod PartedRuns
 pub mod Parting
 pub mod Pending
 pub mod Places
+pub mod RecastRuns
 pub mod Renamed
 pub mod Replaced
 pub mod RestedRuns

@@ -14,12 +14,12 @@ abbrev pub struck_each : List Stretch → Node → ℕ → List Stretch
 struck_each rs v zero = rs
 struck_each rs v (suc n) = map (changed_at (node_on v n) Strike) (struck_each rs v n)
 
--- what a deletion of the character with an index in the text does to it, or of one that isn't there
+-- what a deletion does to the text: of the character at this index there, or of one that isn't there
 abbrev pub deletion_op : Option ℕ → TextOp
 deletion_op None = Nothing
 deletion_op (Some n) = Del n
 
--- Deletions one after another, each of the character that is visible at the index once those before it were deleted. Each does the same to the text.
+-- So many deletions one after another, of characters whose nodes follow one another. Each is of the character that is visible at the index once those before it were deleted, and does the same to the text.
 abbrev pub AreDeletions : List Stretch → ℕ → Deletions → Type 0
 AreDeletions rs at ds = (k : ℕ) → k < ds.count → IsDeletion (struck_each rs ds.first k) at (record { node = node_on ds.first k; op = deletion_op ds.index })
 

@@ -6,7 +6,9 @@ use Rattle.walker_record.specs.Stretches.{Stretch, node_on, prepared_of, effect_
 use Rattle.character_runs.specs.declared.change.Change.{Change}
 use Rattle.character_runs.specs.declared.change.Positions.{Positions}
 use Rattle.character_runs.specs.declared.runs.changing.Altered.{Altered}
-use Rattle.character_runs.specs.States.{changed, is_inserted, visible_in, shown_in}
+use Rattle.character_runs.specs.declared.runs.changing.Recasting.{Recasting}
+use Rattle.character_runs.specs.States.{changed, is_inserted, visible_in, shown_in, HasRoom}
+use Rattle.character_runs.specs.Laid.{IsOffset}
 
 -- what one counts that passes or does not
 abbrev pub one_if : Bool → ℕ
@@ -66,3 +68,25 @@ pub record ArePart (position : ℕ) (these those : Positions) : Type 0 where
   pub last : these.to ≤ those.to
   pub low : these.from ≤ position
   pub high : position < these.to
+
+-- the run's characters are those of events, all of them at positions among these
+pub record LiesWithin (run : Stretch) (within : Positions) : Type 0 where
+  pub position : ℕ
+  pub begins : run.from ≡ Event position
+  pub first : within.from ≤ position
+  pub last : position + run.len ≤ within.to
+
+-- the run takes the change: it has the node's character, and all of its characters are of events at the positions
+pub record Takes (c : Recasting) (run : Stretch) : Type 0 where
+  pub within : LiesWithin run c.within
+  pub offset : ℕ
+  pub node : IsOffset run c.node offset
+
+-- what is made of a run: such a run is changed, and no other
+abbrev pub Recasts : Recasting → Stretch → Option Stretch → Type 0
+Recasts c run None = Takes c run → ⊥
+Recasts c run (Some after) = Takes c run × (after ≡ changed c.change run)
+
+-- one more deletion of the run's characters can be counted, if it has characters
+abbrev pub MayRecast : Stretch → Type 0
+MayRecast run = 0 < run.len → HasRoom run

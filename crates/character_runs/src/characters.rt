@@ -15,9 +15,9 @@ ghost use Rattle.character_runs.specs.States.{is_of, knows, sees, visible_in, sh
 ghost use Rattle.character_runs.specs.Deleting.{struck_each, AreDeletions, AreAllAmong};
 ghost use Rattle.character_runs.specs.Entering.{attached_by, run_of, IsNewChild};
 ghost use Rattle.character_runs.specs.EventPositions.{event_positions};
-ghost use Rattle.character_runs.specs.Laid.{AreLabelled, chars_in, records_in};
+ghost use Rattle.character_runs.specs.Laid.{AreLabelled, IsOffset, chars_in, records_in};
 ghost use Rattle.character_runs.specs.Loose.{loose_in, is_one, AreAmong};
-ghost use Rattle.character_runs.specs.Replacing.{ArePart, changed_in};
+ghost use Rattle.character_runs.specs.Replacing.{ArePart, LiesWithin, changed_in};
 ghost use Rattle.character_runs.specs.Resting.{rested};
 ghost use Rattle.character_runs.specs.Spots.{IsSlot, IsDeletion, Comes, ComeEach};
 
@@ -183,7 +183,8 @@ impl Characters {
     }
 
     /// Changes the states of the run of an event's character, where all of its characters are of events at positions within
-    /// these. Answers the positions of those events, and whether they are inserted before and after.
+    /// these. Answers the positions of those events, and whether they are inserted before and after. None, and nothing changes,
+    /// where there is no such run.
     pub fn change_run(
         &mut self,
         position: u32,
@@ -197,6 +198,7 @@ impl Characters {
         ensures was { IfSome result (λ r. (n : ℕ) → r.0.from ≤ n → n < r.0.to → knows self.old.records (nodes.Event n) ≡ r.1.was) }
         ensures is { IfSome result (λ r. (n : ℕ) → r.0.from ≤ n → n < r.0.to → knows self.new.records (nodes.Event n) ≡ r.1.is) }
         ensures none { IfNone result (self.new ≡ self.old) }
+        ensures refused { IfNone result ((run : Stretch) (n : ℕ) → Contains self.old.runs run → IsOffset run (nodes.Event position) n → LiesWithin run within → ⊥) }
         ensures loose { (among : Nodes → Bool) → loose_in among self.new.runs ≡ loose_in among self.old.runs }
     {
         self.change_run_by::<Brand>(position, within, change, Blank::new(1))
@@ -512,6 +514,7 @@ impl Characters {
         ensures was { IfSome result (λ r. (n : ℕ) → r.0.from ≤ n → n < r.0.to → knows self.old.records (nodes.Event n) ≡ r.1.was) }
         ensures is { IfSome result (λ r. (n : ℕ) → r.0.from ≤ n → n < r.0.to → knows self.new.records (nodes.Event n) ≡ r.1.is) }
         ensures none { IfNone result (self.new ≡ self.old) }
+        ensures refused { IfNone result ((run : Stretch) (n : ℕ) → Contains self.old.runs run → IsOffset run (nodes.Event position) n → LiesWithin run within → ⊥) }
         ensures loose { (among : Nodes → Bool) → loose_in among self.new.runs ≡ loose_in among self.old.runs }
     {
         let mut visits: Steps<L> = Steps::new(blank);

@@ -5,7 +5,7 @@ ghost use Rattle.fugue_place.specs.declared.neighbour.Place.TheVariants as place
 ghost use Rattle.walker_record.specs.Stretches.{Stretch, HasNumbers, is_continued, joined_of, prepared_of, effect_of};
 ghost use Rattle.order_tree.specs.Pairs.{IsPlace, lower, total};
 ghost use Rattle.character_runs.specs.declared.change.Change.TheVariants as changes;
-ghost use Rattle.character_runs.specs.Cursors.{MayBeCursor, last_of, shorter, longer_by};
+ghost use Rattle.character_runs.specs.Cursors.{MayBeCursor, last_of, shorter, longer_at};
 ghost use Rattle.character_runs.specs.Entering.{run_of};
 
 use crate::change::Change;
@@ -129,11 +129,7 @@ impl Cursor {
         requires few { self.now.run.len + count < 2 ^ 32 }
         requires index { self.now.index + count < 2 ^ 32 }
         requires numbers { HasNumbers self.now.run.from (self.now.run.len + count) }
-        ensures label { result.label ≡ self.now.label }
-        ensures run { result.run ≡ longer_by self.now.run count }
-        ensures before { result.before ≡ self.now.before }
-        ensures index { result.index ≡ self.now.index + count }
-        ensures struck { result.struck ≡ None }
+        ensures { result ≡ longer_at self.now count }
     {
         Cursor {
             label: self.label,

@@ -1,7 +1,8 @@
 //! The characters of a walker in order, each with its states: runs of them in a counted tree, found by the label of their first
 //! node, and a cursor at the run where characters are typed or deleted one after another.
 //!
-//! It answers what a new character hangs on and what a deletion does, and changes states of one character, of a run, or of all.
+//! It answers what a new character hangs on and what a deletion does, and changes states of one character, of some or all
+//! characters of a run, or of all.
 //!
 //! What three additions buy: how many percent more instructions a run makes without each of them, for histories of 10,000 events.
 //! In the first four columns every event's change is printed; in the last a file with one of two long branches takes in the other.

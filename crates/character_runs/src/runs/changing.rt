@@ -10,16 +10,17 @@ ghost use Rattle.character_runs.specs.States.{is_inserted, is_of, knows, sees, c
 ghost use Rattle.character_runs.specs.Deleting.{struck_each, AreAllAmong};
 ghost use Rattle.character_runs.specs.Laid.{Stands, IsOffset, AreLabelled, chars_in};
 ghost use Rattle.character_runs.specs.Loose.{loose_in, MayBeCut};
-ghost use Rattle.character_runs.specs.Replacing.{StaysOr, AreNodesOf, ArePart, Recounted, changed_among, changed_in, were_inserted, are_inserted};
+ghost use Rattle.character_runs.specs.Replacing.{StaysOr, AreNodesOf, ArePart, Recounted, changed_among, changed_in, were_inserted, are_inserted, LiesWithin, Recasts, MayRecast};
 
 use crate::change::{Change, Positions, changed};
-use crate::offsets::node_at;
+use crate::offsets::{node_at, offset_in};
 use crate::runs::Runs;
 use crate::runs::reading::Found;
 use ew_model::NoMem;
 use ew_model::node::Node;
 use ew_model::run::Run;
 use ew_model::steps::Steps;
+use order_tree::Alteration;
 use std::sync::ledger::Ledger;
 use walker_record::Record;
 
@@ -80,6 +81,7 @@ fn positions_within(run: &Record, within: Positions) -> Option<Positions>
     ensures to { IfSome result (λ p. p.from + run.now.len ≡ p.to) }
     ensures first { IfSome result (λ p. within.from ≤ p.from) }
     ensures last { IfSome result (λ p. p.to ≤ within.to) }
+    ensures none { IfNone result (LiesWithin run.now within → ⊥) }
 {
     let Node::Event(from) = run.from else {
         return None;
@@ -91,6 +93,26 @@ fn positions_within(run: &Record, within: Positions) -> Option<Positions>
         from,
         to: from + run.len,
     })
+}
+
+/// A change of the states of the run with a node's character, where all of its characters are of events at positions within these.
+#[derive(Clone, Copy)]
+struct Recasting {
+    node: Node,
+    within: Positions,
+    change: Change,
+}
+
+impl Alteration<Record> for Recasting {
+    ghost suits = { λ a. MayRecast };
+
+    ghost makes = { Recasts };
+
+    fn alter(&self, run: &Record) -> Option<Record> {
+        offset_in(run, self.node)?;
+        positions_within(run, self.within)?;
+        Some(changed(*run, self.change))
+    }
 }
 
 impl Runs {
@@ -280,6 +302,7 @@ impl Runs {
     }
 
     /// Changes the states of the run of an event's character, where all of its characters are of events at positions within these.
+    /// None, and nothing changes, where there is no such run.
     pub fn change_run<L: Ledger>(
         &mut self,
         position: u32,
@@ -298,13 +321,29 @@ impl Runs {
         ensures was { IfSome result (λ r. (n : ℕ) → r.positions.from ≤ n → n < r.positions.to → knows (chars_in self.old.tree.pairs) (nodes.Event n) ≡ is_inserted r.altered.before) }
         ensures is { IfSome result (λ r. (n : ℕ) → r.positions.from ≤ n → n < r.positions.to → knows (chars_in self.new.tree.pairs) (nodes.Event n) ≡ is_inserted r.altered.after) }
         ensures none { IfNone result (self.new ≡ self.old) }
+        ensures refused { IfNone result ((label n : ℕ) (run : Stretch) → Contains self.old.tree.pairs (label, run) → IsOffset run (nodes.Event position) n → LiesWithin run within → ⊥) }
         ensures loose { (among : Nodes → Bool) → loose_in among (runs self.new.tree.pairs) ≡ loose_in among (runs self.old.tree.pairs) }
     {
-        let found = self.run_of(Node::Event(position), visits)?;
-        let positions = positions_within(&found.run, within)?;
+        self.facts();
+        let node = Node::Event(position);
+        let label = self.labels.last_up_to(node)?;
+        let recasting = Recasting {
+            node,
+            within,
+            change,
+        };
+        let taken = self.tree.alter(label, &recasting, visits)?;
+        self.facts();
+        // The run took the change, so all of its characters are of events at these positions.
+        let Some(positions) = positions_within(&taken.before, within) else {
+            unreachable!()
+        };
         Some(Recast {
             positions,
-            altered: self.recast(found, change, visits),
+            altered: Altered {
+                before: taken.before,
+                after: taken.after,
+            },
         })
     }
 }

@@ -1,11 +1,13 @@
-use Rattle.std.proofs.Common.{refl, sym, ap, ◌∙◌, arith}
+use Rattle.std.proofs.Common.{Contains, refl, sym, ap, ◌∙◌, subst, arith}
 use Rattle.ew_model.specs.declared.node.Node.TheVariants.{Event}
 use Rattle.character_runs.specs.declared.runs.changing.Known.{Known}
 use Rattle.character_runs.specs.States.{knows}
 use Rattle.character_runs.specs.Laid.{InRuns, in_runs}
 use Rattle.character_runs.proofs.Counters.{visible_fits, shown_fits, counted_again}
+use Rattle.character_runs.proofs.KnownRuns.{label_of_run}
 use Rattle.character_runs.proofs.Settled.{now_counted}
 use Rattle.character_runs.proofs.characters.Characters.change_run_by.Goals as goal
+use Rattle.ew_model.proofs.Outcomes.{if_none}
 
 pub visible-self-inside-requires-clause-some : goal.visible-self-inside-requires-clause-some
 visible-self-inside-requires-clause-some g c =
@@ -44,3 +46,10 @@ returns-clause-was g c = λ n low high.
 
 pub returns-clause-is : goal.returns-clause-is
 returns-clause-is g c = λ n low high. c.in_ok-recast.ensures.is n low high ∙ sym (ap (λ (k : Known). k.is) c.known.ensures)
+
+pub returns-in_err-recast-clause-refused : goal.returns-in_err-recast-clause-refused
+returns-in_err-recast-clause-refused g c =
+    if_none c.from_residual.result _ (λ run n held offset within.
+    let there = subst (λ (s : InRuns). Contains s.runs run) (sym (ap in_runs c.settle.ensures.pairs ∙ c.self.view_is)) held in
+    let at = label_of_run c.settle.new.runs.tree.pairs run there in
+    c.in_err-recast.ensures.refused at.0 n run at.1 offset within)

@@ -1,6 +1,5 @@
 use Rattle.std.proofs.Common.{◌≡◌, List, length, ◌≤◌, ◌^◌, refl, sym, ap, ◌∙◌, subst}
 use Rattle.walker_record.specs.Stretches.{Stretch}
-use Rattle.order_tree.specs.Pairs.{runs}
 use Rattle.character_runs.specs.Laid.{InRuns, chars_in, in_runs}
 use Rattle.character_runs.specs.States.{visible_in, shown_in}
 use Rattle.character_runs.proofs.RunsAt.{same_chars}
