@@ -6,3 +6,5 @@ pub mod RightCounts
 pub mod RightKeeping
 pub mod RightMoves
 pub mod RightSpans
+pub mod RowParts
+pub mod RightChains

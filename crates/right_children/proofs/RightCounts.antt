@@ -6,7 +6,6 @@ use Rattle.std.proofs.lemmas.List.Folds.{list_any-append}
 use Rattle.ew_model.specs.declared.node.Node.{Node}
 use Rattle.ew_model.specs.Sets.{Among}
 use Rattle.fugue_place.specs.declared.child.Attached.{Attached}
-use Rattle.fugue_place.specs.declared.child.Side.TheVariants.{Right as right}
 use Rattle.fugue_place.specs.Attachments.{node_eq, is_attached, AreAttached}
 use Rattle.fugue_place.proofs.NodeLaws.{node_same, node_itself}
 use Rattle.right_children.specs.Rights.{one_if}

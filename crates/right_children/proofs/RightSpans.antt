@@ -1,4 +1,5 @@
 -- The counts of right children, while the nodes of events that follow one another come to be known in turn, or are so no more.
+use mathlib.Core.Bool.{beq}
 use Rattle.std.proofs.Common.{◌≡◌, ℕ, ◌+◌, ◌<◌, ◌≤◌, ◌^◌, nat_le, nat_lt, Bool, true, false, ◌&&◌, List, [], ◌∷◌, if◌then◌else◌, refl, sym, ap, ◌∙◌, subst, arith, eq-eqb}
 use Rattle.std.proofs.lemmas.Bool.{false≢true, and_parts, leb-true, ltb-true, le-leb, lt-ltb}
 use Rattle.ew_model.specs.declared.node.Node.{Node}
@@ -13,29 +14,35 @@ use Rattle.right_children.proofs.RightMoves.{may_shift, shifted}
 
 -- THE EVENTS
 -- the node is that of an event at one of the positions from the first on that are below the second
-abbrev is_between : ℕ → ℕ → Node → Bool
+abbrev pub is_between : ℕ → ℕ → Node → Bool
 is_between low high Root = false
 is_between low high (Base i) = false
 is_between low high (Event n) = nat_le low n && nat_lt n high
+
+same_by : (b c : Bool) → beq b c ≡ true → b ≡ c
+same_by true true e = refl
+same_by true false e = sym e
+same_by false true e = e
+same_by false false e = refl
 
 is_false : (b : Bool) → (b ≡ true → ⊥) → b ≡ false
 is_false true h = absurd (h refl)
 is_false false h = refl
 
-between : (low high n : ℕ) → low ≤ n → n < high → is_between low high (Event n) ≡ true
+pub between : (low high n : ℕ) → low ≤ n → n < high → is_between low high (Event n) ≡ true
 between low high n le lt = λ i. le-leb low n le i && lt-ltb n high lt i
 
-outside : (low high n : ℕ) → (low ≤ n → n < high → ⊥) → is_between low high (Event n) ≡ false
+pub outside : (low high n : ℕ) → (low ≤ n → n < high → ⊥) → is_between low high (Event n) ≡ false
 outside low high n none = is_false (is_between low high (Event n)) (λ h.
     let parts = and_parts (nat_le low n) (nat_lt n high) h in
     none (leb-true low n parts.0) (ltb-true n high parts.1))
 
-none_between : (n : ℕ) (v : Node) → is_between n n v ≡ false
+pub none_between : (n : ℕ) (v : Node) → is_between n n v ≡ false
 none_between n Root = refl
 none_between n (Base i) = refl
 none_between n (Event k) = outside n n k (λ l h. absurd (omega (arith, l, h)))
 
-one_more : (low n : ℕ) (v : Node) → node_eq v (Event n) ≡ false → is_between low (n + 1) v ≡ is_between low n v
+pub one_more : (low n : ℕ) (v : Node) → node_eq v (Event n) ≡ false → is_between low (n + 1) v ≡ is_between low n v
 one_more low n Root e = refl
 one_more low n (Base i) e = refl
 one_more low n (Event k) e = ap (λ (b : Bool). nat_le low k && b) (at (nat_lt k n) refl)
@@ -77,6 +84,23 @@ module _ (old new : Node → Bool) (attached : List Attached) (from to : ℕ) (w
       at : (v : Node) (b : Bool) → is_between from to v ≡ b → (if b then new v else old v) ≡ new v
       at v true e = refl
       at v false e = sym (h.others v (λ n low high own. false≢true (sym e ∙ ap (is_between from to) (sym own) ∙ between from to n low high)))
+
+  -- what is known stays so where each was and is the same
+  same_known : was ≡ is → old ≡ new
+  same_known e = λ i v. at v (is_between from to v) refl i
+    where
+      at : (v : Node) (b : Bool) → is_between from to v ≡ b → old v ≡ new v
+      at Root true f = absurd (false≢true f)
+      at (Base i) true f = absurd (false≢true f)
+      at (Event n) true f =
+          let parts = and_parts (nat_le from n) (nat_lt n to) f in
+          let low = leb-true from n parts.0 in
+          let high = ltb-true n to parts.1 in
+          h.before n low high ∙ e ∙ sym (h.after n low high)
+      at v false f = sym (h.others v (λ n low high own. false≢true (sym f ∙ ap (is_between from to) (sym own) ∙ between from to n low high)))
+
+  pub still_right : beq was is ≡ true → (c : Counted) → AreRights old attached c → AreRights new attached c
+  still_right e c rights = subst (λ (known : Node → Bool). AreRights known attached c) (same_known (same_by was is e)) rights
 
   few : (n : ℕ) (v : Node) → known_right (so_far old new from n) attached v ≤ 2 ^ 26
   few n v =

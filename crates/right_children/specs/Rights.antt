@@ -65,6 +65,7 @@ HasCount r (Event n) = IsSome (kept_at r.rows n)
 abbrev pub HaveCounts : (ℕ → Option Node) → (Node → Type 0) → Type 0
 HaveCounts parent_at HasOne = (n : ℕ) (p : Node) → parent_at n ≡ Some p → HasOne p
 
+-- each parent of a right child has a count
 abbrev pub IsWhole : Rights → Type 0
 IsWhole r = HaveCounts (counted r).parent_at (HasCount r)
 

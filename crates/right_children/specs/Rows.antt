@@ -1,5 +1,5 @@
 -- How many right children of the nodes of events are known, by the events' positions.
-use Rattle.std.specs.Prelude.{◌≡◌, ℕ, ◌+◌, ◌-◌, ◌^◌, ◌<◌, Bool, true, false, List, slice_get, Option, None, IsSome, nat_lt, if◌then◌else◌, unwrap_or}
+use Rattle.std.specs.Prelude.{◌≡◌, ℕ, ◌+◌, ◌-◌, ◌^◌, ◌<◌, Bool, ◌&&◌, true, false, List, slice_get, Option, Some, None, IsSome, nat_le, nat_lt, if◌then◌else◌, unwrap_or}
 use Rattle.std.specs.BTreeMap.{get}
 use Rattle.std.specs.Option.{option_or}
 use Rattle.std.specs.Ordering.{nat_cmp}
@@ -29,3 +29,7 @@ stepped n more = if more then n + 1 else n - 1
 -- a number of 32 bits can go there
 abbrev pub MayStep : ℕ → Bool → Type 0
 MayStep n more = (more ≡ false → 0 < n) × (more ≡ true → n + 1 < 2 ^ 32)
+
+-- the rows of the positions from the first on that are below the second are stepped, and no other changes
+abbrev pub StepsEach : Rows → Rows → ℕ → ℕ → Bool → Type 0
+StepsEach old new from to more = (n : ℕ) → kept_at new n ≡ (if nat_le from n && nat_lt n to then Some (stepped (row_at old n) more) else kept_at old n)

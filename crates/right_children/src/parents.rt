@@ -31,8 +31,8 @@ impl Parents {
         }
     }
 
-    /// The parent of the node of a position, if it is a right child, and up to where the nodes behind it are each a right child of
-    /// the one before.
+    /// The parent of the node of the event at a position, if it is a right child; and a position up to which the nodes behind it are
+    /// each a right child of the one before.
     pub fn find(&mut self, position: u32) -> (Option<Node>, u32)
         ensures parent { result.0 ≡ parent_at self.old position }
         ensures linked { AreLinked (parent_at self.old) (position + 1) result.1 }
@@ -47,7 +47,7 @@ impl Parents {
         }
     }
 
-    /// Up to where a chain tells of the positions.
+    /// The position behind a chain. It is 0 where something is noted beside the chains: that might be about positions of the chain.
     fn end(&self, chain: Chain) -> u32
         ensures { (result ≡ 0) ⊎ ((result ≤ chain.last + 1) × ((n : ℕ) → get nat_cmp self.now.others n ≡ None)) }
     {

@@ -81,7 +81,7 @@ impl Rights {
         self.parents.note_heirs(newest, count)
     }
 
-    /// A node that was known or not is so now.
+    /// Notes whether a node is known now (`is`), which was known before or not (`was`).
     pub fn shift(&mut self, node: Node, was: bool, is: bool)
         requires whole { IsWhole self.old }
         requires may { MayShift (counted self.old) node was is }
@@ -100,25 +100,20 @@ impl Rights {
         }
     }
 
-    /// The same for the node of the event at a position, where those up to another are each a right child of the one before.
-    /// Answers up to where those behind it are.
-    fn shift_next(&mut self, position: u32, linked: u32, was: bool, is: bool) -> u32
+    /// The same for the node of the event at a position. Answers up to where the nodes behind it are each a right child of the one
+    /// before.
+    fn shift_first(&mut self, position: u32, was: bool, is: bool) -> u32
         requires whole { IsWhole self.old }
         requires may { MayShift (counted self.old) (nodes.Event position) was is }
-        requires linked { AreLinked (counted self.old).parent_at position linked }
         ensures whole { IsWhole self.new }
         ensures shifts { Shifts (counted self.old) (counted self.new) (nodes.Event position) was is }
         ensures linked { AreLinked (counted self.new).parent_at (position + 1) result }
     {
-        if position < linked {
-            self.shift_under(position, Node::Event(position - 1), was, is);
-            return linked;
-        }
-        let (parent, next) = self.parents.find(position);
+        let (parent, linked) = self.parents.find(position);
         if let Some(parent) = parent {
             self.shift_under(position, parent, was, is);
         }
-        next
+        linked
     }
 
     /// The same for the node of the event at a position, where it is a right child of this node.
@@ -135,7 +130,8 @@ impl Rights {
         self.shift_count(parent, is);
     }
 
-    /// Each node of the events at the positions from `from` on that are below `to` was known or not, and is so now.
+    /// Notes whether the nodes of the events at the positions from `from` on that are below `to` are known now (`is`). Before, they
+    /// all were known, or none was (`was`).
     pub fn shift_each(&mut self, from: u32, to: u32, was: bool, is: bool)
         requires order { from ≤ to }
         requires whole { IsWhole self.old }
@@ -144,9 +140,15 @@ impl Rights {
         ensures rights { (old new : Nodes → Bool) (attached : List Attached) → AreRights old attached (counted self.old) → ShiftEach old new attached from to was is
             → AreRights new attached (counted self.new) }
     {
-        let mut linked = 0;
-        for position in from..to {
-            linked = self.shift_next(position, linked, was, is);
+        if was == is {
+            return;
+        }
+        let mut at = from;
+        while at < to {
+            let linked = self.shift_first(at, was, is);
+            let end = linked.clamp(at + 1, to);
+            self.rows.shift_each(at, end - 1, is);
+            at = end;
         }
     }
 
@@ -163,8 +165,8 @@ impl Rights {
         }
     }
 
-    /// The parent of a right child has no known right child any more: of the node of the event at a position, where those up to
-    /// another are each a right child of the one before. Answers up to where those behind it are.
+    /// If the node of the event at a position is a right child, notes that its parent has no known right child any more. The nodes from
+    /// that position up to `linked` are each a right child of the one before. Answers up to where the nodes behind the position are so.
     fn reset_next(&mut self, position: u32, linked: u32) -> u32
         requires whole { IsWhole self.old }
         requires linked { AreLinked (counted self.old).parent_at position linked }

@@ -1,9 +1,9 @@
 //! How many right children of the nodes of events are known, by the events' positions.
 
-ghost use Rattle.std.specs.Prelude.{◌≡◌, ◌+◌, ◌-◌, ◌≤◌, ◌<◌, ◌^◌, ℕ, true, None, Some, IsSome, OnOk, OnErr, length, nat_eq, unwrap_or, if◌then◌else◌};
+ghost use Rattle.std.specs.Prelude.{◌≡◌, ◌+◌, ◌-◌, ◌≤◌, ◌<◌, ◌^◌, ℕ, true, None, Some, IsSome, OnOk, OnErr, length, map, slice_index, EachIndex, nat_eq, unwrap_or, if◌then◌else◌};
 ghost use Rattle.std.specs.Ordering.{nat_cmp};
 ghost use Rattle.std.specs.BTreeMap.{get};
-ghost use Rattle.right_children.specs.Rows.{in_line, kept_at, row_at, stepped, KeepsRows, MayStep};
+ghost use Rattle.right_children.specs.Rows.{in_line, kept_at, row_at, stepped, KeepsRows, MayStep, StepsEach};
 
 use ew_model::NoMem;
 use std::alloc::Global;
@@ -79,6 +79,36 @@ impl Rows {
         }
     }
 
+    /// Notes of each position from one on that is below another that one more right child of its node is known, or one fewer.
+    pub fn shift_each(&mut self, from: u32, to: u32, is: bool)
+        requires order { from ≤ to }
+        requires have { (n : ℕ) → from ≤ n → n < to → IsSome (kept_at self.old n) }
+        requires may { (n : ℕ) → from ≤ n → n < to → MayStep (row_at self.old n) is }
+        ensures { StepsEach self.old self.new from to is }
+    {
+        if from >= self.first && (to - self.first) as usize <= self.line.len() {
+            let low = (from - self.first) as usize;
+            let high = (to - self.first) as usize;
+            step_each(&mut self.line[low..high], is);
+        } else {
+            self.shift_in_turn(from, to, is);
+        }
+    }
+
+    /// The same, one position after another.
+    // Seldom called: kept apart, so that what is done for a chain stays short.
+    #[inline(never)]
+    fn shift_in_turn(&mut self, from: u32, to: u32, is: bool)
+        requires order { from ≤ to }
+        requires have { (n : ℕ) → from ≤ n → n < to → IsSome (kept_at self.old n) }
+        requires may { (n : ℕ) → from ≤ n → n < to → MayStep (row_at self.old n) is }
+        ensures { StepsEach self.old self.new from to is }
+    {
+        for position in from..to {
+            self.shift(position, is);
+        }
+    }
+
     /// Sees to it that a position has a row.
     pub fn begin(&mut self, position: u32) -> Result<(), NoMem>
         ensures begun { OnOk result (IsSome (kept_at self.new position)) }
@@ -99,7 +129,14 @@ impl Rows {
         ensures begun { OnOk result ((k : ℕ) → k < count → IsSome (kept_at self.new (from + k))) }
         ensures rows { KeepsRows self.old self.new }
     {
-        for k in 0..count {
+        if count == 0 {
+            return Ok(());
+        }
+        self.begin(from)?;
+        if self.others.is_empty() && self.is_next(from + 1) {
+            return self.lengthen_by(count - 1);
+        }
+        for k in 1..count {
             self.begin(from + k)?;
         }
         Ok(())
@@ -157,6 +194,18 @@ impl Rows {
         self.push(position)
     }
 
+    /// Lengthens the line by so many positions, where no rows are kept elsewhere.
+    fn lengthen_by(&mut self, count: u32) -> Result<(), NoMem>
+        requires few { self.old.first + length self.old.line.items + count < 2 ^ 32 }
+        requires none { (n : ℕ) → get nat_cmp self.old.others n ≡ None }
+        ensures begun { OnOk result ((k : ℕ) → k < count → IsSome (kept_at self.new (self.old.first + length self.old.line.items + k))) }
+        ensures rows { KeepsRows self.old self.new }
+    {
+        let len = self.line.len() + count as usize;
+        self.line.resize(len, 0)?;
+        Ok(())
+    }
+
     /// Lengthens the line by one position, whose row is the one that is kept elsewhere, if any.
     fn push(&mut self, position: u32) -> Result<(), NoMem>
         requires { position ≡ self.old.first + length self.old.line.items }
@@ -195,6 +244,16 @@ pub fn stepped(count: u32, more: bool) -> u32
     ensures { result ≡ stepped count more }
 {
     if more { count + 1 } else { count - 1 }
+}
+
+/// One more of each, or one fewer.
+fn step_each(rows: &mut [u32], more: bool)
+    requires { EachIndex rows.old (λ k. MayStep (slice_index rows.old k) more) }
+    ensures { rows.new ≡ map (λ row. stepped row more) rows.old }
+{
+    for row in rows.iter_mut() {
+        *row = stepped(*row, more);
+    }
 }
 
 /// The row of a position among rows in line, which begin at a position.
