@@ -1,5 +1,5 @@
 -- What deletions one after another leave, and do to the text.
-use Rattle.std.proofs.Common.{◌≡◌, ℕ, zero, suc, ◌+◌, ◌<◌, ◌≤◌, nat_lt, Bool, true, None, Some, List, [], ◌∷◌, ◌++◌, length, map, if◌then◌else◌, ⊎_elim, refl, sym, ap, ◌∙◌, subst, arith, append_assoc, append-nil}
+use Rattle.std.proofs.Common.{◌≡◌, ℕ, zero, suc, ◌+◌, ◌<◌, ◌≤◌, Bool, true, None, Some, List, [], ◌∷◌, ◌++◌, length, map, if◌then◌else◌, ⊎_elim, refl, sym, ap, ◌∙◌, subst, arith, append_assoc, append-nil}
 use Rattle.std.proofs.lemmas.Bool.{ne_eqb, cases_lt}
 use Rattle.std.specs.List.{range_with_len}
 use Rattle.std.proofs.lemmas.List.{length-append, length-map, map-append}
@@ -9,7 +9,7 @@ use Rattle.ew_model.specs.declared.node.Node.{Node}
 use Rattle.ew_model.specs.Places.Act.{DeleteAt}
 use Rattle.ew_model.specs.Records.{next_of}
 use Rattle.ew_model.specs.Tree.{Applied}
-use Rattle.walker_record.specs.Stretches.{Stretch, node_on}
+use Rattle.walker_record.specs.Stretches.{node_on}
 use Rattle.character_runs.specs.declared.characters.Deletions.{Deletions}
 use Rattle.character_runs.specs.Deleting.{struck_each, deletion_op, AreDeletions}
 use Rattle.character_runs.specs.Spots.{IsDeletion}

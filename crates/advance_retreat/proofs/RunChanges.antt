@@ -31,9 +31,9 @@ replaced (x ∷ rs) low old new same fits nodes are = (are.0, are.1, are.2, repl
 more_events : (way : Way) (v : Node) (lv steps count : ℕ) → events_from way v lv steps (suc count) ≡ events_from way v lv steps count ++ record { lv = lv + (steps + count); node = node_from way v (steps + count) } ∷ []
 more_events way v lv steps zero = let same : steps ≡ steps + 0 = omega arith in ap (λ (k : ℕ). record { lv = lv + k; node = node_from way v k } ∷ []) same
 more_events way v lv steps (suc count) =
-    let same : suc steps + count ≡ steps + suc count = omega arith in
+    let same : (steps + 1) + count ≡ steps + suc count = omega arith in
     ap (λ (ts : List Target). record { lv = lv + steps; node = node_from way v steps } ∷ ts)
-    (more_events way v lv (suc steps) count ∙ ap (λ (k : ℕ). events_from way v lv (suc steps) count ++ record { lv = lv + k; node = node_from way v k } ∷ []) same)
+    (more_events way v lv (steps + 1) count ∙ ap (λ (k : ℕ). events_from way v lv (steps + 1) count ++ record { lv = lv + k; node = node_from way v k } ∷ []) same)
 
 -- of a run of one event any way is the same
 at_first : (way : Way) (v : Node) → node_from way v 0 ≡ v
@@ -59,7 +59,7 @@ more_at r lv more v on is =
     append-nil (events_from r.way r.node r.first 0 (suc more))
     ∙ ap (λ (n : ℕ). events_from r.way r.node r.first 0 (suc n)) is
     ∙ more_events r.way r.node r.first 0 (suc r.more)
-    ∙ (λ i. events_from r.way r.node r.first 0 (suc r.more) ++ record { lv = here i; node = (ap (node_from r.way r.node) one ∙ sym on.ahead.node) i } ∷ [])
+    ∙ (λ i. events_from r.way r.node r.first 0 (suc r.more) ++ record { lv = here i; node = (ap (node_from r.way r.node) one ∙ sym on.character.node) i } ∷ [])
     ∙ ap (λ (ts : List Target). ts ++ record { lv = lv; node = v } ∷ []) (sym (append-nil (events_from r.way r.node r.first 0 (suc r.more))))
 
 -- the last run, or one with the same events, has one more
@@ -67,7 +67,7 @@ pub lengthened : (rs : List Run) (old r : Run) (lv more : ℕ) (v : Node) → Ar
     → HaveMore (rs ++ with_more r more ∷ []) (rs ++ old ∷ []) lv v
 lengthened rs old r lv more v are first same fits on is =
     let next = on.next in (
-      replaced rs 0 old (with_more r more) first (omega (arith, fits, next, is)) (subst (HasNodes r.way r.node) (sym is) on.ahead.nodes) are,
+      replaced rs 0 old (with_more r more) first (omega (arith, fits, next, is)) (subst (HasNodes r.way r.node) (sym is) on.character.nodes) are,
       extended rs old (with_more r more) (record { lv = lv; node = v }) (more_at r lv more v on is ∙ ap (λ (ts : List Target). ts ++ record { lv = lv; node = v } ∷ []) same),
     )
 

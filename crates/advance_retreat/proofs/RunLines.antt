@@ -26,19 +26,19 @@ about targets r order way (Base k) event character count node is has low high no
 about targets r Up Up (Event m) event character count node is has low high nodes own few i e n lt a b =
     let first = same_event (m + (event - r.first)) character own in
     let there : m + (e - r.first) ≡ n = omega (arith, first, low, lt, few, a, b) in
-    has e (omega (arith, low, a)) (omega (arith, low, high, lt, few, a)) ∙ (λ j. Some (node_from (is j) (node j) (e - r.first))) ∙ ap (λ (k : ℕ). Some (Event k)) there
+    has e (omega (arith, low, a), omega (arith, low, high, lt, few, a)) ∙ (λ j. Some (node_from (is j) (node j) (e - r.first))) ∙ ap (λ (k : ℕ). Some (Event k)) there
 about targets r Up Down (Event m) event character count node is has low high nodes own few i e n lt a b =
     let first = same_event (m - (event - r.first)) character own in
     let there : m - (e - r.first) ≡ n = omega (arith, first, low, high, nodes, lt, few, a, b) in
-    has e (omega (arith, low, a)) (omega (arith, low, high, lt, few, a)) ∙ (λ j. Some (node_from (is j) (node j) (e - r.first))) ∙ ap (λ (k : ℕ). Some (Event k)) there
+    has e (omega (arith, low, a), omega (arith, low, high, lt, few, a)) ∙ (λ j. Some (node_from (is j) (node j) (e - r.first))) ∙ ap (λ (k : ℕ). Some (Event k)) there
 about targets r Down Up (Event m) event character count node is has low high nodes own few i e n lt a b =
     let first = same_event (m + (event - r.first)) character own in
     let there : m + (e - r.first) ≡ n = omega (arith, first, low, lt, few, a, b) in
-    has e (omega (arith, low, lt, few, a)) (omega (arith, high, a)) ∙ (λ j. Some (node_from (is j) (node j) (e - r.first))) ∙ ap (λ (k : ℕ). Some (Event k)) there
+    has e (omega (arith, low, lt, few, a), omega (arith, high, a)) ∙ (λ j. Some (node_from (is j) (node j) (e - r.first))) ∙ ap (λ (k : ℕ). Some (Event k)) there
 about targets r Down Down (Event m) event character count node is has low high nodes own few i e n lt a b =
     let first = same_event (m - (event - r.first)) character own in
     let there : m - (e - r.first) ≡ n = omega (arith, first, low, high, nodes, lt, few, a, b) in
-    has e (omega (arith, low, lt, few, a)) (omega (arith, high, a)) ∙ (λ j. Some (node_from (is j) (node j) (e - r.first))) ∙ ap (λ (k : ℕ). Some (Event k)) there
+    has e (omega (arith, low, lt, few, a), omega (arith, high, a)) ∙ (λ j. Some (node_from (is j) (node j) (e - r.first))) ∙ ap (λ (k : ℕ). Some (Event k)) there
 
 pub run_line : (targets : List Target) (r : Run) (order : Way) (event character count most : ℕ) → HasRun targets r → r.first ≤ event → event - r.first ≤ r.more → HasNodes r.way r.node r.more
     → node_from r.way r.node (event - r.first) ≡ Event character → count ≤ count_from order r event → count ≤ most

@@ -33,7 +33,7 @@ module _ (rs : List Run) (r : Run) (position count : ℕ) (are : AreRuns 0 (rs +
       let here : position + n + 1 ≡ r.first + suc (r.more + n) = omega (arith, last) in
       record {
         next = omega (arith, last);
-        ahead = record {
+        character = record {
           node = ap Event here ∙ (λ i. node_from (sym typed.way i) (sym typed.node i) (suc (r.more + n)));
           nodes = subst (λ (w : Way). HasNodes w r.node (suc (r.more + n))) (sym typed.way) (subst (λ (v : Node). HasNodes Up v (suc (r.more + n))) (sym typed.node) (omega (arith, last, few, lt)));
         };

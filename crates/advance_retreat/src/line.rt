@@ -1,4 +1,4 @@
-//! Events one after another that are about characters which stand beside one another in the order of their events.
+//! Events one after another that are about characters which were inserted one after another, forwards or backwards.
 
 ghost use Rattle.std.specs.Prelude.{◌≡◌, ℕ, ◌+◌, ◌<◌, ◌≤◌, List, IfSome};
 ghost use Rattle.advance_retreat.specs.declared.target.Target.{Target};

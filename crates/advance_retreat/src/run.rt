@@ -1,15 +1,15 @@
 //! A run of applied events.
 
-ghost use Rattle.std.specs.Prelude.{◌≡◌, ◌+◌, ◌-◌, ◌≤◌, ◌<◌, ℕ, List, IsTrue, IfSome};
+ghost use Rattle.std.specs.Prelude.{◌≡◌, ◌+◌, ◌-◌, ◌≤◌, ◌<◌, ℕ, List, false, IsTrue, IfSome, IfNone};
 ghost use Rattle.advance_retreat.specs.declared.target.Target.{Target};
-ghost use Rattle.advance_retreat.specs.Runs.{node_from, HasNodes, HasRun, IsAhead, GoesOn, IsTypedTo, way_in, count_from, alone};
+ghost use Rattle.advance_retreat.specs.Runs.{node_from, HasNodes, HasEvent, HasRun, IsNextCharacter, GoesOn, IsTypedTo, way_in, count_from, alone};
 ghost use Rattle.advance_retreat.specs.declared.line.Way.TheVariants as lines;
 ghost use Rattle.advance_retreat.specs.Lines.{IsLineFrom};
 
 use crate::line::{Line, Way};
 use ew_model::node::Node;
 
-/// Events at positions one after another. Each is about the character that is one further on this way than that of the event
+/// Events at positions one after another. Each is about the character that is one further on its way than that of the event
 /// before it. (One event alone may be about a character of the base too, or about none.)
 #[derive(Clone, Copy)]
 pub struct Run {
@@ -19,6 +19,7 @@ pub struct Run {
     pub more: u32,
     /// What the first event is about.
     pub node: Node,
+    /// Up for one event alone, until a second one shows it.
     pub way: Way,
 }
 
@@ -41,6 +42,22 @@ impl Run {
         ensures { IsTrue result → self.first + self.more < lv }
     {
         self.first < lv && self.more < lv - self.first
+    }
+
+    /// Whether it has the event at a position.
+    pub fn has(self, lv: u32) -> bool
+        ensures yes { IsTrue result → HasEvent self lv }
+        ensures no { result ≡ false → HasEvent self lv → ⊥ }
+    {
+        self.first <= lv && lv - self.first <= self.more
+    }
+
+    /// The run, if it has the event at a position.
+    pub fn held(self, lv: u32) -> Option<Run>
+        ensures some { IfSome result (λ r. (r ≡ self) × HasEvent self lv) }
+        ensures none { IfNone result (HasEvent self lv → ⊥) }
+    {
+        if self.has(lv) { Some(self) } else { None }
     }
 
     /// What the event at a position is about.
@@ -123,7 +140,7 @@ impl Run {
 
     /// Whether a character is the one behind its last.
     fn leads_to(self, node: Node) -> bool
-        ensures { IsTrue result → IsAhead self node }
+        ensures { IsTrue result → IsNextCharacter self node }
     {
         match (self.node, node) {
             (Node::Event(first), Node::Event(next)) => match self.way {

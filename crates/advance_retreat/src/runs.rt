@@ -5,7 +5,7 @@ ghost use Rattle.std.specs.List.{AllWithin};
 ghost use Rattle.std.specs.Option.{option_to_list};
 ghost use Rattle.advance_retreat.specs.declared.target.Target.{Target};
 ghost use Rattle.advance_retreat.specs.Kept.{target_at, typed_targets, AreWithin};
-ghost use Rattle.advance_retreat.specs.Runs.{events_in, EndIn, AreRuns, AreBelow, Tells, TellNone, HaveMore, HaveFewer};
+ghost use Rattle.advance_retreat.specs.Runs.{events_in, EndIn, AreRuns, AreBelow, HasAt, IsPlaceOf, Tells, TellNone, HaveMore, HaveFewer};
 
 use crate::run::Run;
 use character_runs::Positions;
@@ -23,6 +23,8 @@ pub struct Runs {
     last: Option<Run>,
     /// How many events they have.
     count: usize,
+    /// Where a run was sought last, among those in `before`. It may be any number.
+    near: usize,
 }
 
 impl Model for Runs {
@@ -47,6 +49,7 @@ impl Runs {
             before: Vec::new(alloc),
             last: None,
             count: 0,
+            near: 0,
         }
     }
 
@@ -65,13 +68,26 @@ impl Runs {
     {
         let run = self.last?;
         if lv < run.first {
-            return run_at(&self.before, lv);
+            let place = place_of(&self.before, lv);
+            return run_at(&self.before, place, lv);
         }
-        if lv - run.first <= run.more {
-            Some(run)
-        } else {
-            None
+        run.held(lv)
+    }
+
+    /// The run that has the event at a position. Where it isn't the last run, the place where one was sought last is tried first, and
+    /// then those beside it.
+    pub fn at_near(&mut self, lv: u32) -> Option<Run>
+        ensures some { IfSome result (Tells self.old lv) }
+        ensures none { IfNone result (TellNone self.old lv) }
+        ensures same { self.new ≡ self.old }
+    {
+        let run = self.last?;
+        if lv < run.first {
+            let place = place_near(&self.before, lv, self.near);
+            self.near = place;
+            return run_at(&self.before, place, lv);
         }
+        run.held(lv)
     }
 
     /// Whether a position lies behind all of them.
@@ -163,22 +179,53 @@ impl Runs {
     }
 }
 
-/// The run that has the event at a position.
-fn run_at(runs: &[Run], lv: u32) -> Option<Run>
-    requires { AreRuns 0 runs.now }
+/// The run that has the event at a position, if one has it. No other run has it than the one at this place.
+fn run_at(runs: &[Run], place: usize, lv: u32) -> Option<Run>
+    requires order { AreRuns 0 runs.now }
+    requires place { IsPlaceOf runs.now place lv }
     ensures some { IfSome result (Tells runs.now lv) }
     ensures none { IfNone result (TellNone runs.now lv) }
 {
-    let begun = count_to(runs, lv);
-    if begun == 0 {
-        return None;
+    runs.get(place)?.held(lv)
+}
+
+/// The place of the run that has the event at a position, if one has it. The run at the place `near` is tried first, and those beside
+/// it.
+fn place_near(runs: &[Run], lv: u32, near: usize) -> usize
+    requires { AreRuns 0 runs.now }
+    ensures { IsPlaceOf runs.now result lv }
+{
+    if has_at(runs, near, lv) {
+        return near;
     }
-    let run = runs[begun - 1];
-    if lv - run.first <= run.more {
-        Some(run)
-    } else {
-        None
+    let next = near.wrapping_add(1);
+    if has_at(runs, next, lv) {
+        return next;
     }
+    let before = near.wrapping_sub(1);
+    if has_at(runs, before, lv) {
+        return before;
+    }
+    place_of(runs, lv)
+}
+
+/// Whether the run at a place has the event at a position.
+fn has_at(runs: &[Run], place: usize, lv: u32) -> bool
+    ensures yes { IsTrue result → HasAt runs.now place lv }
+    ensures no { result ≡ false → HasAt runs.now place lv → ⊥ }
+{
+    match runs.get(place) {
+        Some(run) => run.has(lv),
+        None => false,
+    }
+}
+
+/// The place of the run that has the event at a position, if one has it.
+fn place_of(runs: &[Run], lv: u32) -> usize
+    requires { AreRuns 0 runs.now }
+    ensures { IsPlaceOf runs.now result lv }
+{
+    count_to(runs, lv).saturating_sub(1)
 }
 
 /// How many of the runs begin at a position or before it.

@@ -329,7 +329,7 @@ impl State {
     pub fn delete_run(&mut self, lv: u32, most: u32, at: u32) -> Result<Option<Deleted>, NoMem>
         requires few { lv + most < 2 ^ 32 }
         requires may { (b : ℕ) × (events : List (Applied ℕ)) × (prepared : List ℕ) × StandsFor self.old b events prepared × MayDeleteEach events lv most }
-        ensures deleted { (b : ℕ) (events : List (Applied ℕ)) (prepared : List ℕ) → StandsFor self.old b events prepared → MayDeleteEach events lv most → IfOk result (λ o. IfSome o (λ d. DeletedEach self.old self.new lv at (deletion_op d.index) d.count)) }
+        ensures deleted { IfOk result (λ o. IfSome o (λ d. DeletedEach self.old self.new lv at (deletion_op d.index) d.count)) }
         ensures some { IfOk result (λ o. IfSome o (λ d. 1 < d.count)) }
         ensures most { IfOk result (λ o. IfSome o (λ d. d.count ≤ most)) }
         ensures none { IfOk result (λ o. IfNone o (self.new ≡ self.old)) }
@@ -541,15 +541,17 @@ impl State {
     }
 
     /// The line, if there is one, or else one that begins with an event and has at most so many.
-    fn line_on(&self, line: Option<Line>, event: u32, order: Way, most: u32) -> Option<Line>
-        requires { IfSome line (IsLineFrom order self.now.targets event most) }
-        ensures { IfSome result (IsLineFrom order self.now.targets event most) }
+    fn line_on(&mut self, line: Option<Line>, event: u32, order: Way, most: u32) -> Option<Line>
+        requires { IfSome line (IsLineFrom order self.old.targets event most) }
+        ensures line { IfSome result (IsLineFrom order self.old.targets event most) }
+        ensures same { self.new ≡ self.old }
     {
         self.targets.line_on(line, event, order, most)
     }
 
     /// Puts the first of the events at these positions into the prepared version, and with it those events of the line behind it whose
-    /// characters are one run with its own. Answers how many they are. None where it isn't so.
+    /// characters are one run with its own. Answers how many they are. None, and nothing changes, where there is no line, or where that
+    /// run has a character that isn't one of the line's.
     fn raise(&mut self, at: Positions, line: Option<Line>) -> Option<u32>
         requires some { at.from < at.to }
         requires may { (b : ℕ) × (events : List (Applied ℕ)) × (prepared : List ℕ) × StandsFor self.old b events prepared × MayAdvanceEach events prepared (range_with_len at.from (at.to - at.from)) }
@@ -561,24 +563,7 @@ impl State {
         ensures none { IfNone result (self.new ≡ self.old) }
         ensures lost { self.new.lost ≡ self.old.lost }
     {
-        match line {
-            Some(line) => self.raise_line(at, line),
-            None => None,
-        }
-    }
-
-    /// The same where there is a line.
-    fn raise_line(&mut self, at: Positions, line: Line) -> Option<u32>
-        requires some { at.from < at.to }
-        requires may { (b : ℕ) × (events : List (Applied ℕ)) × (prepared : List ℕ) × StandsFor self.old b events prepared × MayAdvanceEach events prepared (range_with_len at.from (at.to - at.from)) }
-        requires line { IsLineFrom lines.Up self.old.targets at.from (at.to - at.from) line }
-        ensures some { IfSome result (λ n. 0 < n) }
-        ensures most { IfSome result (λ n. at.from + n ≤ at.to) }
-        ensures ok { (b : ℕ) (events : List (Applied ℕ)) (prepared : List ℕ) → StandsFor self.old b events prepared → MayAdvanceEach events prepared (range_with_len at.from (at.to - at.from))
-            → IfSome result (λ n. Advanced self.new b events prepared (range_with_len at.from (at.to - at.from)) (range_with_len (at.from + n) (at.to - (at.from + n)))) }
-        ensures none { IfNone result (self.new ≡ self.old) }
-        ensures lost { self.new.lost ≡ self.old.lost }
-    {
+        let line = line?;
         let characters = line.characters()?;
         let moved = self
             .tree
@@ -667,7 +652,8 @@ impl State {
     }
 
     /// Takes the last of the events at these positions out of the prepared version, and with it those events of the line before it whose
-    /// characters are one run with its own. Answers how many they are. None where it isn't so.
+    /// characters are one run with its own. Answers how many they are. None, and nothing changes, where there is no line, or where that
+    /// run has a character that isn't one of the line's.
     fn lower(&mut self, at: Positions, line: Option<Line>) -> Option<u32>
         requires some { at.from < at.to }
         requires may { (b : ℕ) × (events : List (Applied ℕ)) × (prepared : List ℕ) × StandsFor self.old b events prepared × MayRetreatEach events prepared (reverse (range_with_len at.from (at.to - at.from))) }
@@ -679,24 +665,7 @@ impl State {
         ensures none { IfNone result (self.new ≡ self.old) }
         ensures lost { self.new.lost ≡ self.old.lost }
     {
-        match line {
-            Some(line) => self.lower_line(at, line),
-            None => None,
-        }
-    }
-
-    /// The same where there is a line.
-    fn lower_line(&mut self, at: Positions, line: Line) -> Option<u32>
-        requires some { at.from < at.to }
-        requires may { (b : ℕ) × (events : List (Applied ℕ)) × (prepared : List ℕ) × StandsFor self.old b events prepared × MayRetreatEach events prepared (reverse (range_with_len at.from (at.to - at.from))) }
-        requires line { IsLineFrom lines.Down self.old.targets (at.to - 1) (at.to - at.from) line }
-        ensures some { IfSome result (λ n. 0 < n) }
-        ensures most { IfSome result (λ n. at.from + n ≤ at.to) }
-        ensures ok { (b : ℕ) (events : List (Applied ℕ)) (prepared : List ℕ) → StandsFor self.old b events prepared → MayRetreatEach events prepared (reverse (range_with_len at.from (at.to - at.from)))
-            → IfSome result (λ n. Retreated self.new b events prepared (reverse (range_with_len at.from (at.to - at.from))) (reverse (range_with_len at.from ((at.to - n) - at.from)))) }
-        ensures none { IfNone result (self.new ≡ self.old) }
-        ensures lost { self.new.lost ≡ self.old.lost }
-    {
+        let line = line?;
         let characters = line.characters()?;
         let moved = self
             .tree

@@ -104,9 +104,10 @@ impl Targets {
     }
 
     /// The line, if there is one, or else one that begins with an event and has at most so many.
-    pub fn line_on(&self, line: Option<Line>, event: u32, order: Way, most: u32) -> Option<Line>
-        requires { IfSome line (IsLineFrom order self.now event most) }
-        ensures { IfSome result (IsLineFrom order self.now event most) }
+    pub fn line_on(&mut self, line: Option<Line>, event: u32, order: Way, most: u32) -> Option<Line>
+        requires { IfSome line (IsLineFrom order self.old event most) }
+        ensures line { IfSome result (IsLineFrom order self.old event most) }
+        ensures same { self.new ≡ self.old }
     {
         if line.is_some() {
             line
@@ -115,12 +116,13 @@ impl Targets {
         }
     }
 
-    /// Events from one on, at most so many, about characters which stand beside one another in the order of their events. None where
+    /// Events from one on, at most so many, about characters which were inserted one after another, forwards or backwards. None where
     /// they are about no events' characters.
-    fn line(&self, event: u32, order: Way, most: u32) -> Option<Line>
-        ensures { IfSome result (IsLineFrom order self.now event most) }
+    fn line(&mut self, event: u32, order: Way, most: u32) -> Option<Line>
+        ensures line { IfSome result (IsLineFrom order self.old event most) }
+        ensures same { self.new ≡ self.old }
     {
-        let run = self.runs.at(event)?;
+        let run = self.runs.at_near(event)?;
         run.line(event, order, most)
     }
 
@@ -193,6 +195,7 @@ impl Targets {
     }
 
     /// Adds an event that doesn't go on with the last run.
+    // Out of line: most events go on with the last run.
     #[inline(never)]
     fn add_apart(&mut self, lv: u32, node: Node) -> Result<(), NoMem>
         requires { target_at self.old lv ≡ None }

@@ -9,7 +9,9 @@ use Rattle.ew_model.specs.TextLaws.{own_change}
 use Rattle.ew_model.specs.Verdicts.{IsGood}
 use Rattle.frontier.specs.Chains.{IsChain}
 use Rattle.advance_retreat.specs.Kept.{Kept}
+use Rattle.operation_runs.specs.Runs.{run_ops, RunFits}
 use Rattle.transform.specs.declared.apply.Turn.TheVariants as turn
+use Rattle.transform.specs.declared.run.RunAt.{RunAt}
 use Rattle.transform.specs.declared.run.Turns.{Turns}
 use Rattle.transform.specs.declared.run.Turns.TheVariants.{To, OutOfRange}
 use Rattle.transform.specs.Reaching.{TurnedTo, WalkedTo}
@@ -26,6 +28,12 @@ pub record IsRunAt (history : List Event) (position count : ℕ) (changes : List
 -- no cut between so many events from a position on is critical
 abbrev pub HasNoCut : List Event → ℕ → ℕ → Type 0
 HasNoCut history position count = (k : ℕ) → position < k → k < position + count → is_critical history k ≡ false
+
+-- the events of a run stand so in a history, the indexes of their changes are numbers of 32 bits, and no cut between them is critical
+pub record IsUncutRun (history : List Event) (run : RunAt) : Type 0 where
+  pub events : IsRunAt history run.position run.count (run_ops run.changes)
+  pub fits : RunFits run.changes
+  pub apart : HasNoCut history run.position run.count
 
 -- each of so many events from a position on has others behind it, which all know all events up to it
 abbrev pub StandAlone : List Event → ℕ → ℕ → Type 0

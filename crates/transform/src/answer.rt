@@ -6,7 +6,8 @@ use operation_runs::OperationRuns;
 /// What a walk answers.
 #[derive(Drop)]
 pub struct Walk {
-    /// What each walked event from `emit_from` on does to the text of the events before it, in their order.
+    /// What the walked events do, from the position on that was asked for (`emit_from`): each to the text of the events before it. They
+    /// stand in the order of the events.
     pub ops: Vec<TextOp>,
     /// The position of the first event whose index is out of range, and the length of the text at its parents.
     pub stopped: Option<(u32, u32)>,
@@ -15,7 +16,8 @@ pub struct Walk {
 /// The same, with the operations in runs.
 #[derive(Drop)]
 pub struct WalkedRuns {
-    /// What each walked event from `emit_from` on does to the text of the events before it, in their order.
+    /// What the walked events do, from the position on that was asked for (`emit_from`): each to the text of the events before it. They
+    /// stand in the order of the events.
     pub ops: OperationRuns,
     /// The position of the first event whose index is out of range, and the length of the text at its parents.
     pub stopped: Option<(u32, u32)>,

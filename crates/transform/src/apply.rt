@@ -38,6 +38,7 @@ pub fn apply<L: Ledger>(
     ensures turned { (cut : ℕ) (e : Event) → IsReadyAt graph.now cut position state.old → slice_get graph.now position ≡ Some e → IfOk result (Turned (take position graph.now) cut e state.new) }
     ensures steps { steps.new ≡ steps.old + 1 }
 {
+    // The events of a graph are sound, and fewer than 2^32.
     let _count = graph.count();
     match change {
         TextOp::Ins { at, ch } => {

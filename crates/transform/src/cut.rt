@@ -15,7 +15,7 @@ ghost use Rattle.transform.specs.Reaching.{InLine, IsBehind};
 ghost use Rattle.transform.specs.Running.{IsRunAt, HasNoCut, StandAlone, TurnsTo, emitted_to, judged_to, walked_to};
 
 use crate::emit::emit_run;
-use crate::run::{Turns, apply_run};
+use crate::run::{RunAt, Turns, apply_run};
 use advance_retreat::State;
 use event_graph::{Graph, Near};
 use ew_model::NoMem;
@@ -32,39 +32,48 @@ pub fn pass_cut<L: Ledger>(
     graph: &Graph,
     state: &mut State,
     line: &mut Option<u32>,
-    position: u32,
-    run: OperationRun<'_>,
-    count: u32,
+    run: RunAt<'_>,
     len: u32,
     emit_from: u32,
     ops: &mut OperationRuns,
     near: &mut Near,
     steps: &mut Steps<L>,
 ) -> Result<Turns, NoMem>
-    requires run { IsRunAt graph.now position count (run_ops run) }
-    requires fits { RunFits run }
-    requires behind { IsBehind graph.now position position }
-    requires long { len ≡ base_at graph.now position }
-    requires emitted { ops.old ≡ emitted_to graph.now emit_from position }
-    ensures turned { (from : ℕ) → from ≤ position → IfOk result (TurnsTo graph.now from position (position + count) line.new state.new) }
+    requires run { IsRunAt graph.now run.position run.count (run_ops run.changes) }
+    requires fits { RunFits run.changes }
+    requires behind { IsBehind graph.now run.position run.position }
+    requires long { len ≡ base_at graph.now run.position }
+    requires emitted { ops.old ≡ emitted_to graph.now emit_from run.position }
+    ensures turned { (from : ℕ) → from ≤ run.entry.position → IfOk result (TurnsTo graph.now from run.entry.position (run.entry.position + run.entry.count) line.new state.new) }
     ensures emitted { IfOk result (λ t. ops.new ≡ emitted_to graph.now emit_from (walked_to t)) }
-    ensures steps { IfOk result (λ t. steps.new + position ≡ steps.old + judged_to t) }
-    ensures most { steps.new ≤ steps.old + count }
+    ensures steps { IfOk result (λ t. steps.new + run.entry.position ≡ steps.old + judged_to t) }
+    ensures most { steps.new ≤ steps.old + run.entry.count }
 {
+    // The events of a graph are sound, and fewer than 2^32.
     let _count = graph.count();
-    let alone = count_alone(graph, position, count, near);
-    let passed = pass_alone(graph, position, run, alone, len, emit_from, ops, steps)?;
+    let alone = count_alone(graph, run.position, run.count, near);
+    let passed = pass_alone(
+        graph,
+        run.position,
+        run.changes,
+        alone,
+        len,
+        emit_from,
+        ops,
+        steps,
+    )?;
     let done = passed.count;
     if done > 0 {
         *line = Some(passed.len);
-        return Ok(Turns::To(position + done));
+        return Ok(Turns::To(run.position + done));
     }
     begin_over(alloc, state, len)?;
     *line = None;
-    let together = count_together(alone, count);
-    apply_run(
-        graph, state, position, run, together, emit_from, ops, near, steps,
-    )
+    let together = RunAt {
+        count: count_together(alone, run.count),
+        ..run
+    };
+    apply_run(graph, state, together, emit_from, ops, near, steps)
 }
 
 /// How many of so many events in a chain, from a critical cut on, stand alone.
@@ -77,6 +86,7 @@ fn count_alone(graph: &Graph, position: u32, count: u32, near: &mut Near) -> u32
     ensures alone { StandAlone graph.now position result }
     ensures none { result ≡ 0 → HasNoCut graph.now position count }
 {
+    // The events of a graph are sound, and fewer than 2^32.
     let _count = graph.count();
     let last = position + count - 1;
     let cut = graph.latest_cut(last);
@@ -130,6 +140,7 @@ fn pass_alone<L: Ledger>(
     ensures steps { IfOk result (λ p. steps.new ≡ steps.old + p.count) }
     ensures most_steps { steps.new ≤ steps.old + count }
 {
+    // The events of a graph are sound, and fewer than 2^32.
     let _count = graph.count();
     let passed = passed_of(run, count, len);
     for _ in 0..passed.count {

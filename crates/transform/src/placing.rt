@@ -97,6 +97,7 @@ fn make_ready<L: Ledger>(
     ensures steps { OnOk result (steps.new + touches (take position graph.now) 0 + 1 ≡ steps.old + touches (take (position + 1) graph.now) 0) }
     ensures most { steps.new + touches (take position graph.now) 0 + 1 ≤ steps.old + touches (take (position + 1) graph.now) 0 }
 {
+    // The events of a graph are sound, and fewer than 2^32.
     let _count = graph.count();
     if position == 0 {
         Ok(())

@@ -5,7 +5,7 @@ ghost use Rattle.ew_model.specs.Cuts.{latest_cut};
 ghost use Rattle.character_runs.specs.Deleting.{deletion_op};
 ghost use Rattle.operation_runs.specs.Runs.{run_ops, RunFits};
 ghost use Rattle.transform.specs.Reaching.{IsReadyAt, WalkedTo};
-ghost use Rattle.transform.specs.Running.{IsRunAt, HasNoCut, TurnsTo, emitted_to, judged_to, walked_to};
+ghost use Rattle.transform.specs.Running.{IsUncutRun, TurnsTo, emitted_to, judged_to, walked_to};
 
 use crate::apply::{Turn, apply};
 use crate::emit::{emit, emit_run};
@@ -25,84 +25,83 @@ pub enum Turns {
     OutOfRange(u32, u32),
 }
 
-/// Applies so many events of a run from a position on, the first of which is ready.
+/// Events that go on from one another: each but the first has the one before it as its only parent.
+#[derive(Clone, Copy)]
+pub struct RunAt<'a> {
+    /// The position of the first.
+    pub position: u32,
+    /// What each does to the text at its parents. Behind these stand perhaps the changes of further events.
+    pub changes: OperationRun<'a>,
+    /// How many events there are.
+    pub count: u32,
+}
+
+/// Applies the events of a run, the first of which is ready. Answers where that ends.
 pub fn apply_run<L: Ledger>(
     graph: &Graph,
     state: &mut State,
-    position: u32,
-    run: OperationRun<'_>,
-    count: u32,
+    run: RunAt<'_>,
     emit_from: u32,
     ops: &mut OperationRuns,
     near: &mut Near,
     steps: &mut Steps<L>,
 ) -> Result<Turns, NoMem>
-    requires run { IsRunAt graph.now position count (run_ops run) }
-    requires fits { RunFits run }
-    requires apart { HasNoCut graph.now position count }
-    requires ready { IsReadyAt graph.now (latest_cut graph.now position) position state.old }
-    requires emitted { ops.old ≡ emitted_to graph.now emit_from position }
-    ensures turned { (from : ℕ) → from ≤ position → IfOk result (TurnsTo graph.now from position (position + count) None state.new) }
+    requires run { IsUncutRun graph.now run }
+    requires ready { IsReadyAt graph.now (latest_cut graph.now run.position) run.position state.old }
+    requires emitted { ops.old ≡ emitted_to graph.now emit_from run.position }
+    ensures turned { (from : ℕ) → from ≤ run.entry.position → IfOk result (TurnsTo graph.now from run.entry.position (run.entry.position + run.entry.count) None state.new) }
     ensures emitted { IfOk result (λ t. ops.new ≡ emitted_to graph.now emit_from (walked_to t)) }
-    ensures steps { IfOk result (λ t. steps.new + position ≡ steps.old + judged_to t) }
-    ensures most { steps.new ≤ steps.old + count }
+    ensures steps { IfOk result (λ t. steps.new + run.entry.position ≡ steps.old + judged_to t) }
+    ensures most { steps.new ≤ steps.old + run.entry.count }
 {
+    // The events of a graph are sound, and fewer than 2^32.
     let _count = graph.count();
     let mut place = 0;
-    while place < count {
-        match apply_some(
-            graph, state, position, run, place, count, emit_from, ops, near, steps,
-        )? {
-            Turns::To(next) => place = next - position,
+    while place < run.count {
+        match apply_some(graph, state, run, place, emit_from, ops, near, steps)? {
+            Turns::To(next) => place = next - run.position,
             Turns::OutOfRange(at, len) => return Ok(Turns::OutOfRange(at, len)),
         }
     }
-    Ok(Turns::To(position + count))
+    Ok(Turns::To(run.position + run.count))
 }
 
 /// Applies the event at a place of a run, which is ready, and those behind it that can be applied in one go. Answers where that ends.
 fn apply_some<L: Ledger>(
     graph: &Graph,
     state: &mut State,
-    position: u32,
-    run: OperationRun<'_>,
+    run: RunAt<'_>,
     place: u32,
-    count: u32,
     emit_from: u32,
     ops: &mut OperationRuns,
     near: &mut Near,
     steps: &mut Steps<L>,
 ) -> Result<Turns, NoMem>
-    requires run { IsRunAt graph.now position count (run_ops run) }
-    requires fits { RunFits run }
-    requires apart { HasNoCut graph.now position count }
-    requires within { place < count }
-    requires ready { IsReadyAt graph.now (latest_cut graph.now (position + place)) (position + place) state.old }
-    requires emitted { ops.old ≡ emitted_to graph.now emit_from (position + place) }
-    ensures turned { (from : ℕ) → from ≤ position → IfOk result (TurnsTo graph.now from (position + place) (position + count) None state.new) }
+    requires run { IsUncutRun graph.now run }
+    requires within { place < run.count }
+    requires ready { IsReadyAt graph.now (latest_cut graph.now (run.position + place)) (run.position + place) state.old }
+    requires emitted { ops.old ≡ emitted_to graph.now emit_from (run.position + place) }
+    ensures turned { (from : ℕ) → from ≤ run.entry.position → IfOk result (TurnsTo graph.now from (run.entry.position + place) (run.entry.position + run.entry.count) None state.new) }
     ensures emitted { IfOk result (λ t. ops.new ≡ emitted_to graph.now emit_from (walked_to t)) }
-    ensures steps { IfOk result (λ t. steps.new + position + place ≡ steps.old + judged_to t) }
-    ensures most { steps.new + place ≤ steps.old + count }
+    ensures steps { IfOk result (λ t. steps.new + run.entry.position + place ≡ steps.old + judged_to t) }
+    ensures most { steps.new + place ≤ steps.old + run.entry.count }
 {
+    // The events of a graph are sound, and fewer than 2^32.
     let _count = graph.count();
-    let at = position + place;
-    let deleted = delete_run(
-        graph, state, position, run, place, count, emit_from, ops, steps,
-    )?;
+    let at = run.position + place;
+    let deleted = delete_run(graph, state, run, place, emit_from, ops, steps)?;
     if deleted > 0 {
         return Ok(Turns::To(at + deleted));
     }
-    match apply(graph, state, at, run.get(place), near, steps)? {
+    match apply(graph, state, at, run.changes.get(place), near, steps)? {
         Turn::Applied(op) => emit(ops, at, emit_from, op)?,
         Turn::OutOfRange(len) => return Ok(Turns::OutOfRange(at, len)),
     }
     let next = place + 1;
-    if next == count {
+    if next == run.count {
         return Ok(Turns::To(at + 1));
     }
-    let typed = type_on(
-        graph, state, position, run, next, count, emit_from, ops, near, steps,
-    )?;
+    let typed = type_on(graph, state, run, next, emit_from, ops, near, steps)?;
     Ok(Turns::To(at + 1 + typed))
 }
 
@@ -111,33 +110,30 @@ fn apply_some<L: Ledger>(
 fn type_on<L: Ledger>(
     graph: &Graph,
     state: &mut State,
-    position: u32,
-    run: OperationRun<'_>,
+    run: RunAt<'_>,
     place: u32,
-    count: u32,
     emit_from: u32,
     ops: &mut OperationRuns,
     near: &mut Near,
     steps: &mut Steps<L>,
 ) -> Result<u32, NoMem>
-    requires run { IsRunAt graph.now position count (run_ops run) }
-    requires fits { RunFits run }
-    requires apart { HasNoCut graph.now position count }
-    requires within { place ≤ count }
-    requires walked { WalkedTo graph.now position (position + place) None state.old }
-    requires emitted { ops.old ≡ emitted_to graph.now emit_from (position + place) }
-    ensures within { IfOk result (λ n. place + n ≤ count) }
-    ensures walked { IfOk result (λ n. WalkedTo graph.now position (position + place + n) None state.new) }
-    ensures emitted { IfOk result (λ n. ops.new ≡ emitted_to graph.now emit_from (position + place + n)) }
+    requires run { IsUncutRun graph.now run }
+    requires within { place ≤ run.count }
+    requires walked { WalkedTo graph.now run.position (run.position + place) None state.old }
+    requires emitted { ops.old ≡ emitted_to graph.now emit_from (run.position + place) }
+    ensures within { IfOk result (λ n. place + n ≤ run.entry.count) }
+    ensures walked { IfOk result (λ n. WalkedTo graph.now run.entry.position (run.entry.position + place + n) None state.new) }
+    ensures emitted { IfOk result (λ n. ops.new ≡ emitted_to graph.now emit_from (run.entry.position + place + n)) }
     ensures steps { IfOk result (λ n. steps.new ≡ steps.old + n) }
-    ensures most { steps.new + place ≤ steps.old + count }
+    ensures most { steps.new + place ≤ steps.old + run.entry.count }
 {
+    // The events of a graph are sound, and fewer than 2^32.
     let _count = graph.count();
-    let OperationRun::Insertions { at, chars } = run else {
+    let OperationRun::Insertions { at, chars } = run.changes else {
         return Ok(0);
     };
-    let newest = position + place - 1;
-    let more = graph.next_ids_near(newest, near).min(count - place);
+    let newest = run.position + place - 1;
+    let more = graph.next_ids_near(newest, near).min(run.count - place);
     if more == 0 {
         return Ok(0);
     }
@@ -160,32 +156,30 @@ fn type_on<L: Ledger>(
 fn delete_run<L: Ledger>(
     graph: &Graph,
     state: &mut State,
-    position: u32,
-    run: OperationRun<'_>,
+    run: RunAt<'_>,
     place: u32,
-    count: u32,
     emit_from: u32,
     ops: &mut OperationRuns,
     steps: &mut Steps<L>,
 ) -> Result<u32, NoMem>
-    requires run { IsRunAt graph.now position count (run_ops run) }
-    requires apart { HasNoCut graph.now position count }
-    requires within { place < count }
-    requires ready { IsReadyAt graph.now (latest_cut graph.now (position + place)) (position + place) state.old }
-    requires emitted { ops.old ≡ emitted_to graph.now emit_from (position + place) }
-    ensures within { IfOk result (λ n. place + n ≤ count) }
-    ensures walked { IfOk result (λ n. 0 < n → (from : ℕ) → from ≤ position → WalkedTo graph.now from (position + place + n) None state.new) }
+    requires run { IsUncutRun graph.now run }
+    requires within { place < run.count }
+    requires ready { IsReadyAt graph.now (latest_cut graph.now (run.position + place)) (run.position + place) state.old }
+    requires emitted { ops.old ≡ emitted_to graph.now emit_from (run.position + place) }
+    ensures within { IfOk result (λ n. place + n ≤ run.entry.count) }
+    ensures walked { IfOk result (λ n. 0 < n → (from : ℕ) → from ≤ run.entry.position → WalkedTo graph.now from (run.entry.position + place + n) None state.new) }
     ensures same { IfOk result (λ n. n ≡ 0 → state.new ≡ state.old) }
-    ensures emitted { IfOk result (λ n. ops.new ≡ emitted_to graph.now emit_from (position + place + n)) }
+    ensures emitted { IfOk result (λ n. ops.new ≡ emitted_to graph.now emit_from (run.entry.position + place + n)) }
     ensures steps { IfOk result (λ n. steps.new ≡ steps.old + n) }
-    ensures most { steps.new + place ≤ steps.old + count }
+    ensures most { steps.new + place ≤ steps.old + run.entry.count }
 {
+    // The events of a graph are sound, and fewer than 2^32.
     let _count = graph.count();
-    let OperationRun::Deletions { at, count: _ } = run else {
+    let OperationRun::Deletions { at, count: _ } = run.changes else {
         return Ok(0);
     };
-    let first = position + place;
-    let Some(deleted) = state.delete_run(first, count - place, at)? else {
+    let first = run.position + place;
+    let Some(deleted) = state.delete_run(first, run.count - place, at)? else {
         return Ok(0);
     };
     for _ in 0..deleted.count {

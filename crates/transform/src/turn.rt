@@ -36,6 +36,7 @@ pub fn reach<L: Ledger>(
     ensures steps { (from : ℕ) → from ≤ position → WalkedTo graph.now from position line state.old → OnOk result (steps.new + touches (take position graph.now) from + 1 ≡ steps.old + touches (take (position + 1) graph.now) from) }
     ensures most { (from : ℕ) → from ≤ position → WalkedTo graph.now from position line state.old → steps.new + touches (take position graph.now) from + 1 ≤ steps.old + touches (take (position + 1) graph.now) from }
 {
+    // The events of a graph are sound, and fewer than 2^32.
     let _count = graph.count();
     if line.is_some() {
         return Ok(line);
@@ -62,6 +63,7 @@ pub fn prepare<L: Ledger>(
     ensures steps { (from : ℕ) → from < position → OnOk result (steps.new + touches (take position graph.now) from + 1 ≡ steps.old + touches (take (position + 1) graph.now) from) }
     ensures most { (from : ℕ) → from < position → steps.new + touches (take position graph.now) from + 1 ≤ steps.old + touches (take (position + 1) graph.now) from }
 {
+    // The events of a graph are sound, and fewer than 2^32.
     let _count = graph.count();
     if follows(graph, position, near) {
         Ok(())
@@ -96,6 +98,7 @@ fn move_to<L: Ledger>(
     ensures steps { (from : ℕ) → from < position → OnOk result (steps.new + touches (take position graph.now) from + 1 ≡ steps.old + touches (take (position + 1) graph.now) from) }
     ensures most { (from : ℕ) → from < position → steps.new + touches (take position graph.now) from + 1 ≤ steps.old + touches (take (position + 1) graph.now) from }
 {
+    // The events of a graph are sound, and fewer than 2^32.
     let _count = graph.count();
     let (out, into) = differences(graph, position)?;
     retreat_all(state, &out, steps)?;
@@ -111,6 +114,7 @@ fn differences(graph: &Graph, position: u32) -> Result<(Spans, Spans), NoMem>
     ensures out { (e : Event) → slice_get graph.now position ≡ Some e → IfOk result (λ sides. positions_of sides.0 ≡ alone (prepared_since (take position graph.now) 0) (over_since (take position graph.now) 0 e)) }
     ensures into { (e : Event) → slice_get graph.now position ≡ Some e → IfOk result (λ sides. positions_of sides.1 ≡ alone (over_since (take position graph.now) 0 e) (prepared_since (take position graph.now) 0)) }
 {
+    // The events of a graph are sound, and fewer than 2^32.
     let _count = graph.count();
     let parents = graph.parents_of(position);
     graph.diff(&[position - 1], parents.as_slice(), 0)

@@ -13,7 +13,7 @@ ghost use Rattle.transform.specs.Walking.{bad_at, cut_left, judged_of, walked_of
 
 use crate::answer::{Walk, WalkedRuns};
 use crate::cut::pass_cut;
-use crate::run::{Turns, apply_run};
+use crate::run::{RunAt, Turns, apply_run};
 use crate::turn::reach;
 use advance_retreat::State;
 use event_graph::{Graph, Near};
@@ -120,15 +120,18 @@ fn take_turns<L: Ledger>(
     ensures steps { (from : ℕ) → from ≤ position → WalkedTo graph.now from position line.old state.old → IfOk result (λ t. steps.new + touches (take position graph.now) from ≡ steps.old + touches (take (judged_to t) graph.now) from) }
     ensures most { (from : ℕ) → from ≤ position → WalkedTo graph.now from position line.old state.old → steps.new + touches (take position graph.now) from ≤ steps.old + touches graph.now from }
 {
+    // The events of a graph are sound, and fewer than 2^32.
     let _count = graph.count();
-    let run = graph.rest_near(position, near);
-    let events = run.count();
+    let changes = graph.rest_near(position, near);
+    let run = RunAt {
+        position,
+        changes,
+        count: changes.count(),
+    };
     match reach(graph, state, *line, position, near, steps)? {
         Some(len) => pass_cut(
-            alloc, graph, state, line, position, run, events, len, emit_from, ops, near, steps,
+            alloc, graph, state, line, run, len, emit_from, ops, near, steps,
         ),
-        None => apply_run(
-            graph, state, position, run, events, emit_from, ops, near, steps,
-        ),
+        None => apply_run(graph, state, run, emit_from, ops, near, steps),
     }
 }

@@ -1,26 +1,23 @@
-use Rattle.std.proofs.Common.{◌-◌, ◌≤◌, slice_index_or, arith}
-use Rattle.std.proofs.lemmas.Option.{slice_get-get_or}
-use Rattle.ew_model.specs.declared.node.Node.TheVariants.{Root}
-use Rattle.advance_retreat.specs.declared.line.Way.TheVariants.{Up}
+use Rattle.std.proofs.Common.{◌≡◌, Option, Some, IfNone, length, slice_get, refl, sym, ◌∙◌, subst}
+use Rattle.std.proofs.lemmas.Bool.{ltb-false}
+use Rattle.std.proofs.lemmas.Option.{none-some, slice_get_past, slice_get_read}
 use Rattle.advance_retreat.specs.declared.run.Run.{Run}
-use Rattle.advance_retreat.proofs.RunLaws.{none_begun, none_goes_on, tells}
+use Rattle.advance_retreat.specs.Runs.{TellNone}
+use Rattle.advance_retreat.proofs.RunLaws.{some_of, none_of, none_at}
+use Rattle.advance_retreat.proofs.runs.run_at.Goals.{After-held}
 use Rattle.advance_retreat.proofs.runs.run_at.Goals as goal
 
-abbrev nothing : Run
-nothing = record { first = 0; more = 0; node = Root; way = Up }
+there : (c : After-held) → slice_get c.args.runs.now c.args.place ≡ Some c.in_ok-get.field-0.now
+there c = slice_get_read c.args.runs.now (length c.args.runs.now) c.args.place c.in_ok-get.field-0.now refl c.in_ok-get.ensures.lookup.3.0 c.in_ok-get.ensures.lookup.1
 
-pub returns-then-begun-eq0-clause-none : goal.returns-then-begun-eq0-clause-none
-returns-then-begun-eq0-clause-none c = none_begun c.args.runs.now c.args.lv c.count_to-begun.result c.if-begun-eq0.true c.count_to-begun.ensures.behind
+pub returns-clause-some : goal.returns-clause-some
+returns-clause-some c = some_of c.args.runs.now c.args.lv c.args.place c.in_ok-get.field-0.now c.held.result c.requires.order (there c) c.held.ensures.some
 
-pub returns-then-lv-run-clause-some : goal.returns-then-lv-run-clause-some
-returns-then-lv-run-clause-some c =
-    let bound = c.count_to-begun.ensures.bound in
-    let some : 1 ≤ c.count_to-begun.result = omega (arith, c.if-begun-eq0.false) in
-    let place = c.count_to-begun.result - 1 in
-    tells c.args.runs.now c.args.lv place (slice_index_or c.args.runs.now place nothing) c.requires (slice_get-get_or c.args.runs.now place nothing (omega (arith, some, bound)))
-    (c.count_to-begun.ensures.to place nothing (omega arith) (omega (arith, some))) (omega arith)
+pub returns-clause-none : goal.returns-clause-none
+returns-clause-none c = none_of c.args.runs.now c.args.lv c.args.place c.in_ok-get.field-0.now c.held.result c.requires.place (there c) c.held.ensures.none
 
-pub returns-else-lv-run-clause-none : goal.returns-else-lv-run-clause-none
-returns-else-lv-run-clause-none c =
-    let some : 1 ≤ c.count_to-begun.result = omega (arith, c.if-begun-eq0.false) in
-    none_goes_on c.args.runs.now c.args.lv c.count_to-begun.result nothing c.requires some c.count_to-begun.ensures.bound (omega arith) c.count_to-begun.ensures.behind
+pub returns-in_err-get-clause-none : goal.returns-in_err-get-clause-none
+returns-in_err-get-clause-none c =
+    let past = slice_get_past c.args.runs.now c.args.place (ltb-false c.args.place (length c.args.runs.now) (sym c.in_err-get.ensures.lookup.0)) in
+    subst (λ (o : Option Run). IfNone o (TellNone c.args.runs.now c.args.lv)) (sym c.from_residual.ensures)
+    (none_at c.args.runs.now c.args.lv c.args.place c.requires.place (λ has. none-some has.0 (sym past ∙ has.1)))

@@ -17,19 +17,18 @@ pass_alone-requires-clause-told g c = let all = c.requires.run.told in omega (ar
 pub apply_run-requires-clause-run : goal.apply_run-requires-clause-run
 apply_run-requires-clause-run g c =
     let alone = c.count_alone-alone.result in
-    let together = c.count_together-together in
-    let some = together_some alone c.args.count together.result c.requires.run.some together.ensures.some together.ensures.none in
-    run_fewer c.args.graph.now c.args.position c.args.count together.result (run_ops c.args.run) c.requires.run some.0 some.1
-
-pub apply_run-requires-clause-apart : goal.apply_run-requires-clause-apart
-apply_run-requires-clause-apart g c =
-    let together = c.count_together-together in
-    together_apart c.args.graph.now c.args.position c.count_alone-alone.result c.args.count together.result together.ensures.some together.ensures.none c.count_alone-alone.ensures.none
+    let together = c.count_together in
+    let some = together_some alone c.args.run.count together.result c.requires.run.some together.ensures.some together.ensures.none in
+    record {
+      events = run_fewer c.args.graph.now c.args.run.position c.args.run.count together.result (run_ops c.args.run.changes) c.requires.run some.0 some.1;
+      fits = c.requires.fits;
+      apart = together_apart c.args.graph.now c.args.run.position alone c.args.run.count together.result together.ensures.some together.ensures.none c.count_alone-alone.ensures.none;
+    }
 
 pub apply_run-requires-clause-ready : goal.apply_run-requires-clause-ready
 apply_run-requires-clause-ready g c =
     let now = c.args.graph.now in
-    let position = c.args.position in
+    let position = c.args.run.position in
     let state = c.begin_over.new.state in
     let all = c.requires.run.within in
     subst (λ cut. IsReadyAt now cut position state) (sym (latest_here now position c.requires.behind.critical))
@@ -37,7 +36,7 @@ apply_run-requires-clause-ready g c =
 
 pub apply_run-requires-clause-emitted : goal.apply_run-requires-clause-emitted
 apply_run-requires-clause-emitted g c =
-    let same : c.args.position + c.in_ok-passed.passed.count ≡ c.args.position = omega (arith, c.if-done-gt0.false) in
+    let same : c.args.run.position + c.in_ok-passed.passed.count ≡ c.args.run.position = omega (arith, c.if-done-gt0.false) in
     c.in_ok-passed.ensures.emitted ∙ ap (emitted_to c.args.graph.now c.args.emit_from) same
 
 pub returns-then-done-gt0-clause-turned : goal.returns-then-done-gt0-clause-turned
@@ -56,19 +55,19 @@ returns-in_err-passed-clause-most g c = omega (arith, c.pass_alone.ensures.most_
 pub returns-clause-turned : goal.returns-clause-turned
 returns-clause-turned g c = λ from low.
     let now = c.args.graph.now in
-    let position = c.args.position in
-    let together = c.count_together-together in
-    let some = together_some c.count_alone-alone.result c.args.count together.result c.requires.run.some together.ensures.some together.ensures.none in
-    known_ok (TurnsTo now from position (position + together.result) None c.apply_run.new.state) c.apply_run.result (TurnsTo now from position (position + c.args.count) None c.apply_run.new.state)
-    (λ turns t. turns_wider now from position (position + together.result) (position + c.args.count) None c.apply_run.new.state turns (omega (arith, some.1)) t) (c.apply_run.ensures.turned from low)
+    let position = c.args.run.position in
+    let together = c.count_together in
+    let some = together_some c.count_alone-alone.result c.args.run.count together.result c.requires.run.some together.ensures.some together.ensures.none in
+    known_ok (TurnsTo now from position (position + together.result) None c.apply_run.new.state) c.apply_run.result (TurnsTo now from position (position + c.args.run.count) None c.apply_run.new.state)
+    (λ turns t. turns_wider now from position (position + together.result) (position + c.args.run.count) None c.apply_run.new.state turns (omega (arith, some.1)) t) (c.apply_run.ensures.turned from low)
 
 pub returns-clause-steps : goal.returns-clause-steps
 returns-clause-steps g c =
-    known_ok (λ t. c.apply_run.new.steps + c.args.position ≡ c.pass_alone.new.steps + judged_to t) c.apply_run.result (λ t. c.apply_run.new.steps + c.args.position ≡ c.args.steps.now + judged_to t)
+    known_ok (λ t. c.apply_run.new.steps + c.args.run.position ≡ c.pass_alone.new.steps + judged_to t) c.apply_run.result (λ t. c.apply_run.new.steps + c.args.run.position ≡ c.args.steps.now + judged_to t)
     (λ t told. omega (arith, told, c.in_ok-passed.ensures.steps, c.if-done-gt0.false)) c.apply_run.ensures.steps
 
 pub returns-clause-most : goal.returns-clause-most
 returns-clause-most g c =
-    let together = c.count_together-together in
-    let some = together_some c.count_alone-alone.result c.args.count together.result c.requires.run.some together.ensures.some together.ensures.none in
+    let together = c.count_together in
+    let some = together_some c.count_alone-alone.result c.args.run.count together.result c.requires.run.some together.ensures.some together.ensures.none in
     omega (arith, c.apply_run.ensures.most, some.1, c.in_ok-passed.ensures.steps, c.if-done-gt0.false)

@@ -1,4 +1,4 @@
-use Rattle.std.proofs.Common.{◌≡◌, ◌+◌, ◌-◌, ◌<◌, None, length, sym, ap, ◌∙◌, subst, arith}
+use Rattle.std.proofs.Common.{◌≡◌, ◌+◌, ◌<◌, None, length, sym, ap, ◌∙◌, subst, arith}
 use Rattle.ew_model.specs.Cuts.{latest_cut}
 use Rattle.transform.specs.Reaching.{IsReadyAt, TurnedTo, WalkedTo}
 use Rattle.operation_runs.specs.Runs.{run_ops}
@@ -9,20 +9,20 @@ use Rattle.transform.proofs.run.apply_some.Goals as goal
 
 -- where no deletions were applied in one go, the state is as before
 pub overflow_add-at : goal.overflow_add-at
-overflow_add-at g c = let all = c.requires.run.within in omega (arith, all, c.requires.within, c.count-count.ensures.count)
+overflow_add-at g c = let all = c.requires.run.events.within in omega (arith, all, c.requires.within, c.count-count.ensures.count)
 
 pub get-requires-clause-within : goal.get-requires-clause-within
-get-requires-clause-within g c = let all = c.requires.run.told in omega (arith, all, c.requires.within)
+get-requires-clause-within g c = let all = c.requires.run.events.told in omega (arith, all, c.requires.within)
 
 pub apply-requires-clause-within : goal.apply-requires-clause-within
-apply-requires-clause-within g c = let all = c.requires.run.within in omega (arith, all, c.requires.within)
+apply-requires-clause-within g c = let all = c.requires.run.events.within in omega (arith, all, c.requires.within)
 
 pub apply-requires-clause-change : goal.apply-requires-clause-change
-apply-requires-clause-change g c = change_at c.args.graph.now c.args.position c.args.count c.args.place (run_ops c.args.run) c.get.result c.requires.run c.requires.within c.get.ensures
+apply-requires-clause-change g c = change_at c.args.graph.now c.args.run.position c.args.run.count c.args.place (run_ops c.args.run.changes) c.get.result c.requires.run.events c.requires.within c.get.ensures
 
 pub apply-requires-clause-ready : goal.apply-requires-clause-ready
 apply-requires-clause-ready g c =
-    let n = c.args.position + c.args.place in
+    let n = c.args.run.position + c.args.place in
     let same = c.in_ok-deleted.ensures.same (omega (arith, c.if-deleted-gt0.false)) in
     (latest_cut c.args.graph.now n, subst (λ s. IsReadyAt c.args.graph.now (latest_cut c.args.graph.now n) n s) (sym same) c.requires.ready)
 
@@ -30,9 +30,9 @@ apply-requires-clause-ready g c =
 pub type_on-requires-clause-walked : goal.type_on-requires-clause-walked
 type_on-requires-clause-walked g c =
     let now = c.args.graph.now in
-    let position = c.args.position in
+    let position = c.args.run.position in
     let n = position + c.args.place in
-    let all = c.requires.run.within in
+    let all = c.requires.run.events.within in
     let within : n < length now = omega (arith, all, c.requires.within) in
     let same = c.in_ok-deleted.ensures.same (omega (arith, c.if-deleted-gt0.false)) in
     let ready = subst (λ s. IsReadyAt now (latest_cut now n) n s) (sym same) c.requires.ready in
@@ -43,9 +43,9 @@ type_on-requires-clause-walked g c =
 pub type_on-requires-clause-emitted : goal.type_on-requires-clause-emitted
 type_on-requires-clause-emitted g c =
     let now = c.args.graph.now in
-    let position = c.args.position in
+    let position = c.args.run.position in
     let n = position + c.args.place in
-    let all = c.requires.run.within in
+    let all = c.requires.run.events.within in
     let within : n < length now = omega (arith, all, c.requires.within) in
     let none : c.in_ok-deleted.deleted ≡ 0 = omega (arith, c.if-deleted-gt0.false) in
     let same = c.in_ok-deleted.ensures.same none in
@@ -71,8 +71,8 @@ returns-then-deleted-gt0-clause-turned g c = λ from start.
 pub returns-in-OutOfRange-clause-turned : goal.returns-in-OutOfRange-clause-turned
 returns-in-OutOfRange-clause-turned g c = λ from start.
     let now = c.args.graph.now in
-    let n = c.args.position + c.args.place in
-    let all = c.requires.run.within in
+    let n = c.args.run.position + c.args.place in
+    let all = c.requires.run.events.within in
     let within : n < length now = omega (arith, all, c.requires.within) in
     let same = c.in_ok-deleted.ensures.same (omega (arith, c.if-deleted-gt0.false)) in
     let ready = subst (λ s. IsReadyAt now (latest_cut now n) n s) (sym same) c.requires.ready in (
@@ -85,15 +85,15 @@ returns-in-OutOfRange-clause-turned g c = λ from start.
 pub returns-in-OutOfRange-clause-emitted : goal.returns-in-OutOfRange-clause-emitted
 returns-in-OutOfRange-clause-emitted g c =
     let none : c.in_ok-deleted.deleted ≡ 0 = omega (arith, c.if-deleted-gt0.false) in
-    let here : c.args.position + c.args.place + c.in_ok-deleted.deleted ≡ c.args.position + c.args.place = omega (arith, none) in
+    let here : c.args.run.position + c.args.place + c.in_ok-deleted.deleted ≡ c.args.run.position + c.args.place = omega (arith, none) in
     c.in_ok-deleted.ensures.emitted ∙ ap (emitted_to c.args.graph.now c.args.emit_from) here
 
 -- one event, the last
-pub returns-then-next-count-clause-turned : goal.returns-then-next-count-clause-turned
-returns-then-next-count-clause-turned g c = λ from start.
+pub returns-then-next-run-clause-turned : goal.returns-then-next-run-clause-turned
+returns-then-next-run-clause-turned g c = λ from start.
     let now = c.args.graph.now in
-    let n = c.args.position + c.args.place in
-    let all = c.requires.run.within in
+    let n = c.args.run.position + c.args.place in
+    let all = c.requires.run.events.within in
     let within : n < length now = omega (arith, all, c.requires.within) in
     let same = c.in_ok-deleted.ensures.same (omega (arith, c.if-deleted-gt0.false)) in
     let ready = subst (λ s. IsReadyAt now (latest_cut now n) n s) (sym same) c.requires.ready in
@@ -103,12 +103,12 @@ returns-then-next-count-clause-turned g c = λ from start.
       (goes_on now from n None c.apply.new.state c.in_ok-op.field-0 c.in-Applied.op c.in-Applied.is turned).0,
     )
 
-pub returns-then-next-count-clause-emitted : goal.returns-then-next-count-clause-emitted
-returns-then-next-count-clause-emitted g c =
+pub returns-then-next-run-clause-emitted : goal.returns-then-next-run-clause-emitted
+returns-then-next-run-clause-emitted g c =
     let now = c.args.graph.now in
-    let position = c.args.position in
+    let position = c.args.run.position in
     let n = position + c.args.place in
-    let all = c.requires.run.within in
+    let all = c.requires.run.events.within in
     let within : n < length now = omega (arith, all, c.requires.within) in
     let none : c.in_ok-deleted.deleted ≡ 0 = omega (arith, c.if-deleted-gt0.false) in
     let same = c.in_ok-deleted.ensures.same none in
@@ -123,7 +123,7 @@ pub returns-clause-turned : goal.returns-clause-turned
 returns-clause-turned g c = λ from start.
     let now = c.args.graph.now in
     let typed = c.in_ok-typed.ensures in
-    let end : c.args.position + (c.args.place + 1) + c.in_ok-typed.typed ≡ c.args.position + c.args.place + 1 + c.in_ok-typed.typed = omega arith in (
+    let end : c.args.run.position + (c.args.place + 1) + c.in_ok-typed.typed ≡ c.args.run.position + c.args.place + 1 + c.in_ok-typed.typed = omega arith in (
       omega arith,
       omega (arith, typed.within),
       subst (λ m. WalkedTo now from m None c.type_on.new.state) end (omega (arith, start), typed.walked.1),
@@ -131,5 +131,5 @@ returns-clause-turned g c = λ from start.
 
 pub returns-clause-emitted : goal.returns-clause-emitted
 returns-clause-emitted g c =
-    let end : c.args.position + (c.args.place + 1) + c.in_ok-typed.typed ≡ c.args.position + c.args.place + 1 + c.in_ok-typed.typed = omega arith in
+    let end : c.args.run.position + (c.args.place + 1) + c.in_ok-typed.typed ≡ c.args.run.position + c.args.place + 1 + c.in_ok-typed.typed = omega arith in
     c.in_ok-typed.ensures.emitted ∙ ap (emitted_to c.args.graph.now c.args.emit_from) end

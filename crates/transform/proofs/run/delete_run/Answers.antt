@@ -1,4 +1,4 @@
-use Rattle.std.proofs.Common.{◌≡◌, ◌+◌, ◌-◌, List, ◌++◌, length, take, replicate, sym, ap, ◌∙◌, subst, arith}
+use Rattle.std.proofs.Common.{◌≡◌, ◌+◌, List, ◌++◌, length, take, replicate, sym, ap, ◌∙◌, subst, arith}
 use Rattle.std.proofs.lemmas.List.{length-replicate, take-replicate}
 use Rattle.ew_model.specs.Operations.{operations}
 use Rattle.ew_model.specs.declared.text_op.TextOp.{TextOp}
@@ -11,16 +11,16 @@ use Rattle.transform.proofs.DeletedEvents.{run_deleted, run_may_delete, run_ops_
 use Rattle.transform.proofs.run.delete_run.Goals as goal
 
 pub overflow_add-first : goal.overflow_add-first
-overflow_add-first g c = let all = c.requires.run.within in omega (arith, all, c.requires.within, c.count-count.ensures.count)
+overflow_add-first g c = let all = c.requires.run.events.within in omega (arith, all, c.requires.within, c.count-count.ensures.count)
 
 pub delete_run-requires-clause-few : goal.delete_run-requires-clause-few
-delete_run-requires-clause-few g c = let all = c.requires.run.within in omega (arith, all, c.requires.within, c.count-count.ensures.count)
+delete_run-requires-clause-few g c = let all = c.requires.run.events.within in omega (arith, all, c.requires.within, c.count-count.ensures.count)
 
 pub delete_run-requires-clause-may : goal.delete_run-requires-clause-may
 delete_run-requires-clause-may g c =
     let a = c.in-Deletions in
-    let run = subst (λ (r : OperationRun). IsRunAt c.args.graph.now c.args.position c.args.count (run_ops r)) a.is c.requires.run in
-    run_may_delete c.args.graph.now c.count-count.ensures.admitted c.count-count.ensures.sound c.args.position c.args.count c.args.place a.at a.count c.args.state.now run c.requires.apart c.requires.within c.requires.ready
+    let run = subst (λ (r : OperationRun). IsRunAt c.args.graph.now c.args.run.position c.args.run.count (run_ops r)) a.is c.requires.run.events in
+    run_may_delete c.args.graph.now c.count-count.ensures.admitted c.count-count.ensures.sound c.args.run.position c.args.run.count c.args.place a.at a.count c.args.state.now run c.requires.run.apart c.requires.within c.requires.ready
 
 pub emit_run-requires-clause-within : goal.emit_run-requires-clause-within
 emit_run-requires-clause-within g c =
@@ -32,11 +32,10 @@ pub returns-clause-walked : goal.returns-clause-walked
 returns-clause-walked g c = λ some from low.
     let a = c.in-Deletions in
     let ds = c.in-Some.deleted in
-    let run = subst (λ (r : OperationRun). IsRunAt c.args.graph.now c.args.position c.args.count (run_ops r)) a.is c.requires.run in
-    let may = run_may_delete c.args.graph.now c.count-count.ensures.admitted c.count-count.ensures.sound c.args.position c.args.count c.args.place a.at a.count c.args.state.now run c.requires.apart c.requires.within c.requires.ready in
+    let run = subst (λ (r : OperationRun). IsRunAt c.args.graph.now c.args.run.position c.args.run.count (run_ops r)) a.is c.requires.run.events in
     let most = rw c.in-Some.is at c.in_ok-deleted.ensures.most in
-    let each = rw c.in-Some.is at (c.in_ok-deleted.ensures.deleted may.0 may.1 may.2 may.3 may.4) in
-    run_deleted c.args.graph.now c.count-count.ensures.admitted c.count-count.ensures.sound c.args.position c.args.count c.args.place a.at a.count c.args.state.now run c.requires.apart c.requires.within c.requires.ready (deletion_op ds.index) ds.count (omega (arith, some))
+    let each = rw c.in-Some.is at c.in_ok-deleted.ensures.deleted in
+    run_deleted c.args.graph.now c.count-count.ensures.admitted c.count-count.ensures.sound c.args.run.position c.args.run.count c.args.place a.at a.count c.args.state.now run c.requires.run.apart c.requires.within c.requires.ready (deletion_op ds.index) ds.count (omega (arith, some))
     most c.delete_run.new.self each from low
 
 pub returns-clause-emitted : goal.returns-clause-emitted
@@ -44,16 +43,15 @@ returns-clause-emitted g c =
     let a = c.in-Deletions in
     let ds = c.in-Some.deleted in
     let now = c.args.graph.now in
-    let run = subst (λ (r : OperationRun). IsRunAt now c.args.position c.args.count (run_ops r)) a.is c.requires.run in
+    let run = subst (λ (r : OperationRun). IsRunAt now c.args.run.position c.args.run.count (run_ops r)) a.is c.requires.run.events in
     let all = run.within in
-    let may = run_may_delete now c.count-count.ensures.admitted c.count-count.ensures.sound c.args.position c.args.count c.args.place a.at a.count c.args.state.now run c.requires.apart c.requires.within c.requires.ready in
     let many = rw c.in-Some.is at c.in_ok-deleted.ensures.some in
     let most = rw c.in-Some.is at c.in_ok-deleted.ensures.most in
-    let each = rw c.in-Some.is at (c.in_ok-deleted.ensures.deleted may.0 may.1 may.2 may.3 may.4) in
-    let whole = run_ops_deleted now c.count-count.ensures.admitted c.count-count.ensures.sound c.args.position c.args.count c.args.place a.at a.count c.args.state.now run c.requires.apart c.requires.within c.requires.ready (deletion_op ds.index) ds.count (omega (arith, many))
+    let each = rw c.in-Some.is at c.in_ok-deleted.ensures.deleted in
+    let whole = run_ops_deleted now c.count-count.ensures.admitted c.count-count.ensures.sound c.args.run.position c.args.run.count c.args.place a.at a.count c.args.state.now run c.requires.run.apart c.requires.within c.requires.ready (deletion_op ds.index) ds.count (omega (arith, many))
     most c.delete_run.new.self each in
     let told : List TextOp = take ds.count (run_ops c.operations_of.result) in
     let same : told ≡ replicate ds.count (deletion_op ds.index) = ap (take ds.count) c.operations_of.ensures.is ∙ take-replicate ds.count ds.count (deletion_op ds.index) (omega arith) in
-    emitted_by_run now (c.args.position + c.args.place) ds.count c.args.emit_from c.args.ops.now c.emit_run.new.ops told (omega (arith, all, c.requires.within, most))
-    (whole ∙ ap (λ (ops : List TextOp). operations (take (c.args.position + c.args.place) now) ++ ops) (sym same))
+    emitted_by_run now (c.args.run.position + c.args.place) ds.count c.args.emit_from c.args.ops.now c.emit_run.new.ops told (omega (arith, all, c.requires.within, most))
+    (whole ∙ ap (λ (ops : List TextOp). operations (take (c.args.run.position + c.args.place) now) ++ ops) (sym same))
     c.requires.emitted c.in_ok-emit_run.ensures

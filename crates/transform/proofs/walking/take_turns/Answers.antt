@@ -11,8 +11,8 @@ use Rattle.transform.proofs.walking.take_turns.Goals as goal
 
 pub pass_cut-requires-clause-run : goal.pass_cut-requires-clause-run
 pass_cut-requires-clause-run g c =
-    let rest = c.rest_near-run in
-    run_told c.args.graph.now c.args.position c.count-events.result (run_ops rest.result) c.count-events.ensures rest.ensures.some rest.ensures.within rest.ensures.chain rest.ensures.changes
+    let rest = c.rest_near-changes in
+    run_told c.args.graph.now c.args.position c.count.result (run_ops rest.result) c.count.ensures rest.ensures.some rest.ensures.within rest.ensures.chain rest.ensures.changes
 
 pub pass_cut-requires-clause-behind : goal.pass_cut-requires-clause-behind
 pass_cut-requires-clause-behind g c = (subst (λ at. ReadyAt c.args.graph.now c.args.position at c.reach.new.state) c.in-Some.is (c.in_ok-len.ensures.ready c.requires.walked.0 c.requires.walked.2)).0
@@ -22,14 +22,13 @@ pass_cut-requires-clause-long g c = (subst (λ at. ReadyAt c.args.graph.now c.ar
 
 pub apply_run-requires-clause-run : goal.apply_run-requires-clause-run
 apply_run-requires-clause-run g c =
-    let rest = c.rest_near-run in
-    run_told c.args.graph.now c.args.position c.count-events.result (run_ops rest.result) c.count-events.ensures rest.ensures.some rest.ensures.within rest.ensures.chain rest.ensures.changes
-
-pub apply_run-requires-clause-apart : goal.apply_run-requires-clause-apart
-apply_run-requires-clause-apart g c =
-    let rest = c.rest_near-run in
-    no_cuts c.args.graph.now c.count-count.ensures.admitted c.args.position (c.args.position + length (run_ops rest.result) - 1) rest.ensures.chain (omega (arith, rest.ensures.some, rest.ensures.within)) c.count-events.result
-    (omega (arith, rest.ensures.some, c.count-events.ensures)) (c.in_ok-len.ensures.apart c.in-None.is)
+    let rest = c.rest_near-changes in
+    record {
+      events = run_told c.args.graph.now c.args.position c.count.result (run_ops rest.result) c.count.ensures rest.ensures.some rest.ensures.within rest.ensures.chain rest.ensures.changes;
+      fits = rest.ensures.fit;
+      apart = no_cuts c.args.graph.now c.count-count.ensures.admitted c.args.position (c.args.position + length (run_ops rest.result) - 1) rest.ensures.chain (omega (arith, rest.ensures.some, rest.ensures.within)) c.count.result
+          (omega (arith, rest.ensures.some, c.count.ensures)) (c.in_ok-len.ensures.apart c.in-None.is);
+    }
 
 pub apply_run-requires-clause-ready : goal.apply_run-requires-clause-ready
 apply_run-requires-clause-ready g c = subst (λ at. ReadyAt c.args.graph.now c.args.position at c.reach.new.state) c.in-None.is (c.in_ok-len.ensures.ready c.requires.walked.0 c.requires.walked.2)
@@ -43,17 +42,17 @@ returns-in-Some-clause-turned g c = λ from low walked.
     let now = c.args.graph.now in
     let position = c.args.position in
     let line = c.pass_cut.new.line in let state = c.pass_cut.new.state in
-    let all : position + c.count-events.result ≤ length now = omega (arith, c.rest_near-run.ensures.within, c.count-events.ensures) in
-    known_ok (TurnsTo now from position (position + c.count-events.result) line state) c.pass_cut.result (TurnsTo now from position (length now) line state)
-    (λ turns t. turns_wider now from position (position + c.count-events.result) (length now) line state turns all t) (c.pass_cut.ensures.turned from low)
+    let all : position + c.count.result ≤ length now = omega (arith, c.rest_near-changes.ensures.within, c.count.ensures) in
+    known_ok (TurnsTo now from position (position + c.count.result) line state) c.pass_cut.result (TurnsTo now from position (length now) line state)
+    (λ turns t. turns_wider now from position (position + c.count.result) (length now) line state turns all t) (c.pass_cut.ensures.turned from low)
 
 pub returns-in-Some-clause-steps : goal.returns-in-Some-clause-steps
 returns-in-Some-clause-steps g c = λ from low walked.
     let now = c.args.graph.now in
     let position = c.args.position in
-    let events = c.count-events.result in
-    let rest = c.rest_near-run in
-    let run = run_told now position events (run_ops rest.result) c.count-events.ensures rest.ensures.some rest.ensures.within rest.ensures.chain rest.ensures.changes in
+    let events = c.count.result in
+    let rest = c.rest_near-changes in
+    let run = run_told now position events (run_ops rest.result) c.count.ensures rest.ensures.some rest.ensures.within rest.ensures.chain rest.ensures.changes in
     let line = c.pass_cut.new.line in let state = c.pass_cut.new.state in
     both_ok (TurnsTo now from position (position + events) line state) (λ t. c.pass_cut.new.steps + position ≡ c.reach.new.steps + judged_to t)
     (λ t. c.pass_cut.new.steps + touches (take position now) from ≡ c.args.steps.now + touches (take (judged_to t) now) from) c.pass_cut.result
@@ -64,9 +63,9 @@ returns-in-Some-clause-steps g c = λ from low walked.
 pub returns-in-Some-clause-most : goal.returns-in-Some-clause-most
 returns-in-Some-clause-most g c = λ from low walked.
     let now = c.args.graph.now in
-    let rest = c.rest_near-run in
-    let run = run_told now c.args.position c.count-events.result (run_ops rest.result) c.count-events.ensures rest.ensures.some rest.ensures.within rest.ensures.chain rest.ensures.changes in
-    most_cost now c.count-count.ensures.admitted from c.args.position c.count-events.result (run_ops rest.result) run low c.args.steps.now c.reach.new.steps c.pass_cut.new.steps (c.in_ok-len.ensures.steps from low walked) c.pass_cut.ensures.most
+    let rest = c.rest_near-changes in
+    let run = run_told now c.args.position c.count.result (run_ops rest.result) c.count.ensures rest.ensures.some rest.ensures.within rest.ensures.chain rest.ensures.changes in
+    most_cost now c.count-count.ensures.admitted from c.args.position c.count.result (run_ops rest.result) run low c.args.steps.now c.reach.new.steps c.pass_cut.new.steps (c.in_ok-len.ensures.steps from low walked) c.pass_cut.ensures.most
 
 pub returns-in-None-clause-turned : goal.returns-in-None-clause-turned
 returns-in-None-clause-turned g c = λ from low walked.
@@ -74,18 +73,18 @@ returns-in-None-clause-turned g c = λ from low walked.
     let position = c.args.position in
     let state = c.apply_run.new.state in
     let none : c.args.line.now ≡ None = c.in_ok-len.ensures.line c.in-None.is in
-    let all : position + c.count-events.result ≤ length now = omega (arith, c.rest_near-run.ensures.within, c.count-events.ensures) in
+    let all : position + c.count.result ≤ length now = omega (arith, c.rest_near-changes.ensures.within, c.count.ensures) in
     subst (λ line. IfOk c.apply_run.result (TurnsTo now from position (length now) line state)) (sym none)
-    (known_ok (TurnsTo now from position (position + c.count-events.result) None state) c.apply_run.result (TurnsTo now from position (length now) None state)
-    (λ turns t. turns_wider now from position (position + c.count-events.result) (length now) None state turns all t) (c.apply_run.ensures.turned from low))
+    (known_ok (TurnsTo now from position (position + c.count.result) None state) c.apply_run.result (TurnsTo now from position (length now) None state)
+    (λ turns t. turns_wider now from position (position + c.count.result) (length now) None state turns all t) (c.apply_run.ensures.turned from low))
 
 pub returns-in-None-clause-steps : goal.returns-in-None-clause-steps
 returns-in-None-clause-steps g c = λ from low walked.
     let now = c.args.graph.now in
     let position = c.args.position in
-    let events = c.count-events.result in
-    let rest = c.rest_near-run in
-    let run = run_told now position events (run_ops rest.result) c.count-events.ensures rest.ensures.some rest.ensures.within rest.ensures.chain rest.ensures.changes in
+    let events = c.count.result in
+    let rest = c.rest_near-changes in
+    let run = run_told now position events (run_ops rest.result) c.count.ensures rest.ensures.some rest.ensures.within rest.ensures.chain rest.ensures.changes in
     let state = c.apply_run.new.state in
     both_ok (TurnsTo now from position (position + events) None state) (λ t. c.apply_run.new.steps + position ≡ c.reach.new.steps + judged_to t)
     (λ t. c.apply_run.new.steps + touches (take position now) from ≡ c.args.steps.now + touches (take (judged_to t) now) from) c.apply_run.result
@@ -96,6 +95,6 @@ returns-in-None-clause-steps g c = λ from low walked.
 pub returns-in-None-clause-most : goal.returns-in-None-clause-most
 returns-in-None-clause-most g c = λ from low walked.
     let now = c.args.graph.now in
-    let rest = c.rest_near-run in
-    let run = run_told now c.args.position c.count-events.result (run_ops rest.result) c.count-events.ensures rest.ensures.some rest.ensures.within rest.ensures.chain rest.ensures.changes in
-    most_cost now c.count-count.ensures.admitted from c.args.position c.count-events.result (run_ops rest.result) run low c.args.steps.now c.reach.new.steps c.apply_run.new.steps (c.in_ok-len.ensures.steps from low walked) c.apply_run.ensures.most
+    let rest = c.rest_near-changes in
+    let run = run_told now c.args.position c.count.result (run_ops rest.result) c.count.ensures rest.ensures.some rest.ensures.within rest.ensures.chain rest.ensures.changes in
+    most_cost now c.count-count.ensures.admitted from c.args.position c.count.result (run_ops rest.result) run low c.args.steps.now c.reach.new.steps c.apply_run.new.steps (c.in_ok-len.ensures.steps from low walked) c.apply_run.ensures.most

@@ -1,6 +1,5 @@
-use Rattle.std.proofs.Common.{◌≡◌, ℕ, ◌+◌, ◌<◌, ◌≤◌, List, None, length, sym, ap, ◌∙◌, subst, arith}
+use Rattle.std.proofs.Common.{◌≡◌, ◌+◌, ◌≤◌, None, length, sym, ap, ◌∙◌, subst, arith}
 use Rattle.std.specs.List.{AllByRecursion}
-use Rattle.ew_model.specs.Tree.{Applied}
 use Rattle.character_runs.specs.Deleting.{deletion_op, AreDeletions}
 use Rattle.character_runs.specs.States.{HasRoom}
 use Rattle.advance_retreat.specs.Deleting.{DeletedEach}
@@ -28,7 +27,7 @@ strike_run-requires-clause-new c = λ k lt.
     subst (λ (s : Kept). target_at s.targets (c.args.lv + k) ≡ None) (sym c.self.view_is) (new_target c.args.self.now q.0 q.1 q.2 q.3 (c.args.lv + k) (q.4 k (omega (arith, lt, less))))
 
 pub returns-then-done-clause-deleted : goal.returns-then-done-clause-deleted
-returns-then-done-clause-deleted c = λ b events prepared st may.
+returns-then-done-clause-deleted c =
     let now = c.args.self.now in
     let ds = c.in-Some.deletions in
     let are : AreDeletions now.records c.args.at ds = subst (λ (s : Kept). AreDeletions s.records c.args.at ds) c.self.view_is c.in-Some.ensures.some in

@@ -1,4 +1,4 @@
-use Rattle.std.proofs.Common.{◌≡◌, ◌+◌, List, [], ◌++◌, refl, sym, subst, arith}
+use Rattle.std.proofs.Common.{◌≡◌, List, [], ◌++◌, refl, sym, subst, arith}
 use Rattle.ew_model.specs.declared.id.Id.{Id}
 use Rattle.fugue_place.specs.Attachments.{AreAttached}
 use Rattle.fugue_place.specs.Heirs.{AreNew}

@@ -1,5 +1,4 @@
 use Rattle.std.proofs.Common.{◌≡◌, List, ◌++◌, sym, ap, ◌∙◌, subst}
-use Rattle.walker_record.specs.Stretches.{Stretch}
 use Rattle.character_runs.specs.Deleting.{struck_each}
 use Rattle.advance_retreat.specs.declared.target.Target.{Target}
 use Rattle.advance_retreat.specs.Kept.{Kept, with_deletions, deletion_targets}
