@@ -15,13 +15,17 @@ use Rattle.ew_model.proofs.SubgraphLaws.{one_event}
 use Rattle.event_graph.specs.Keeping.{IsAdmitted}
 use Rattle.event_graph.proofs.Admitted.{laid}
 use Rattle.event_graph.proofs.Places.{event_among, found_event}
-use Rattle.agreement.specs.Sharing.{Fits, IsShared}
+use Rattle.agreement.specs.Sharing.{AreSharedTo, Fits, FitTo, IsShared}
 use Rattle.agreement.proofs.Found.{found_held}
 use Rattle.agreement.proofs.Shared.{place_among, same_made}
 
--- an event that is shared fits
-pub fitting : (one : List Event) (p : ℕ) (other : List Event) → IsShared one p other → Fits one p other
+-- events that are shared fit
+fitting : (one : List Event) (p : ℕ) (other : List Event) → IsShared one p other → Fits one p other
 fitting one p other shared e at known = shared e at
+
+-- and so do all of them up to a position
+pub all_fitting : (one : List Event) (from to : ℕ) (other : List Event) → AreSharedTo one from to other → FitTo one from to other
+all_fitting one from to other shared = (shared.0, shared.1, (λ p low high. fitting one p other (shared.2 p low high)))
 
 -- where the id is found, it is shared where it fits
 pub shared_where_found : (one other : List Event) (p q : ℕ) (x : Id) → p < length one → slice_get (ids_of one) p ≡ Some x → position (id_eq x) (ids_of other) ≡ Some q → Fits one p other → IsShared one p other

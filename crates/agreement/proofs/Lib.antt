@@ -1,6 +1,9 @@
+pub mod Answered
 pub mod Apart
 pub mod Consistent
 pub mod Found
+pub mod GoingOn
 pub mod OnlyParents
 pub mod ParentIds
+pub mod SameEdits
 pub mod Shared

@@ -1,6 +1,6 @@
 //! The events of one graph, looked up in another. Nothing here takes memory.
 
-ghost use Rattle.std.specs.Prelude.{◌≡◌, ◌↔◌, ◌<◌, ◌++◌, IsTrue, Some, length, position, slice_get};
+ghost use Rattle.std.specs.Prelude.{◌≡◌, ◌↔◌, ◌<◌, ◌++◌, IfNone, IfSome, IsTrue, Some, length, position, slice_get};
 ghost use Rattle.std.specs.List.{All};
 ghost use Rattle.ew_model.specs.declared.event.Event.{Event};
 ghost use Rattle.ew_model.specs.declared.id.Id.{Id};
@@ -10,27 +10,12 @@ ghost use Rattle.ew_model.specs.Cuts.{are_among};
 ghost use Rattle.ew_model.specs.Ids.{id_eq, is_among};
 ghost use Rattle.ew_model.specs.Sets.{Among, SameElements};
 ghost use Rattle.event_graph.specs.Keeping.{IsAdmitted, id_of};
-ghost use Rattle.agreement.specs.Sharing.{Fits, HaveSameParents, IsShared, ids_at};
+ghost use Rattle.agreement.specs.Sharing.{AreSharedTo, Fits, FitTo, HaveSameParents, IsShared, ids_at};
 
-use event_graph::{Graph, Near};
+use crate::alike::going_on_alike;
+use crate::nears::Nears;
+use event_graph::Graph;
 use frontier::Parentage;
-
-/// Where the events of the one graph and of the other were found last: the next ones are sought there first.
-#[derive(Clone, Copy)]
-struct Nears {
-    ours: Near,
-    theirs: Near,
-}
-
-impl Nears {
-    /// At the beginning of both graphs.
-    fn start() -> Nears {
-        Nears {
-            ours: Near::start(),
-            theirs: Near::start(),
-        }
-    }
-}
 
 /// Whether the two graphs hold equal sets of events, in whatever order these came.
 pub fn agrees(a: &Graph, b: &Graph) -> bool
@@ -45,9 +30,11 @@ fn holds_all(b: &Graph, a: &Graph) -> bool
     ensures { IsTrue result ↔ ((e : Event) → Among e a.now → Among e b.now) }
 {
     let mut nears = Nears::start();
-    for position in 0..a.count() {
-        if !is_shared(a, position, b, &mut nears) {
-            return false;
+    let mut position = 0;
+    while position < a.count() {
+        match shared_to(a, position, b, &mut nears) {
+            Some(next) => position = next,
+            None => return false,
         }
     }
     true
@@ -57,39 +44,64 @@ fn holds_all(b: &Graph, a: &Graph) -> bool
 pub fn are_consistent(a: &Graph, b: &Graph) -> bool
     ensures { IsTrue result ↔ OneEach (a.now ++ b.now) }
 {
+    // Asked for what its clauses tell: the events of a graph are sound, and fewer than 2^32.
     let _count = b.count();
     let mut nears = Nears::start();
-    for position in 0..a.count() {
-        if !fits(a, position, b, &mut nears) {
-            return false;
+    let mut position = 0;
+    while position < a.count() {
+        match fitting_to(a, position, b, &mut nears) {
+            Some(next) => position = next,
+            None => return false,
         }
     }
     true
 }
 
-/// Whether the event of `a` at a position is among those of `b`.
-fn is_shared(a: &Graph, position: u32, b: &Graph, nears: &mut Nears) -> bool
+/// The position of `a` up to which the events from this one on are seen at once to be among those of `b`. None where the first isn't.
+fn shared_to(a: &Graph, position: u32, b: &Graph, nears: &mut Nears) -> Option<u32>
     requires within { position < length a.now }
     requires admitted_a { IsAdmitted a.now }
     requires admitted_b { IsAdmitted b.now }
-    ensures { IsTrue result ↔ IsShared a.now position b.now }
+    ensures some { IfSome result (λ next. AreSharedTo a.now position next b.now) }
+    ensures none { IfNone result (IsShared a.now position b.now → ⊥) }
 {
-    let Some(other) = b.find(&a.id_near(position, &mut nears.ours)) else {
-        return false;
-    };
-    is_same(a, position, b, other, nears)
+    let other = b.find(&a.id_near(position, &mut nears.ours))?;
+    same_to(a, position, b, other, nears)
 }
 
-/// Whether the event of `a` at a position is among those of `b`, where `b` holds its id.
-fn fits(a: &Graph, position: u32, b: &Graph, nears: &mut Nears) -> bool
+/// The position of `a` up to which the events from this one on are seen at once to be among those of `b`, where `b` holds their ids.
+/// None where the first isn't.
+fn fitting_to(a: &Graph, position: u32, b: &Graph, nears: &mut Nears) -> Option<u32>
     requires within { position < length a.now }
     requires admitted_a { IsAdmitted a.now }
     requires admitted_b { IsAdmitted b.now }
-    ensures { IsTrue result ↔ Fits a.now position b.now }
+    ensures some { IfSome result (λ next. FitTo a.now position next b.now) }
+    ensures none { IfNone result (Fits a.now position b.now → ⊥) }
 {
+    // Asked for what its clauses tell: the events of a graph are sound, and fewer than 2^32.
+    let _count = a.count();
     match b.find(&a.id_near(position, &mut nears.ours)) {
-        Some(other) => is_same(a, position, b, other, nears),
-        None => true,
+        Some(other) => same_to(a, position, b, other, nears),
+        None => Some(position + 1),
+    }
+}
+
+/// The position of `a` up to which the events from the one on are seen at once to be among those of `b`, where the id of the first
+/// stands at the other position. None where the first isn't.
+fn same_to(a: &Graph, one: u32, b: &Graph, other: u32, nears: &mut Nears) -> Option<u32>
+    requires within_a { one < length a.now }
+    requires within_b { other < length b.now }
+    requires admitted_a { IsAdmitted a.now }
+    requires admitted_b { IsAdmitted b.now }
+    requires found { (x : Id) → slice_get (ids_of a.now) one ≡ Some x → position (id_eq x) (ids_of b.now) ≡ Some other }
+    ensures some { IfSome result (λ next. AreSharedTo a.now one next b.now) }
+    ensures none { IfNone result (IsShared a.now one b.now → ⊥) }
+{
+    // Asked for what its clauses tell: the events of a graph are sound, and fewer than 2^32.
+    let _count = a.count();
+    match going_on_alike(a, one, b, other, nears) {
+        Some(count) => have_same_parents(a, one, b, other, nears).then_some(one + count),
+        None => is_same(a, one, b, other, nears).then_some(one + 1),
     }
 }
 
