@@ -24,6 +24,7 @@ pub mod MarkOrder
 pub mod MarkParents
 pub mod NotOut
 pub mod OfferedPlaces
+pub mod OfferedRuns
 pub mod PastTexts
 pub mod Received
 pub mod ReceivedCounts

@@ -1,13 +1,14 @@
 -- The events at some positions of a graph, one at a place.
-use Rattle.std.proofs.Common.{◌≡◌, ◌∙◌, ℕ, zero, suc, ◌<◌, ◌++◌, true, false, nat_lt, get_or, List, [], ◌∷◌, length, slice_get, Option, Some, None, refl, sym, ap, arith, All}
+use Rattle.std.proofs.Common.{◌≡◌, ◌∙◌, ℕ, zero, suc, ◌+◌, ◌<◌, ◌≤◌, ◌++◌, true, false, nat_lt, get_or, List, [], ◌∷◌, drop, length, slice_get, Option, Some, None, refl, sym, ap, arith, All}
 use Rattle.std.specs.List.{AllByRecursion, ItemBy}
 use Rattle.std.specs.Option.{option_to_list}
 use Rattle.std.proofs.lemmas.Bool.{lt-ltb, ltb-false}
 use Rattle.std.proofs.lemmas.List.{get_or_past, get_or_read}
 use Rattle.std.proofs.lemmas.List.Elements.{recursion_from_All}
-use Rattle.std.proofs.lemmas.Option.{get_or_from_slice_get, slice_get_read}
+use Rattle.std.proofs.lemmas.Option.{get_or_from_slice_get, slice_get_read, slice_get_within}
 use Rattle.ew_model.specs.declared.event.Event.{Event}
 use Rattle.event_graph.specs.Subgraphs.{events_at}
+use Rattle.replica.specs.Offering.{StandAt}
 
 -- an event stands at each position within
 stands : (history : List Event) (p : ℕ) → p < length history → (e : Event) × (slice_get history p ≡ Some e)
@@ -68,3 +69,18 @@ event_there now history positions place p r within inside less read here =
     let many = as_many_events history positions within in
     one_inside now (events_at history positions) place r (inside ∙ ap (nat_lt place) (sym many)) (omega (arith, less, many))
     (sym (get_or_from_slice_get (events_at history positions) place (now r) (now r) (placed_there history positions place p (now r) within less read here)))
+
+-- what stands behind a place
+behind_place : (place k : ℕ) (xs : List ℕ) → slice_get (drop place xs) k ≡ slice_get xs (place + k)
+behind_place zero k xs = let on : k ≡ zero + k = omega arith in ap (slice_get xs) on
+behind_place (suc place) k [] = refl
+behind_place (suc place) k (x ∷ xs) = let on : suc (place + k) ≡ suc place + k = omega arith in behind_place place k xs ∙ ap (slice_get (x ∷ xs)) on
+
+-- the events at neighbouring positions stand as in the history
+pub run_there : (history : List Event) (positions : List ℕ) (place first count : ℕ) (events : List Event) → All (λ q. q < length history) positions
+    → ((k : ℕ) → k < count → slice_get (drop place positions) k ≡ Some (first + k)) → length events ≤ count → StandAt history first events → StandAt (events_at history positions) place events
+run_there history positions place first count events within neighbours few stand k e is =
+    let low = slice_get_within events k e is in
+    same_place history positions (place + k) (first + k) e (recursion_from_All (λ q. q < length history) positions within)
+    (sym (behind_place place k positions) ∙ neighbours k (omega (arith, low, few)))
+    (stand k e is)

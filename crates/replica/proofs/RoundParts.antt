@@ -1,5 +1,5 @@
 -- The parts of a round, known by other names.
-use Rattle.std.proofs.Common.{◌≡◌, ℕ, Bool, false, List, take, length, Option, Some, None, Result, Ok, Err, OnErr, OnOk, is_some, refl, sym, ap, ◌∙◌, subst}
+use Rattle.std.proofs.Common.{◌≡◌, ℕ, Bool, false, List, take, length, Option, Some, None, Result, Ok, Err, OnErr, OnOk, IfSome, is_some, refl, sym, ap, ◌∙◌, subst}
 use Rattle.std.proofs.Math.Seq.{take-append_seam}
 use Rattle.std.proofs.lemmas.Bool.{false≢true}
 use Rattle.ew_model.specs.declared.event.Event.{Event}
@@ -33,6 +33,11 @@ on_ok (Err e) p = tt
 pub on_err : {T E P : Type 0} (r : Result T E) → P → OnErr r P
 on_err (Ok x) p = tt
 on_err (Err e) p = p
+
+-- what follows from two conditions on what is there
+pub if_both : {A : Type 0} (o : Option A) (P Q R : A → Type 0) → ((x : A) → P x → Q x → R x) → IfSome o P → IfSome o Q → IfSome o R
+if_both None P Q R both p q = tt
+if_both (Some x) P Q R both p q = both x p q
 
 -- an option that isn't Some is None
 pub none_by : (o : Option (ℕ × ℕ)) → is_some o ≡ false → o ≡ None

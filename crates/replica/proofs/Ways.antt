@@ -1,5 +1,5 @@
 -- Judgements one after another.
-use Rattle.std.proofs.Common.{◌≡◌, ℕ, ◌+◌, ◌<◌, ◌==◌, ◌&&◌, Bool, true, false, cond, List, [], ◌∷◌, ◌++◌, length, Option, Some, None, option_map, refl, sym, ap, ◌∙◌, subst, arith, append-nil, append_assoc}
+use Rattle.std.proofs.Common.{◌≡◌, ℕ, ◌+◌, ◌≤◌, ◌<◌, ◌==◌, ◌&&◌, Bool, true, false, cond, List, [], ◌∷◌, ◌++◌, length, Option, Some, None, option_map, refl, sym, ap, ◌∙◌, subst, arith, append-nil, append_assoc}
 use Rattle.std.proofs.lemmas.Grind.{flat_map-append}
 use Rattle.std.proofs.lemmas.List.Sums.{sum_by-append}
 use Rattle.ew_model.specs.declared.event.Event.{Event}
@@ -12,7 +12,7 @@ use Rattle.ew_model.proofs.ArrivalLaws.{next_less}
 use Rattle.ew_model.proofs.RoundSteps.{grown_next}
 use Rattle.replica.specs.declared.answer.Answer as program
 use Rattle.replica.specs.Counting.{Counted}
-use Rattle.replica.specs.Desks.{Counts, Judges, Leads, LeadsToEnd, LeadsToStop, answer_by, is_stop, next_known, with_known}
+use Rattle.replica.specs.Desks.{Counts, Judges, Leads, LeadsOn, LeadsToEnd, LeadsToStop, answer_by, is_stop, next_known, with_known}
 use Rattle.replica.specs.Desks.Leads.{Here, Further}
 use Rattle.replica.specs.Fronts.{IsFront}
 use Rattle.history_definitions.specs.Tallies.{is_repeat, refused_by, refused_in, repeats_in}
@@ -32,14 +32,23 @@ counts_joined xs ys a b c h k = record {
       ∙ ap (λ l. a.refused ++ l) (sym (flat_map-append refused_by xs ys));
 }
 
--- so far
-pub record Comes (limits : LimitNumbers) (out : Option (ℕ × ℕ)) (from to : Desk) (before after : Counted) : Type 0 where
-  pub answers : List Answer
-  pub way : Leads limits out from answers to
-  pub counted : Counts answers before after
-
-pub begun : (limits : LimitNumbers) (out : Option (ℕ × ℕ)) (d : Desk) (c : Counted) → Comes limits out d d c c
+-- no judgement leads on from a desk to itself
+pub begun : (limits : LimitNumbers) (out : Option (ℕ × ℕ)) (d : Desk) (c : Counted) → LeadsOn limits out d d c c
 begun limits out d c = record { answers = []; way = Here; counted = counts_none c }
+
+-- judgements one after another, and others behind them
+way_joined : (limits : LimitNumbers) (out : Option (ℕ × ℕ)) (from mid to : Desk) (xs ys : List Answer) → Leads limits out from xs mid → Leads limits out mid ys to → Leads limits out from (xs ++ ys) to
+way_joined limits out from mid to xs ys first (Here) = subst (λ (zs : List Answer). Leads limits out from zs mid) (sym (append-nil xs)) first
+way_joined limits out from mid to xs ys first (Further before d j way next still) =
+    subst (λ (zs : List Answer). Leads limits out from zs j.desk) (append_assoc xs before (j.answer ∷ []))
+    (Further (xs ++ before) d j (way_joined limits out from mid d xs before first way) next still)
+
+pub leads_joined : (limits : LimitNumbers) (out : Option (ℕ × ℕ)) (from mid to : Desk) (a b c : Counted) → LeadsOn limits out from mid a b → LeadsOn limits out mid to b c → LeadsOn limits out from to a c
+leads_joined limits out from mid to a b c h k = record {
+  answers = h.answers ++ k.answers;
+  way = way_joined limits out from mid to h.answers k.answers h.way k.way;
+  counted = counts_joined h.answers k.answers a b c h.counted k.counted;
+}
 
 stop_is : (r : Ruling) → is_stop (answer_by r) ≡ is_out_of_range r
 stop_is Good = refl
@@ -55,8 +64,8 @@ stop_is Skipped = refl
 stop_is GraphFull = refl
 stop_is (OutOfRange len) = refl
 
-pub goes_on : (limits : LimitNumbers) (out : Option (ℕ × ℕ)) (from d new : Desk) (before mid after : Counted) (a : program.Answer) → Comes limits out from d before mid → Judges limits out d new mid after (Some a) → is_stop a ≡ false
-    → Comes limits out from new before after
+pub goes_on : (limits : LimitNumbers) (out : Option (ℕ × ℕ)) (from d new : Desk) (before mid after : Counted) (a : program.Answer) → LeadsOn limits out from d before mid → Judges limits out d new mid after (Some a) → is_stop a ≡ false
+    → LeadsOn limits out from new before after
 goes_on limits out from d new before mid after a h j still =
     let told : is_out_of_range j.0.answer.ruling ≡ false = sym (stop_is j.0.answer.ruling) ∙ (ap is_stop (sym j.3) ∙ still) in
     let way : Leads limits out from (h.answers ++ j.0.answer ∷ []) j.0.desk = Further h.answers d j.0 h.way j.1 told in
@@ -66,7 +75,7 @@ goes_on limits out from d new before mid after a h j still =
       counted = counts_joined h.answers (j.0.answer ∷ []) before mid after h.counted j.4;
     }
 
-pub stops : (limits : LimitNumbers) (out : Option (ℕ × ℕ)) (from d new : Desk) (before mid after : Counted) (a : program.Answer) → Comes limits out from d before mid → Judges limits out d new mid after (Some a) → is_stop a ≡ true
+pub stops : (limits : LimitNumbers) (out : Option (ℕ × ℕ)) (from d new : Desk) (before mid after : Counted) (a : program.Answer) → LeadsOn limits out from d before mid → Judges limits out d new mid after (Some a) → is_stop a ≡ true
     → LeadsToStop limits out from new before after
 stops limits out from d new before mid after a h j stop = record {
   answers = h.answers;
@@ -79,7 +88,7 @@ stops limits out from d new before mid after a h j stop = record {
   counted = counts_joined h.answers (j.0.answer ∷ []) before mid after h.counted j.4;
 }
 
-pub ends : (limits : LimitNumbers) (out : Option (ℕ × ℕ)) (from d new : Desk) (before mid after : Counted) → Comes limits out from d before mid → Judges limits out d new mid after None → LeadsToEnd limits out from new before after
+pub ends : (limits : LimitNumbers) (out : Option (ℕ × ℕ)) (from d new : Desk) (before mid after : Counted) → LeadsOn limits out from d before mid → Judges limits out d new mid after None → LeadsToEnd limits out from new before after
 ends limits out from d new before mid after h j = record {
   answers = h.answers;
   way = subst (Leads limits out from h.answers) (sym j.1) h.way;
@@ -101,12 +110,26 @@ most_same (Some out) d i = at (is_verdict_good i.answer.ruling && (length d.held
     at true = refl
     at false = refl
 
-pub fewer_left : (limits : LimitNumbers) (out : Option (ℕ × ℕ)) (d new : Desk) (before after : Counted) (a : program.Answer) → Judges limits out d new before after (Some a) → most_judgements new < most_judgements d
-fewer_left limits out d new before after a j =
-    let k = known_from out d (next_judgement limits false d) j.0 j.1 in
+-- each leaves fewer to be made
+known_less : (limits : LimitNumbers) (out : Option (ℕ × ℕ)) (d : Desk) (j : Judgement) → next_known limits out d ≡ Some j → most_judgements j.desk < most_judgements d
+known_less limits out d j next =
+    let k = known_from out d (next_judgement limits false d) j next in
     let less = next_less limits false d k.0 k.1 in
-    let same : most_judgements new ≡ most_judgements k.0.desk = ap most_judgements j.2 ∙ (ap (λ (i : Judgement). most_judgements i.desk) (sym k.2) ∙ most_same out d k.0) in
+    let same : most_judgements j.desk ≡ most_judgements k.0.desk = ap (λ (i : Judgement). most_judgements i.desk) (sym k.2) ∙ most_same out d k.0 in
     omega (arith, less, same)
+
+none_more : (limits : LimitNumbers) (out : Option (ℕ × ℕ)) (from to : Desk) (answers : List Answer) → Leads limits out from answers to → most_judgements to ≤ most_judgements from
+none_more limits out from to answers (Here) = omega arith
+none_more limits out from to answers (Further before d j way next still) =
+    let fewer = known_less limits out d j next in
+    let few = none_more limits out from d before way in
+    omega (arith, fewer, few)
+
+pub fewer_left : (limits : LimitNumbers) (out : Option (ℕ × ℕ)) (d new then : Desk) (before mid after : Counted) (a : program.Answer) → Judges limits out d new before mid (Some a) → LeadsOn limits out new then mid after → most_judgements then < most_judgements d
+fewer_left limits out d new then before mid after a j on =
+    let less : most_judgements new < most_judgements d = subst (λ (x : Desk). most_judgements x < most_judgements d) (sym j.2) (known_less limits out d j.0 j.1) in
+    let few = none_more limits out new then on.answers on.way in
+    omega (arith, less, few)
 
 -- what is held only grows
 front_same : (out : Option (ℕ × ℕ)) (d : Desk) (i : Judgement) → IsFront d.held i.desk.held → IsFront d.held (with_known out d i).desk.held
@@ -132,3 +155,10 @@ front_on xs ys zs g h = (g.0 ++ h.0, h.1 ∙ (ap (λ w. w ++ h.0) g.1 ∙ append
 
 pub front_self : (xs : List Event) → IsFront xs xs
 front_self xs = ([], sym (append-nil xs))
+
+way_front : (limits : LimitNumbers) (out : Option (ℕ × ℕ)) (from to : Desk) (answers : List Answer) → Leads limits out from answers to → IsFront from.held to.held
+way_front limits out from to answers (Here) = front_self from.held
+way_front limits out from to answers (Further before d j way next still) = front_on from.held d.held j.desk.held (way_front limits out from d before way) (known_front limits out d j next)
+
+pub leads_front : (limits : LimitNumbers) (out : Option (ℕ × ℕ)) (from to : Desk) (before after : Counted) → LeadsOn limits out from to before after → IsFront from.held to.held
+leads_front limits out from to before after on = way_front limits out from to on.answers on.way

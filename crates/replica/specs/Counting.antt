@@ -11,9 +11,9 @@ pub record Counted : Type 0 where
   pub repeats : ℕ
   pub refused : List (Id × Refusal)
 
--- the next received event is judged
-abbrev pub one_judged : Counted → Counted
-one_judged c = record { judged = c.judged + 1; settling = true; repeats = c.repeats; refused = c.refused }
+-- so many more of the received events are judged; if any wait that are ready, they come next
+abbrev pub more_judged : Counted → ℕ → Counted
+more_judged c n = record { judged = c.judged + n; settling = true; repeats = c.repeats; refused = c.refused }
 
 -- so many more were there before, and these were refused
 abbrev pub with_more : Counted → ℕ → List (Id × Refusal) → Counted

@@ -1,5 +1,5 @@
 -- Judging in the program: each received event, and each waiting one that is ready, without a look at its index.
-use Rattle.std.specs.Prelude.{◌≡◌, ℕ, ◌+◌, ◌≤◌, ◌<◌, ◌==◌, Bool, true, false, ◌&&◌, if◌then◌else◌, List, [], ◌∷◌, ◌++◌, drop, length, Option, Some, None, option_map, slice_get}
+use Rattle.std.specs.Prelude.{◌≡◌, ℕ, ◌+◌, ◌≤◌, ◌==◌, Bool, true, false, ◌&&◌, if◌then◌else◌, List, [], ◌∷◌, ◌++◌, drop, length, Option, Some, None, option_map}
 use Rattle.ew_model.specs.declared.id.Id.{Id}
 use Rattle.ew_model.specs.declared.event.Op.{Op}
 use Rattle.ew_model.specs.declared.event.Event.{Event}
@@ -16,7 +16,9 @@ use Rattle.replica.specs.declared.answer.Answer.{Answer}
 use Rattle.replica.specs.declared.answer.Answer.TheVariants as answer
 use Rattle.replica.specs.declared.desk.Desk.{Desk}
 use Rattle.replica.specs.Counting.{Counted}
-use Rattle.history_definitions.specs.Chains.{last_id, event_behind}
+use Rattle.replica.specs.Offering.{StandAt}
+use Rattle.event_graph.specs.GoingOn.{chain_behind}
+use Rattle.history_definitions.specs.Chains.{last_id}
 use Rattle.history_definitions.specs.Tallies.{repeats_in, refused_in}
 use Rattle.waiting_pool.specs.Waiting.{Waiting, events_of}
 use Rattle.waiting_pool.specs.Knowing.{IsBehind}
@@ -125,14 +127,14 @@ pub record IsDesk (limits : LimitNumbers) (held events : List Event) (pool : Wai
   pub few : length held ≤ limits.events
   pub begun : IsBegun events c
 
--- The next received event has this operation and goes on from the last one held, nothing waits, more may be held, and no event is
--- known to be out of range.
-pub record IsNextHeld (limits : LimitNumbers) (out : Option (ℕ × ℕ)) (held events : List Event) (d : Desk) (op : Op) : Type 0 where
+-- The next received events have these operations. The first goes on from the last one held, each further one from the one before it.
+-- Nothing waits, so many more may be held, and no event is known to be out of range.
+pub record AreNextHeld (limits : LimitNumbers) (out : Option (ℕ × ℕ)) (held events : List Event) (d : Desk) (ops : List Op) : Type 0 where
   pub last : Id
   pub held_last : last_id held ≡ Some last
-  pub there : slice_get events d.progress.judged ≡ Some (event_behind last op)
+  pub there : StandAt events d.progress.judged (chain_behind last ops)
   pub none_waits : events_of d.pool ≡ []
-  pub room : length held < limits.events
+  pub room : length held + length ops ≤ limits.events
   pub none_out : out ≡ None
 
 -- Such judgements lead from a desk to another, and none of them answers OutOfRange.
@@ -140,6 +142,12 @@ pub data Leads (limits : LimitNumbers) (out : Option (ℕ × ℕ)) (from : model
   Here : Leads limits out from [] from
   Further : (answers : List model.Answer) (d : model.Desk) (j : Judgement) → Leads limits out from answers d → next_known limits out d ≡ Some j → is_out_of_range j.answer.ruling ≡ false
       → Leads limits out from (answers ++ j.answer ∷ []) j.desk
+
+-- they lead from one desk to another, and were counted
+pub record LeadsOn (limits : LimitNumbers) (out : Option (ℕ × ℕ)) (from to : model.Desk) (before after : Counted) : Type 0 where
+  pub answers : List model.Answer
+  pub way : Leads limits out from answers to
+  pub counted : Counts answers before after
 
 -- they lead on to where none is left to make
 pub record LeadsToEnd (limits : LimitNumbers) (out : Option (ℕ × ℕ)) (from to : model.Desk) (before after : Counted) : Type 0 where

@@ -1,7 +1,7 @@
 //! Where events are received: those that wait, and what was counted.
 
 ghost use Rattle.std.specs.Prelude.{◌≡◌, ◌+◌, ◌<◌, ◌^◌, IfOk, OnOk, [], false};
-ghost use Rattle.replica.specs.Counting.{one_judged, with_more};
+ghost use Rattle.replica.specs.Counting.{more_judged, with_more};
 ghost use Rattle.replica.specs.Desks.{refused_at, repeats_at};
 ghost use Rattle.replica.specs.declared.answer.Answer.TheVariants as answers;
 
@@ -104,12 +104,13 @@ impl Progress {
         self.refused
     }
 
-    /// The next received event is judged.
-    pub fn go_on(&mut self)
-        requires { self.old.judged + 1 < 2 ^ 64 }
-        ensures { self.new ≡ one_judged self.old }
+    /// So many more of the received events are judged, at least one.
+    pub fn go_on(&mut self, count: u32)
+        requires some { 0 < count }
+        requires room { self.old.judged + count < 2 ^ 64 }
+        ensures { self.new ≡ more_judged self.old count }
     {
-        self.judged += 1;
+        self.judged += count as usize;
         self.settling = true;
     }
 

@@ -6,8 +6,9 @@ ghost use Rattle.ew_model.specs.Ancestors.{is_held};
 ghost use Rattle.ew_model.specs.Arrival.{is_ready};
 ghost use Rattle.ew_model.specs.Kept.{AreFresh};
 ghost use Rattle.ew_model.specs.Verdicts as model;
+ghost use Rattle.event_runs.specs.RunOps.{IndicesFit, ops_of};
 ghost use Rattle.replica.specs.Counting.{with_more};
-ghost use Rattle.replica.specs.Desks.{IsDesk, IsNextHeld, Judges, LeadsTo, answer_by, desk_as, held_by, is_stop, known_at, pooled, refused_at, repeats_at, waiting_by};
+ghost use Rattle.replica.specs.Desks.{AreNextHeld, IsDesk, Judges, LeadsOn, LeadsTo, answer_by, desk_as, held_by, is_stop, known_at, pooled, refused_at, repeats_at, waiting_by};
 ghost use Rattle.replica.specs.Fronts.{IsFront};
 ghost use Rattle.replica.specs.declared.answer.Answer.TheVariants as answers;
 ghost use Rattle.waiting_pool.specs.Knowing.{IsBehind};
@@ -17,8 +18,9 @@ use crate::answer::{Answer, rule, unless_known};
 use crate::desk::Desk;
 use crate::offered::Offered;
 use event_graph::{Graph, Near};
+use event_runs::RunOps;
 use ew_model::NoMem;
-use ew_model::event::{Event, Op};
+use ew_model::event::Event;
 use ew_model::limits::Limits;
 use ew_model::verdict::Refusal;
 use waiting_pool::{Pool, PutFault};
@@ -157,37 +159,61 @@ fn judge_received(
     ensures desk { OnOk result (IsDesk limits.now graph.new events.now desk.new.pool desk.new.progress) }
     ensures front { OnErr result (IsFront graph.old graph.new) }
 {
-    let _most = limits.events();
-    let _held = graph.count();
-    if let Some(op) = next_op(limits, out, graph, desk, events, near) {
-        graph.go_on(op)?;
-        desk.progress.go_on();
-        return Ok(Some(Answer::Held));
-    }
     let Some(e) = events.get(desk.progress.judged(), near)? else {
         return Ok(None);
     };
-    desk.progress.go_on();
+    desk.progress.go_on(1);
     Ok(Some(judge(limits, out, graph, desk, &e)?))
 }
 
-/// The operation of the next received event, where that event is held whatever its operation: it goes on from the last one held,
-/// nothing waits, there is room for it, and no event is known to be out of range.
-fn next_op(
+/// Holds some of the next received events at once, where they go on from the last one held and from one another, as far as one run of
+/// their graph tells: nothing waits, there is room for them, and no event is known to be out of range. So they are held whatever their
+/// operations. How many it holds, if any, no clause says.
+fn hold_run(
+    limits: &Limits,
+    out: Option<(u32, u32)>,
+    graph: &mut Graph,
+    desk: &mut Desk,
+    events: &Offered,
+    near: &mut Near,
+) -> Result<(), NoMem>
+    requires desk { IsDesk limits.now graph.old events.now desk.old.pool desk.old.progress }
+    requires few { length events.now < 2 ^ 32 }
+    ensures leads { OnOk result (LeadsOn limits.now out (desk_as graph.old events.now desk.old) (desk_as graph.new events.now desk.new) desk.old.progress desk.new.progress) }
+    ensures desk { OnOk result (IsDesk limits.now graph.new events.now desk.new.pool desk.new.progress) }
+    ensures same { OnErr result (graph.new ≡ graph.old) }
+    ensures kept { OnErr result (desk.new ≡ desk.old) }
+{
+    // Asked for what their clauses tell: a limit and a count are below 2^32.
+    let _most = limits.events();
+    let _held = graph.count();
+    if let Some(ops) = next_ops(limits, out, graph, desk, events, near) {
+        let count = ops.count();
+        graph.go_on_run(ops)?;
+        desk.progress.go_on(count);
+    }
+    Ok(())
+}
+
+/// The operations of those events. None where there are none.
+fn next_ops<'a>(
     limits: &Limits,
     out: Option<(u32, u32)>,
     graph: &Graph,
     desk: &Desk,
-    events: &Offered,
+    events: &Offered<'a>,
     near: &mut Near,
-) -> Option<Op>
-    ensures { IfSome result (IsNextHeld limits.now out graph.now events.now desk.now) }
+) -> Option<RunOps<'a>>
+    ensures fit { IfSome result IndicesFit }
+    ensures some { IfSome result (λ ops. 0 < length (ops_of ops)) }
+    ensures next { IfSome result (λ ops. AreNextHeld limits.now out graph.now events.now desk.now (ops_of ops)) }
 {
     if out.is_some() || desk.pool.len() > 0 || graph.count() >= limits.events() {
         return None;
     }
     let last = graph.last_id()?;
-    events.next_op(desk.progress.judged(), &last, near)
+    let room = limits.events() - graph.count();
+    events.next_ops(desk.progress.judged(), &last, room, near)
 }
 
 /// Makes judgements until none is left to make, or the event that is known to be out of range was answered. Answers whether it
@@ -206,10 +232,12 @@ pub fn judge_all(
     ensures front { IsFront graph.old graph.new }
 {
     let mut near = Near::start();
+    hold_run(limits, out, graph, desk, events, &mut near)?;
     while let Some(answer) = judge_next(limits, out, graph, desk, events, &mut near)? {
         if is_stop(answer) {
             return Ok(true);
         }
+        hold_run(limits, out, graph, desk, events, &mut near)?;
     }
     Ok(false)
 }

@@ -1,15 +1,21 @@
 //! The events that are received.
 
-ghost use Rattle.std.specs.Prelude.{◌≡◌, ◌<◌, length, slice_get, Some, IfOk, IfSome};
+ghost use Rattle.std.specs.Prelude.{◌≡◌, ◌↔◌, ℕ, ◌+◌, ◌<◌, ◌≤◌, ◌^◌, length, map, slice_get, Some, IfOk, IfSome, IsTrue};
 ghost use Rattle.std.specs.Cow.{cow_value};
 ghost use Rattle.std.specs.List.{All, ItemBy};
+ghost use Rattle.ew_model.specs.TextLaws.{own_change};
+ghost use Rattle.event_graph.specs.GoingOn.{chain_behind};
 ghost use Rattle.event_graph.specs.Subgraphs.{events_at};
-ghost use Rattle.history_definitions.specs.Chains.{event_behind};
+ghost use Rattle.event_runs.specs.RunOps.{IndicesFit, ops_of};
+ghost use Rattle.operation_runs.specs.Runs.{run_ops, RunFits};
+ghost use Rattle.replica.specs.Offering.{StandAt};
 
-use event_graph::{Graph, Near, is_next};
+use event_graph::{Graph, Near};
+use event_runs::RunOps;
 use ew_model::NoMem;
-use ew_model::event::{Event, Op};
+use ew_model::event::Event;
 use ew_model::id::Id;
+use operation_runs::OperationRun;
 use std::borrow::Cow;
 use std::marker::Model;
 
@@ -73,14 +79,27 @@ impl<'a> Offered<'a> {
         }
     }
 
-    /// The operation of the event at a place, where that event goes on from the one with this id: it is the next of its agent, and
-    /// has that event as its only parent. Only an event of a graph is known to.
-    pub fn next_op(&self, place: usize, last: &Id, near: &mut Near) -> Option<Op>
-        ensures { IfSome result (λ op. slice_get self.now place ≡ Some (event_behind last.now op)) }
+    /// The operations of some events from a place on, at most so many: the first goes on from the event with this id, each further one
+    /// from the one before it. Going on means to be the next of its agent, with the other event as its only parent. They are those of
+    /// one run of a graph. Of a list it is always None.
+    pub fn next_ops(
+        &self,
+        place: usize,
+        last: &Id,
+        most: u32,
+        near: &mut Near,
+    ) -> Option<RunOps<'a>>
+        requires { 0 < most }
+        ensures fit { IfSome result IndicesFit }
+        ensures some { IfSome result (λ ops. 0 < length (ops_of ops)) }
+        ensures few { IfSome result (λ ops. length (ops_of ops) ≤ most) }
+        ensures there { IfSome result (λ ops. StandAt self.now place (chain_behind last.now (ops_of ops))) }
     {
         match self.source {
             Source::Listed(_) => None,
-            Source::Held { graph, positions } => next_op_at(graph, positions, place, last, near),
+            Source::Held { graph, positions } => {
+                next_ops_at(graph, positions, place, last, most, near)
+            }
         }
     }
 }
@@ -110,34 +129,75 @@ fn held_at<'a>(
     Ok(Some(Cow::Owned(e)))
 }
 
-/// The operation of the event at a place among those at some positions of a graph, where that event goes on from the one with this
-/// id.
-fn next_op_at(
-    graph: &Graph,
+/// The same for the events at some positions of a graph: those of the run in which the event before the first one stands.
+fn next_ops_at<'a>(
+    graph: &'a Graph,
     positions: &[u32],
     place: usize,
     last: &Id,
+    most: u32,
     near: &mut Near,
-) -> Option<Op>
-    requires { All (λ p. p < length graph.now) positions.now }
-    ensures { IfSome result (λ op. slice_get (events_at graph.now positions.now) place ≡ Some (event_behind last.now op)) }
+) -> Option<RunOps<'a>>
+    requires within { All (λ p. p < length graph.now) positions.now }
+    requires some { 0 < most }
+    ensures fit { IfSome result IndicesFit }
+    ensures some { IfSome result (λ ops. 0 < length (ops_of ops)) }
+    ensures few { IfSome result (λ ops. length (ops_of ops) ≤ most) }
+    ensures there { IfSome result (λ ops. StandAt (events_at graph.now positions.now) place (chain_behind last.now (ops_of ops))) }
 {
-    let position = positions.get(place)?;
-    op_behind(graph, *position, last, near)
-}
-
-/// The operation of the event of a graph at a position, where that event goes on from the one with this id. Of a list it is always None.
-fn op_behind(graph: &Graph, position: u32, last: &Id, near: &mut Near) -> Option<Op>
-    requires { position < length graph.now }
-    ensures { IfSome result (λ op. slice_get graph.now position ≡ Some (event_behind last.now op)) }
-{
+    // Asked for what its clauses tell: the events of a graph are sound, and fewer than 2^32.
     let _count = graph.count();
-    if graph.chain_start_near(position, near) < position
-        && is_next(last, &graph.id_near(position, near))
-        && graph.id_near(position - 1, near).is(last)
-    {
-        Some(graph.op_near(position, near))
+    let before = positions.get(place)?.checked_sub(1)?;
+    if !graph.id_near(before, near).is(last) {
+        return None;
+    }
+    // Each further event of a run has the event before it as its only parent.
+    let run = graph.rest_near(before, near);
+    let next = graph.next_ids_near(before, near);
+    let most = most.min(next).min(run.count() - 1);
+    let count = neighbours(&positions[place..], before + 1, most);
+    if count > 0 {
+        text_ops(run.part(1, count + 1))
     } else {
         None
+    }
+}
+
+/// How many of these positions, from the first on, are a number and those that follow it, one after another; at most so many.
+fn neighbours(positions: &[u32], first: u32, most: u32) -> u32
+    requires { first + most ≤ 2 ^ 32 }
+    ensures few { result ≤ most }
+    ensures there { (k : ℕ) → k < result → slice_get positions.now k ≡ Some (first + k) }
+    ensures end { result < most → slice_get positions.now result ≡ Some (first + result) → ⊥ }
+{
+    for count in 0..most {
+        if !stands_at(positions, count as usize, first + count) {
+            return count;
+        }
+    }
+    most
+}
+
+/// Whether the position stands at a place among these.
+fn stands_at(positions: &[u32], place: usize, position: u32) -> bool
+    ensures { IsTrue result ↔ slice_get positions.now place ≡ Some position }
+{
+    match positions.get(place) {
+        Some(there) => *there == position,
+        None => false,
+    }
+}
+
+/// The operations of a run that change the text. Of marks it is None.
+fn text_ops<'a>(run: OperationRun<'a>) -> Option<RunOps<'a>>
+    requires { RunFits run }
+    ensures fit { IfSome result IndicesFit }
+    ensures changes { IfSome result (λ ops. map own_change (ops_of ops) ≡ run_ops run.entry) }
+{
+    match run {
+        OperationRun::Insertions { at, chars } => Some(RunOps::Insertions { at, text: chars }),
+        OperationRun::Deletions { at, count } => Some(RunOps::Deletions { at, count }),
+        OperationRun::BackDeletions { at, count } => Some(RunOps::BackDeletions { at, count }),
+        OperationRun::Nothings { count: _ } => None,
     }
 }

@@ -1,4 +1,4 @@
-use Rattle.std.proofs.Common.{◌≡◌, ◌∙◌, ◌+◌, false, [], Option, option_map, get_or, length, drop, nat_le, refl, sym, ap, subst, arith}
+use Rattle.std.proofs.Common.{◌≡◌, ◌∙◌, ◌+◌, false, [], Option, option_map, get_or, length, drop, nat_le, refl, sym, ap, subst}
 use Rattle.std.proofs.lemmas.List.{drop_all}
 use Rattle.std.specs.Cow.{cow_value}
 use Rattle.std.specs.List.{ItemBy}
@@ -6,17 +6,16 @@ use Rattle.std.specs.declared.borrow.Cow.{Cow}
 use Rattle.ew_model.specs.declared.event.Event.{Event}
 use Rattle.ew_model.specs.Verdicts.{verdict}
 use Rattle.waiting_pool.specs.Waiting.{events_of}
-use Rattle.replica.specs.Counting.{Counted, one_judged, with_more}
+use Rattle.replica.specs.Counting.{Counted, more_judged, with_more}
 use Rattle.replica.specs.Desks.{answer_by, desk_as, held_by, known_at, pooled, refused_at, repeats_at, waiting_by, with_known}
-use Rattle.replica.proofs.GoingOn.{holds_next, still_desk}
 use Rattle.replica.proofs.Steps.{judges, coming_next, coming_none, next_coming, same_desk}
 use Rattle.replica.proofs.judging.judge_received.Goals as goal
 
-pub returns-in_default-2-clause-judged : goal.returns-in_default-2-clause-judged
-returns-in_default-2-clause-judged c =
+pub returns-in_default-clause-judged : goal.returns-in_default-clause-judged
+returns-in_default-clause-judged c =
     let a = c.args in
     let d = desk_as a.graph.now a.events.now a.desk.now in
-    let past = subst (λ (o : Option (Cow Event)). ItemBy cow_value a.events.now c.judged.result c.judged.result o) c.in_default-2.is c.in_ok-e.ensures in
+    let past = subst (λ (o : Option (Cow Event)). ItemBy cow_value a.events.now c.judged.result c.judged.result o) c.in_default.is c.in_ok-e.ensures in
     let none : drop a.desk.now.progress.judged a.events.now ≡ [] =
     ap (λ n. drop n a.events.now) (sym c.judged.ensures) ∙ drop_all c.judged.result a.events.now past.3 in
     (ap (option_map (with_known a.out d)) (coming_none a.limits.now false d c.requires.none none), refl, refl)
@@ -33,32 +32,14 @@ returns-clause-judged c =
     let told = c.in_ok-judge.ensures in
     let d = desk_as held events a.desk.now in
     let v = verdict a.limits.now false held (events_of pool) e in
-    let there = subst (λ (o : Option (Cow Event)). ItemBy cow_value events c.judged.result c.judged.result o) c.in-Some-2.is c.in_ok-e.ensures in
+    let there = subst (λ (o : Option (Cow Event)). ItemBy cow_value events c.judged.result c.judged.result o) c.in-Some.is c.in_ok-e.ensures in
     let read = subst (λ (x : Event). x ≡ get_or events c.judged.result x) (sym c.deref.ensures) there.1 in
     let coming = next_coming events before.judged c.judged.result e c.judged.ensures there.3.0 read in
-    let after : c.judge.new.desk.progress ≡ with_more (one_judged before) (repeats_at given) (refused_at e.id given) =
-    told.progress ∙ ap (λ (k : Counted). with_more k (repeats_at given) (refused_at e.id given)) c.go_on-2.ensures in
+    let after : c.judge.new.desk.progress ≡ with_more (more_judged before 1) (repeats_at given) (refused_at e.id given) =
+    told.progress ∙ ap (λ (k : Counted). with_more k (repeats_at given) (refused_at e.id given)) c.go_on.ensures in
     judges a.limits.now a.out d (desk_as c.judge.new.graph events c.judge.new.desk) before c.judge.new.desk.progress (events_of pool) (drop (before.judged + 1) events) e v given
     (coming_next a.limits.now false d e (drop (before.judged + 1) events) c.requires.none coming)
     (told.answer ∙ ap (λ m. pooled (nat_le m (length (events_of pool))) (known_at a.out (length held) (answer_by v))) c.requires.desk.limit)
-    (same_desk c.judge.new.graph (held_by given e held) (events_of c.judge.new.desk.pool) (waiting_by given e (events_of pool)) events c.judge.new.desk.progress (with_more (one_judged before) (repeats_at given) (refused_at e.id given)) told.graph told.pool after)
+    (same_desk c.judge.new.graph (held_by given e held) (events_of c.judge.new.desk.pool) (waiting_by given e (events_of pool)) events c.judge.new.desk.progress (with_more (more_judged before 1) (repeats_at given) (refused_at e.id given)) told.graph told.pool after)
     (ap (λ (k : Counted). k.repeats) after)
     (ap (λ (k : Counted). k.refused) after)
-
-pub go_on-requires-clause-room : goal.go_on-requires-clause-room
-go_on-requires-clause-room c =
-    let next = c.in-Some.ensures in
-    let free = next.room in
-    let range = c.events-most.ensures.range in
-    let most = range.few_events in
-    omega (arith, free, most)
-
-pub returns-in-Some-clause-judged : goal.returns-in-Some-clause-judged
-returns-in-Some-clause-judged c =
-    let a = c.args in
-    holds_next a.limits.now a.out a.graph.now a.events.now a.desk.now c.in-Some.op c.in-Some.ensures c.go_on.new.self c.go_on-in-Some.new.self c.in_ok-go_on.ensures.ok c.go_on-in-Some.ensures c.count-held.ensures.admitted c.requires.none
-
-pub returns-in-Some-clause-desk : goal.returns-in-Some-clause-desk
-returns-in-Some-clause-desk c =
-    let a = c.args in
-    still_desk a.limits.now a.out a.graph.now a.events.now a.desk.now c.in-Some.op c.in-Some.ensures c.go_on.new.self c.go_on-in-Some.new.self c.in_ok-go_on.ensures.ok c.go_on-in-Some.ensures c.requires.desk
