@@ -1,18 +1,15 @@
 -- How long a batch is.
-use Rattle.std.proofs.Common.{◌≡◌, ℕ, ◌+◌, ◌-◌, ◌*◌, ◌≤◌, List, [], ◌∷◌, ◌++◌, length, flat_map, refl, arith}
+use Rattle.std.proofs.Common.{ℕ, ◌+◌, ◌-◌, ◌*◌, ◌≤◌, List, [], ◌∷◌, ◌++◌, length, flat_map, arith}
 use Rattle.std.specs.Prelude.{◌/◌}
 use Rattle.std.specs.List.{AllByRecursion}
 use Rattle.std.proofs.lemmas.List.{length-append}
 use Rattle.std.proofs.Math.Nat.{div-mul-le_self}
-use Rattle.ew_model.specs.declared.id.Id.{Id}
-use Rattle.ew_model.specs.declared.event.Op.{Op}
-use Rattle.ew_model.specs.declared.event.Op.TheVariants.{Ins, Del, Mark}
 use Rattle.ew_model.specs.declared.event.Event.{Event}
-use Rattle.ew_model.specs.Bytes.{four_bytes, name_bytes, op_bytes}
+use Rattle.ew_model.specs.Bytes.{four_bytes, op_bytes}
 use Rattle.ew_model.specs.declared.limits.TheConstants.{COUNT_BYTES, MOST_EVENT_BYTES, MOST_PARENTS}
-use Rattle.ew_model.specs.Sound.{IsSoundId, IsSoundOp, IsSound, AreSound}
+use Rattle.ew_model.specs.Sound.{IsSound, AreSound}
 use Rattle.peer_definitions.specs.Spelling.{id_bytes, event_bytes, events_body}
-use Rattle.peer_frames.proofs.ShortNames.{four_long, id_short, ids_short, op_short}
+use Rattle.peer_frames.proofs.ShortNames.{id_short, ids_short, op_short}
 
 event_short : (e : Event) → IsSound e → length e.parents ≤ MOST_PARENTS → length (event_bytes e) ≤ MOST_EVENT_BYTES
 event_short e h few =

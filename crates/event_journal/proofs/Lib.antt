@@ -6,5 +6,6 @@ pub mod FirstBatches
 pub mod ReadBatches
 pub mod Opening
 pub mod Replay
+pub mod Keeping
 pub mod Lasting
 mod Found

@@ -1,9 +1,11 @@
 //! A file of the system as a disk.
 
-ghost use Rattle.std.specs.Prelude.{◌≡◌, ◌≤◌, ⊤, None, length, IfOk};
+ghost use Rattle.std.specs.Prelude.{◌≡◌, ⊤, ℕ, List, Option, None, Ok, IfOk};
+ghost use Rattle.ew_outside.specs.Counts.{Counts};
+ghost use Rattle.event_journal.specs.Disk.{ReadGives};
 
 use crate::disk::Disk;
-use ew_outside::{Counter, Failed};
+use ew_outside::{Counter, Failed, counted, unless};
 use std::fs::{File, OpenFile};
 use std::io::ErrorKind;
 use std::os::unix::fs::FileExt;
@@ -17,7 +19,7 @@ const TRIES: u32 = 1_000_000;
 /// program with a `FileDisk` writes to it. After a sync that failed every call fails, since nobody knows what the system kept.
 ///
 /// It tells nothing of its bytes, so nothing is proved of them, nor of what a crash leaves: that is the system's to keep. Proved is that
-/// each call that fails is counted.
+/// a call which the system refuses is counted and answered so (`counted`), and what a read gives of bytes that are known (`read_once`).
 #[derive(Drop)]
 pub struct FileDisk<R> {
     system: R,
@@ -65,94 +67,118 @@ impl<R: Files<File = File>> Disk for FileDisk<R> {
     ghost only_now = { λ d c left. tt };
 
     fn len(&mut self) -> Result<u64, Failed> {
-        match length_of(&self.system, &self.path, &mut self.file, self.has_lost) {
-            Ok(len) => Ok(len),
-            Err(_) => {
-                self.faults.rise();
-                Err(Failed)
-            }
-        }
+        length_of(
+            &self.system,
+            &self.path,
+            &mut self.file,
+            self.has_lost,
+            &mut self.faults,
+        )
     }
 
     fn read(&mut self, at: u64, buf: &mut [u8]) -> Result<usize, Failed> {
-        match read_from(
+        read_from(
             &self.system,
             &self.path,
             &mut self.file,
             self.has_lost,
             at,
             buf,
-        ) {
-            Ok(count) => Ok(count),
-            Err(_) => {
-                self.faults.rise();
-                Err(Failed)
-            }
-        }
+            &mut self.faults,
+        )
     }
 
     fn write_at(&mut self, at: u64, bytes: &[u8]) -> Result<(), Failed> {
-        match write_to(
+        write_to(
             &self.system,
             &self.path,
             &mut self.file,
             self.has_lost,
             at,
             bytes,
-        ) {
-            Ok(()) => Ok(()),
-            Err(_) => {
-                self.faults.rise();
-                Err(Failed)
-            }
-        }
+            &mut self.faults,
+        )
     }
 
     fn sync(&mut self) -> Result<(), Failed> {
-        match sync_file(&self.system, &self.path, &mut self.file, self.has_lost) {
-            Ok(()) => Ok(()),
-            Err(_) => {
-                self.has_lost = true;
-                self.faults.rise();
-                Err(Failed)
-            }
+        let synced = sync_file(
+            &self.system,
+            &self.path,
+            &mut self.file,
+            self.has_lost,
+            &mut self.faults,
+        );
+        if synced.is_err() {
+            self.has_lost = true;
         }
+        synced
     }
 }
 
-/// The file, opened where it isn't.
+/// The file, opened where it isn't. None after a sync that failed.
 fn ready<'a, R: Files<File = File>>(
     system: &R,
     path: &str,
     file: &'a mut Option<File>,
     has_lost: bool,
-) -> io::Result<&'a File> {
+    faults: &mut Counter,
+) -> Result<&'a File, Failed>
+    ensures cause { Counts faults.old faults.new result }
+{
     if has_lost {
-        return Err(ErrorKind::Other.into());
+        faults.rise();
+        return Err(Failed);
     }
-    if file.is_none() {
-        *file = Some(open_and_lock(system, path)?);
-    }
+    open_first(system, path, file, faults)?;
     match file {
         Some(opened) => Ok(opened),
-        None => Err(ErrorKind::Other.into()),
+        None => {
+            faults.rise();
+            Err(Failed)
+        }
     }
 }
 
+/// Opens the file, where it isn't open.
+fn open_first<R: Files<File = File>>(
+    system: &R,
+    path: &str,
+    file: &mut Option<File>,
+    faults: &mut Counter,
+) -> Result<(), Failed>
+    ensures cause { Counts faults.old faults.new result }
+{
+    if file.is_some() {
+        return Ok(());
+    }
+    *file = Some(open_and_lock(system, path, faults)?);
+    Ok(())
+}
+
 /// Opens the file, makes it where it isn't there, locks it, and has the system keep its name.
-fn open_and_lock<R: Files<File = File>>(system: &R, path: &str) -> io::Result<File> {
-    let file = File::options()
-        .read(true)
-        .write(true)
-        .create(true)
-        .open(system, path)?;
-    file.try_lock()?;
+fn open_and_lock<R: Files<File = File>>(
+    system: &R,
+    path: &str,
+    faults: &mut Counter,
+) -> Result<File, Failed>
+    ensures cause { Counts faults.old faults.new result }
+{
+    let file = counted(
+        File::options()
+            .read(true)
+            .write(true)
+            .create(true)
+            .open(system, path),
+        faults,
+    )?;
+    counted(file.try_lock(), faults)?;
     let folder = match path.rsplit_once('/') {
         Some(("", _)) => "/",
         Some((folder, _)) => folder,
         None => ".",
     };
-    fs::open(system, folder)?.sync_all()?;
+    let folder = counted(fs::open(system, folder), faults)?;
+    counted(folder.sync_all(), faults)?;
     Ok(file)
 }
 
@@ -161,12 +187,15 @@ fn length_of<R: Files<File = File>>(
     path: &str,
     file: &mut Option<File>,
     has_lost: bool,
-) -> io::Result<u64> {
-    let file = ready(system, path, file, has_lost)?;
-    Ok(file.metadata()?.len())
+    faults: &mut Counter,
+) -> Result<u64, Failed>
+    ensures cause { Counts faults.old faults.new result }
+{
+    let file = ready(system, path, file, has_lost, faults)?;
+    let found = counted(file.metadata(), faults)?;
+    Ok(found.len())
 }
 
-/// Reads once; a read that was interrupted is tried again.
 fn read_from<R: Files<File = File>>(
     system: &R,
     path: &str,
@@ -174,18 +203,54 @@ fn read_from<R: Files<File = File>>(
     has_lost: bool,
     at: u64,
     buf: &mut [u8],
-) -> io::Result<usize>
-    ensures { IfOk result (λ n. n ≤ length buf.new) }
+    faults: &mut Counter,
+) -> Result<usize, Failed>
+    ensures given { ReadGives None at result buf.new }
+    ensures cause { Counts faults.old faults.new result }
 {
-    let file = ready(system, path, file, has_lost)?;
+    let file = ready(system, path, file, has_lost, faults)?;
+    read_once(file, at, buf, faults)
+}
+
+/// Bytes that are read from a place on.
+trait ReadAt {
+    /// The bytes, where they are known.
+    ghost held: { Self → Option (List ℕ) };
+
+    /// Asks the system once.
+    fn try_to_read(&self, at: u64, buf: &mut [u8]) -> io::Result<usize>
+        ensures given { IfOk result (λ n. ReadGives (held self.now) at (Ok n) buf.new) };
+}
+
+impl ReadAt for File {
+    ghost held = { λ file. None };
+
+    fn try_to_read(&self, at: u64, buf: &mut [u8]) -> io::Result<usize> {
+        self.read_at(buf, at)
+    }
+}
+
+/// Reads once; a read that was interrupted is tried again.
+fn read_once<F: ReadAt>(
+    file: &F,
+    at: u64,
+    buf: &mut [u8],
+    faults: &mut Counter,
+) -> Result<usize, Failed>
+    ensures given { ReadGives (F.held file.now) at result buf.new }
+    ensures cause { Counts faults.old faults.new result }
+{
     for _ in 0..TRIES {
-        match file.read_at(buf, at) {
-            Ok(count) => return Ok(count),
-            Err(error) if error.kind() == ErrorKind::Interrupted => {}
-            Err(error) => return Err(error),
+        let answer = counted(
+            unless(ErrorKind::Interrupted, file.try_to_read(at, buf)),
+            faults,
+        )?;
+        if let Some(count) = answer {
+            return Ok(count);
         }
     }
-    Err(ErrorKind::Interrupted.into())
+    faults.rise();
+    Err(Failed)
 }
 
 fn write_to<R: Files<File = File>>(
@@ -195,8 +260,12 @@ fn write_to<R: Files<File = File>>(
     has_lost: bool,
     at: u64,
     bytes: &[u8],
-) -> io::Result<()> {
-    ready(system, path, file, has_lost)?.write_all_at(bytes, at)
+    faults: &mut Counter,
+) -> Result<(), Failed>
+    ensures cause { Counts faults.old faults.new result }
+{
+    let file = ready(system, path, file, has_lost, faults)?;
+    counted(file.write_all_at(bytes, at), faults)
 }
 
 fn sync_file<R: Files<File = File>>(
@@ -204,6 +273,10 @@ fn sync_file<R: Files<File = File>>(
     path: &str,
     file: &mut Option<File>,
     has_lost: bool,
-) -> io::Result<()> {
-    ready(system, path, file, has_lost)?.sync_all()
+    faults: &mut Counter,
+) -> Result<(), Failed>
+    ensures cause { Counts faults.old faults.new result }
+{
+    let file = ready(system, path, file, has_lost, faults)?;
+    counted(file.sync_all(), faults)
 }

@@ -1,14 +1,15 @@
-//! A disk in memory, which keeps all its calls, and fails where a test asks for it.
+//! A disk in memory, which keeps its calls, and fails where a test asks for it.
 
-ghost use Rattle.std.specs.Prelude.{◌≡◌, ◌≤◌, ◌⊎◌, false, List, [], ◌∷◌, ◌++◌, refl, length, take, Option, Some, Result, Ok, Err, OnOk, OnErr, IfOk};
-ghost use Rattle.ew_outside.specs.Counts.{Counts};
-ghost use Rattle.event_journal.specs.Disk.{written, IsTorn, ReadGives};
-ghost use Rattle.event_journal.specs.MemDisk.{after, content, leaves, MayLeave, LeftSince};
+ghost use Rattle.std.specs.Prelude.{◌≡◌, ◌≤◌, ◌⊎◌, false, List, [], ◌∷◌, ◌++◌, refl, length, take, Option, Some, Result, Ok, Err, OnOk, OnErr, IfOk, IsErr, is_err};
+ghost use Rattle.ew_outside.specs.Counts.{Counts, next};
+ghost use Rattle.ew_outside.specs.Memory.{after_call};
+ghost use Rattle.event_journal.specs.Disk.{written, IsTorn, ReadGives, WriteLeaves, LeavesJust, LeavesNoMore, LeavesTorn, Passes};
+ghost use Rattle.event_journal.specs.MemDisk.{after, content, leaves, MayLeave, LeftSince, KeepsCall, KeepsWrite};
 ghost use Rattle.event_journal.specs.Replay.{reads_one, counts_now, only_now};
 
 use crate::disk::Disk;
 use ew_model::NoMem;
-use ew_outside::{Calls, Failed};
+use ew_outside::{Calls, Counter, Failed};
 use std::alloc::Global;
 use std::marker::Model;
 
@@ -46,13 +47,15 @@ pub enum Tear {
 }
 
 /// Bytes in memory. Exactly the listed calls fail, and those that memory ran out for. Of a write that is listed there stands what the
-/// tear says; any other call that failed changed nothing. Each call is kept, and a write with its bytes, so this disk is for trials.
+/// tear says; any other call that failed changed nothing. Each call is kept, and a write with its bytes, so this disk is for trials. Of
+/// the calls that memory ran out for it is kept how many they were, and no more.
 #[derive(Drop)]
 pub struct MemDisk {
     alloc: Global,
     first: Vec<u8>,
     bytes: Vec<u8>,
     made: Vec<DiskCall>,
+    starved: Counter,
     calls: Calls,
     tear: Tear,
 }
@@ -63,7 +66,7 @@ impl Model for MemDisk {
 
     ghost Value = { MemDiskSeen };
 
-    ghost view = { λ d. record { first = d.first.items; made = d.made.items; calls = d.calls; tear = d.tear } };
+    ghost view = { λ d. record { first = d.first.items; made = d.made.items; starved = d.starved; calls = d.calls; tear = d.tear } };
 
     ghost invariant = { λ d. d.bytes.items ≡ content d.first.items d.made.items };
 }
@@ -76,7 +79,7 @@ impl MemDisk {
         failing: Vec<u64>,
         tear: Tear,
     ) -> Result<MemDisk, NoMem>
-        ensures { IfOk result (λ disk. disk ≡ record { first = bytes.items; made = []; calls = record { failing = failing.items; made = 0; faults = 0 }; tear = tear }) }
+        ensures { IfOk result (λ disk. disk ≡ record { first = bytes.items; made = []; starved = 0; calls = record { failing = failing.items; made = 0; faults = 0 }; tear = tear }) }
     {
         let first = bytes.to_vec(alloc)?;
         Ok(MemDisk {
@@ -84,6 +87,7 @@ impl MemDisk {
             first,
             bytes,
             made: Vec::new(alloc),
+            starved: Counter::new(),
             calls: Calls::new(failing),
             tear,
         })
@@ -96,11 +100,18 @@ impl MemDisk {
         &self.bytes
     }
 
-    /// All calls that memory didn't run out for, in order.
+    /// All calls in order, those that failed too, but for those that memory ran out for.
     pub fn made(&self) -> &[DiskCall]
         ensures { result.now ≡ self.now.made }
     {
         &self.made
+    }
+
+    /// How many calls memory ran out for. Each failed, and changed nothing.
+    pub fn starved(&self) -> u64
+        ensures { result ≡ self.now.starved }
+    {
+        self.starved.get()
     }
 
     /// What a crash may leave just after so many of the calls that were made. Of each write that isn't synced there stands what is said.
@@ -226,10 +237,18 @@ impl Disk for MemDisk {
 
     ghost only_now = { λ d c left. only_now d.first d.made c left };
 
-    fn len(&mut self) -> Result<u64, Failed> {
+    fn len(&mut self) -> Result<u64, Failed>
+        ensures length { IfOk result (λ n. n ≡ length (content self.old.first self.old.made)) }
+        ensures bytes { Some (content self.new.first self.new.made) ≡ Some (content self.old.first self.old.made) }
+        ensures crash { LeavesNoMore (MayLeave self.old.first (λ b. b ≡ self.old.first) self.old.made) (MayLeave self.new.first (λ b. b ≡ self.new.first) self.new.made) }
+        ensures time { Passes (length self.old.made) (length self.new.made) (LeftSince self.old.first self.old.made) (LeftSince self.new.first self.new.made) (λ c. MayLeave self.new.first (λ b. b ≡ self.new.first) self.new.made c) }
+        ensures cause { Counts self.old.calls.faults self.new.calls.faults result }
+        ensures kept { KeepsCall self.old self.new (DiskCall.Len (is_err result)) result }
+    {
         let failed = self.calls.fails_next();
         note(
             &mut self.made,
+            &mut self.starved,
             &mut self.calls,
             DiskCall::Len { failed },
             failed,
@@ -237,11 +256,19 @@ impl Disk for MemDisk {
         Ok(self.bytes.len() as u64)
     }
 
-    fn read(&mut self, at: u64, buf: &mut [u8]) -> Result<usize, Failed> {
+    fn read(&mut self, at: u64, buf: &mut [u8]) -> Result<usize, Failed>
+        ensures given { ReadGives (Some (content self.old.first self.old.made)) at result buf.new }
+        ensures bytes { Some (content self.new.first self.new.made) ≡ Some (content self.old.first self.old.made) }
+        ensures crash { LeavesNoMore (MayLeave self.old.first (λ b. b ≡ self.old.first) self.old.made) (MayLeave self.new.first (λ b. b ≡ self.new.first) self.new.made) }
+        ensures time { Passes (length self.old.made) (length self.new.made) (LeftSince self.old.first self.old.made) (LeftSince self.new.first self.new.made) (λ c. MayLeave self.new.first (λ b. b ≡ self.new.first) self.new.made c) }
+        ensures cause { Counts self.old.calls.faults self.new.calls.faults result }
+        ensures kept { KeepsCall self.old self.new (DiskCall.Read at (length buf.old) (is_err result)) result }
+    {
         let failed = self.calls.fails_next();
         let room = buf.len();
         note(
             &mut self.made,
+            &mut self.starved,
             &mut self.calls,
             DiskCall::Read { at, room, failed },
             failed,
@@ -249,21 +276,25 @@ impl Disk for MemDisk {
         Ok(read_from(&self.bytes, at, buf))
     }
 
-    fn write_at(&mut self, at: u64, bytes: &[u8]) -> Result<(), Failed> {
+    fn write_at(&mut self, at: u64, bytes: &[u8]) -> Result<(), Failed>
+        requires { at ≤ length (content self.old.first self.old.made) }
+        ensures bytes { WriteLeaves (Some (content self.old.first self.old.made)) (Some (content self.new.first self.new.made)) at bytes.now result }
+        ensures crash { LeavesTorn at (length bytes.now) (MayLeave self.old.first (λ b. b ≡ self.old.first) self.old.made) (MayLeave self.new.first (λ b. b ≡ self.new.first) self.new.made) }
+        ensures time { Passes (length self.old.made) (length self.new.made) (LeftSince self.old.first self.old.made) (LeftSince self.new.first self.new.made) (λ c. MayLeave self.new.first (λ b. b ≡ self.new.first) self.new.made c) }
+        ensures cause { Counts self.old.calls.faults self.new.calls.faults result }
+        ensures kept { KeepsWrite self.old self.new at bytes.now result }
+    {
         if self.calls.fails_next() {
             self.calls.count(true);
-            return match fail_to_write(
+            return Err(fail_or_starve(
                 self.alloc,
                 &mut self.bytes,
                 &mut self.made,
+                &mut self.starved,
                 at,
                 bytes,
                 self.tear,
-            ) {
-                Ok(()) => Err(Failed),
-                // Nothing stands of it.
-                Err(NoMem) => Err(Failed),
-            };
+            ));
         }
         match record_write(self.alloc, &mut self.bytes, &mut self.made, at, bytes) {
             Ok(()) => {
@@ -271,16 +302,25 @@ impl Disk for MemDisk {
                 Ok(())
             }
             Err(NoMem) => {
+                self.starved.rise();
                 self.calls.count(true);
                 Err(Failed)
             }
         }
     }
 
-    fn sync(&mut self) -> Result<(), Failed> {
+    fn sync(&mut self) -> Result<(), Failed>
+        ensures durable { OnOk result (LeavesJust (content self.old.first self.old.made) (MayLeave self.new.first (λ b. b ≡ self.new.first) self.new.made)) }
+        ensures bytes { Some (content self.new.first self.new.made) ≡ Some (content self.old.first self.old.made) }
+        ensures crash { LeavesNoMore (MayLeave self.old.first (λ b. b ≡ self.old.first) self.old.made) (MayLeave self.new.first (λ b. b ≡ self.new.first) self.new.made) }
+        ensures time { Passes (length self.old.made) (length self.new.made) (LeftSince self.old.first self.old.made) (LeftSince self.new.first self.new.made) (λ c. MayLeave self.new.first (λ b. b ≡ self.new.first) self.new.made c) }
+        ensures cause { Counts self.old.calls.faults self.new.calls.faults result }
+        ensures kept { KeepsCall self.old self.new (DiskCall.Sync (is_err result)) result }
+    {
         let failed = self.calls.fails_next();
         note(
             &mut self.made,
+            &mut self.starved,
             &mut self.calls,
             DiskCall::Sync { failed },
             failed,
@@ -302,15 +342,18 @@ fn read_from(bytes: &[u8], at: u64, buf: &mut [u8]) -> usize
     count
 }
 
-/// Keeps a call and counts it. It fails where it is to fail, and where memory runs out for keeping it.
+/// Keeps a call and counts it. It fails where it is to fail, and where memory runs out for keeping it, which is counted besides.
 fn note(
     made: &mut Vec<DiskCall>,
+    starved: &mut Counter,
     calls: &mut Calls,
     call: DiskCall,
     fails: bool,
 ) -> Result<(), Failed>
     ensures kept { OnOk result (made.new.items ≡ made.old.items ++ call ∷ []) }
     ensures kept_or_same { OnErr result ((made.new.items ≡ made.old.items) ⊎ (made.new.items ≡ made.old.items ++ call ∷ [])) }
+    ensures noted { ((is_err result ≡ fails) × (made.new.items ≡ made.old.items ++ call ∷ []) × (starved.new ≡ starved.old)) ⊎ (IsErr result × (made.new.items ≡ made.old.items) × (starved.new ≡ next starved.old)) }
+    ensures calls { calls.new ≡ after_call calls.old (is_err result) }
     ensures succeeds { OnOk result (fails ≡ false) }
     ensures cause { Counts calls.old.faults calls.new.faults result }
 {
@@ -320,6 +363,7 @@ fn note(
             if fails { Err(Failed) } else { Ok(()) }
         }
         Err(_) => {
+            starved.rise();
             calls.count(true);
             Err(Failed)
         }
@@ -369,4 +413,27 @@ fn fail_to_write(
     })?;
     *bytes = next;
     Ok(())
+}
+
+/// A write that fails, or that memory ran out for, which is counted.
+fn fail_or_starve(
+    alloc: Global,
+    bytes: &mut Vec<u8>,
+    made: &mut Vec<DiskCall>,
+    starved: &mut Counter,
+    at: u64,
+    piece: &[u8],
+    tear: Tear,
+) -> Failed
+    requires { at ≤ length bytes.old.items }
+    ensures { ((v : _) × (left : _) × (v.items ≡ piece.now) × (length left.items ≤ length piece.now) × (bytes.new.items ≡ written bytes.old.items at left.items) × (made.new.items ≡ made.old.items ++ DiskCall.FailedWrite at v left ∷ []) × (starved.new ≡ starved.old)) ⊎ ((bytes.new.items ≡ bytes.old.items) × (made.new.items ≡ made.old.items) × (starved.new ≡ next starved.old)) }
+{
+    match fail_to_write(alloc, bytes, made, at, piece, tear) {
+        Ok(()) => Failed,
+        // Nothing stands of it.
+        Err(NoMem) => {
+            starved.rise();
+            Failed
+        }
+    }
 }

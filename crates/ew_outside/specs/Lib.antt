@@ -7,3 +7,4 @@ pub mod Memory
 pub mod Seen
 pub mod Faults
 pub mod Outputs
+pub mod Refusals

@@ -1,16 +1,18 @@
 //! The files of the system as a shelf.
-ghost use Rattle.std.specs.Prelude.{◌≡◌, ◌≢◌, ◌+◌, ◌<◌, ◌≤◌, ◌^◌, None, Ok, take, IsErr, IfOk, IfErr, IfSome, IsSomeAnd, OnOk, vec_len};
-ghost use Rattle.std.specs.Io.KnownBytes.{Appends, Consumes};
-ghost use Rattle.std.specs.IoError.{error_kind};
+ghost use Rattle.std.specs.Prelude.{◌≡◌, ◌+◌, ◌<◌, ◌≤◌, ◌^◌, None, Ok, Err, length, take, IfOk, IfErr, IfSome, IsSomeAnd, OnOk, vec_len};
+ghost use Rattle.std.specs.Io.KnownBytes.{Consumes};
+ghost use Rattle.ew_outside.specs.Counts.{Asks, CountsFaults, CountsStores};
+ghost use Rattle.ew_outside.specs.Files.{StoreLeaves};
+ghost use Rattle.ew_outside.specs.Refusals.{CountsThen};
 
-use crate::loaded_files::{OpenedFile, OpenedFiles};
-use crate::{Counter, Greatest, Shelf, ShelfFault};
+use crate::loaded_files::OpenedFiles;
+use crate::replacing::place;
+use crate::{Counter, Greatest, Shelf, ShelfFault, counted_or_starved, unless};
 use std::alloc::Global;
-use std::fs::{File, Metadata, OpenFile, Permissions};
-use std::io::{ErrorKind, Read, Write};
-use std::os::unix::fs::{MetadataExt, OpenOptionsExt, PermissionsExt, fchown};
+use std::fs;
+use std::fs::File;
+use std::io::{ErrorKind, Read};
 use std::rt::Files;
-use std::{fs, io};
 
 /// The most bytes that are read at a time.
 const PIECE: usize = 65_536;
@@ -25,8 +27,8 @@ const PIECE: usize = 65_536;
 /// The new file has the owner, the group and the rights of the old one. A symbolic link stays, and the file that it leads to is
 /// replaced. Nothing but a file is replaced: no folder, pipe or device.
 ///
-/// Proved are the counts, what is read of a file that was opened and what is left of it (`front_of`, `read_front`), and what a new
-/// file is filled with (`fill`). All else
+/// Proved are the counts, which follow what the system answers (`counted`), what is read of a file that was opened and what is left of
+/// it (`front_of`, `read_front`), what a new file is filled with (`fill`), and how many bytes were (`filled`). All else
 /// that is said here is tested, over files of the system. What isn't seen: a program that takes no lock and writes to the file while
 /// it is being replaced, or writes as many bytes in the same tick of the system's clock as the change before. Access lists aren't
 /// kept, nor other names of the old file, which keep the old bytes.
@@ -41,6 +43,8 @@ pub struct DirShelf<R> {
     pub failed_loads: Counter,
     pub asked: Greatest,
     pub stores: Counter,
+    /// How many bytes the last file that was stored was filled with.
+    pub filled: usize,
 }
 
 impl<R: Files<File = File>> DirShelf<R> {
@@ -51,6 +55,7 @@ impl<R: Files<File = File>> DirShelf<R> {
         ensures failed_loads { result.failed_loads ≡ 0 }
         ensures asked { result.asked ≡ 0 }
         ensures stores { result.stores ≡ 0 }
+        ensures filled { result.filled ≡ 0 }
     {
         DirShelf {
             system,
@@ -62,6 +67,7 @@ impl<R: Files<File = File>> DirShelf<R> {
             failed_loads: Counter::new(),
             asked: Greatest::new(),
             stores: Counter::new(),
+            filled: 0,
         }
     }
 }
@@ -72,9 +78,12 @@ impl<R: Files<File = File>> Shelf for DirShelf<R> {
     /// `None` is for a file that isn't there. Whatever else the system refuses is a fault. A store stands on what was opened here.
     fn load(&mut self, name: &str, max: usize) -> Result<Option<Vec<u8>>, ShelfFault> {
         self.loads.rise();
-        self.asked.reach(max);
-        let opened = fs::open(&self.system, name);
-        match remember_and_read(&mut self.opened, self.alloc, name, opened, max) {
+        let opened = counted_or_starved(
+            unless(ErrorKind::NotFound, fs::open(&self.system, name)),
+            &mut self.faults,
+        );
+        let kept = remember(&mut self.opened, self.alloc, name, opened, &mut self.faults);
+        match front_of(self.alloc, kept, max, &mut self.asked, &mut self.faults) {
             Ok(Some(bytes)) => Ok(Some(bytes)),
             Ok(None) => {
                 self.misses.rise();
@@ -82,7 +91,6 @@ impl<R: Files<File = File>> Shelf for DirShelf<R> {
             }
             Err(ShelfFault::OutOfMemory) => Err(ShelfFault::OutOfMemory),
             Err(ShelfFault::Failed) => {
-                self.faults.rise();
                 self.failed_loads.rise();
                 Err(ShelfFault::Failed)
             }
@@ -91,230 +99,117 @@ impl<R: Files<File = File>> Shelf for DirShelf<R> {
 
     /// Writes a new file beside the old one, syncs it and gives it the old one's name, so no reader sees a part of it. A fault where
     /// another file lies there than the one that was loaded.
-    fn store(&mut self, name: &str, bytes: &[u8]) -> Result<(), ShelfFault> {
-        let stored = match self.opened.take(name) {
-            Some(opened) => replace(&self.system, self.alloc, &opened, name, bytes),
-            None => create(&self.system, self.alloc, name, bytes),
-        };
-        match stored {
-            Ok(()) => {
+    fn store(&mut self, name: &str, bytes: &[u8]) -> Result<(), ShelfFault>
+        ensures left { StoreLeaves None None name.now bytes.now result }
+        ensures cause { CountsFaults self.old.faults self.new.faults result }
+        ensures misses { self.new.misses ≡ self.old.misses }
+        ensures loads { self.new.loads ≡ self.old.loads }
+        ensures failed_loads { self.new.failed_loads ≡ self.old.failed_loads }
+        ensures asked { self.new.asked ≡ self.old.asked }
+        ensures stores { CountsStores self.old.stores self.new.stores result }
+        ensures filled { OnOk result (self.new.filled ≡ length bytes.now) }
+    {
+        let opened = self.opened.take(name);
+        match place(
+            &self.system,
+            self.alloc,
+            opened,
+            name,
+            bytes,
+            &mut self.faults,
+        ) {
+            Ok(filled) => {
                 self.stores.rise();
+                self.filled = filled;
                 Ok(())
             }
-            Err(error) => {
-                let fault = fault_of(&error);
-                if fault == ShelfFault::Failed {
-                    self.faults.rise();
-                    self.stores.rise();
-                }
-                Err(fault)
+            Err(ShelfFault::OutOfMemory) => Err(ShelfFault::OutOfMemory),
+            Err(ShelfFault::Failed) => {
+                self.stores.rise();
+                Err(ShelfFault::Failed)
             }
         }
     }
 }
 
-// The file that was opened is the one that a store under this name may replace. It is read as `front_of` says.
-fn remember_and_read(
+// Keeps the file that was opened under this name: it is the one that a store may replace. Where none was opened, none is kept.
+fn remember(
     remembered: &mut OpenedFiles,
     alloc: Global,
     name: &str,
-    opened: io::Result<File>,
-    max: usize,
-) -> Result<Option<Vec<u8>>, ShelfFault>
-    requires { max < 2 ^ 62 }
-    ensures most { IfOk result (λ found. IfSome found (λ v. vec_len v ≤ max + 1)) }
-    ensures missing { IfErr opened (λ e. error_kind e ≡ ErrorKind.NotFound → result ≡ Ok None) }
-    ensures refused { IfErr opened (λ e. error_kind e ≢ ErrorKind.NotFound → IsErr result) }
+    opened: Result<Option<File>, ShelfFault>,
+    faults: &mut Counter,
+) -> Result<Option<File>, ShelfFault>
+    ensures kept { IfOk result (λ file. opened ≡ Ok file) }
+    ensures missing { opened ≡ Ok None → result ≡ Ok None }
+    ensures refused { IfErr opened (λ fault. result ≡ Err fault) }
+    ensures cause { CountsThen opened faults.old faults.new result }
 {
     let _ = remembered.take(name);
-    if let Ok(file) = &opened {
-        if let Err(error) = remembered.keep(alloc, name, file) {
-            return Err(fault_of(&error));
-        }
-    }
-    front_of(alloc, opened, max)
+    let Some(file) = opened? else {
+        return Ok(None);
+    };
+    remembered.keep(alloc, name, &file, faults)?;
+    Ok(Some(file))
 }
 
 // What is loaded of a file that was opened: its first `max + 1` bytes, or all where there are fewer. Nothing where it isn't
-// there; any other error is a fault.
+// there; a fault where it was refused. So many bytes are asked for, whatever comes of it.
 fn front_of<F: Read + Drop>(
     alloc: Global,
-    opened: io::Result<F>,
+    opened: Result<Option<F>, ShelfFault>,
     max: usize,
+    asked: &mut Greatest,
+    faults: &mut Counter,
 ) -> Result<Option<Vec<u8>>, ShelfFault>
     requires { max < 2 ^ 62 }
     ensures most { IfOk result (λ found. IfSome found (λ v. vec_len v ≤ max + 1)) }
-    ensures opened { IfOk opened (λ f. IfOk result (λ found. IsSomeAnd found (λ v. IfSome (F.remaining f) (λ xs. v.items ≡ take (max + 1) xs)))) }
-    ensures missing { IfErr opened (λ e. error_kind e ≡ ErrorKind.NotFound → result ≡ Ok None) }
-    ensures refused { IfErr opened (λ e. error_kind e ≢ ErrorKind.NotFound → IsErr result) }
+    ensures opened { IfOk opened (λ file. IfSome file (λ f. IfOk result (λ found. IsSomeAnd found (λ v. IfSome (F.remaining f) (λ xs. v.items ≡ take (max + 1) xs))))) }
+    ensures missing { opened ≡ Ok None → result ≡ Ok None }
+    ensures refused { IfErr opened (λ fault. result ≡ Err fault) }
+    ensures asked { Asks max asked.old asked.new }
+    ensures cause { CountsThen opened faults.old faults.new result }
 {
-    match opened {
-        Ok(mut file) => Ok(Some(read_front(alloc, &mut file, max)?)),
-        Err(error) if error.kind() == ErrorKind::NotFound => Ok(None),
-        Err(error) => Err(fault_of(&error)),
-    }
-}
-
-fn fault_of(error: &io::Error) -> ShelfFault
-    ensures memory { error_kind error.now ≡ ErrorKind.OutOfMemory → result ≡ ShelfFault.OutOfMemory }
-    ensures others { error_kind error.now ≢ ErrorKind.OutOfMemory → result ≡ ShelfFault.Failed }
-{
-    match error.kind() {
-        ErrorKind::OutOfMemory => ShelfFault::OutOfMemory,
-        _ => ShelfFault::Failed,
+    asked.reach(max);
+    match opened? {
+        Some(mut file) => Ok(Some(read_front(alloc, &mut file, max, faults)?)),
+        None => Ok(None),
     }
 }
 
 // The first `max + 1` bytes, or all where there are fewer. No more are read: the others are left. A read that was interrupted is tried
 // again.
-fn read_front<F: Read>(alloc: Global, file: &mut F, max: usize) -> Result<Vec<u8>, ShelfFault>
+fn read_front<F: Read>(
+    alloc: Global,
+    file: &mut F,
+    max: usize,
+    faults: &mut Counter,
+) -> Result<Vec<u8>, ShelfFault>
     requires { max < 2 ^ 62 }
     ensures most { IfOk result (λ v. vec_len v ≤ max + 1) }
     ensures bytes { IfOk result (λ v. IfSome (F.remaining file.old) (λ xs. v.items ≡ take (max + 1) xs)) }
     ensures left { IfOk result (λ v. Consumes (F.remaining file.old) (F.remaining file.new) v.items) }
+    ensures cause { CountsFaults faults.old faults.new result }
 {
     let mut bytes = Vec::new(alloc);
     let mut buffer = [0u8; PIECE];
     let mut tries = 1_000_000u32;
     'pieces: while bytes.len() <= max {
         let room = (max + 1 - bytes.len()).min(PIECE);
-        match file.read(&mut buffer[..room]) {
-            Ok(count) => {
-                if count == 0 {
-                    return Ok(bytes);
-                }
-                bytes.extend_from_slice(&buffer[..count])?;
-            }
-            Err(error) => {
-                if error.kind() != ErrorKind::Interrupted || tries == 0 {
-                    return Err(fault_of(&error));
+        match counted_or_starved(
+            unless(ErrorKind::Interrupted, file.read(&mut buffer[..room])),
+            faults,
+        )? {
+            Some(0) => return Ok(bytes),
+            Some(count) => bytes.extend_from_slice(&buffer[..count])?,
+            None => {
+                if tries == 0 {
+                    faults.rise();
+                    return Err(ShelfFault::Failed);
                 }
                 tries -= 1;
             }
         }
     }
     Ok(bytes)
-}
-
-// The file that has this name: the one that it leads to, where it is a symbolic link.
-fn followed<R: Files>(system: &R, alloc: Global, name: &str) -> io::Result<String> {
-    match system.symlink_metadata(name) {
-        Ok(found) if found.is_symlink() => Ok(system.canonicalize(alloc, name)?.into_string()),
-        _ => Ok(String::from_str(alloc, name)?),
-    }
-}
-
-// A new file takes the place of the one that was opened, which has to lie there still. Who replaces a file holds its lock, so that
-// it stays there until the new one has its name. The look at the name comes after the lock: another may have replaced it before.
-fn replace<R: Files<File = File>>(
-    system: &R,
-    alloc: Global,
-    opened: &OpenedFile,
-    name: &str,
-    bytes: &[u8],
-) -> io::Result<()> {
-    let name = followed(system, alloc, name)?;
-    let old = File::options()
-        .read(true)
-        .write(true)
-        .open(system, name.as_str())?;
-    old.try_lock()?;
-    let found = old.metadata()?;
-    if !opened.is_still(&found) || !opened.is_still(&system.symlink_metadata(name.as_str())?) {
-        return Err(ErrorKind::Other.into());
-    }
-    let (file, neighbour) = new_neighbour(system, alloc, name.as_str(), 0o600)?;
-    let filled = match keep_rights(&found, &file) {
-        Ok(()) => fill_and_close(file, bytes),
-        Err(error) => Err(error),
-    };
-    let placed = match filled {
-        Ok(()) => fs::rename(system, neighbour.as_str(), name.as_str()),
-        Err(error) => Err(error),
-    };
-    match placed {
-        Ok(()) => {
-            sync_folder(system, name.as_str());
-            Ok(())
-        }
-        Err(error) => {
-            let _ = fs::remove_file(system, neighbour.as_str());
-            Err(error)
-        }
-    }
-}
-
-// A new file gets a name that nothing has. A rename would replace what came there meanwhile, and a second name of a file doesn't.
-fn create<R: Files<File = File>>(
-    system: &R,
-    alloc: Global,
-    name: &str,
-    bytes: &[u8],
-) -> io::Result<()> {
-    let (file, neighbour) = new_neighbour(system, alloc, name, 0o666)?;
-    let placed = match fill_and_close(file, bytes) {
-        Ok(()) => fs::hard_link(system, neighbour.as_str(), name),
-        Err(error) => Err(error),
-    };
-    let _ = fs::remove_file(system, neighbour.as_str());
-    if placed.is_ok() {
-        sync_folder(system, name);
-    }
-    placed
-}
-
-// A new file beside the one of this name. Its own name is one that nothing has, so that no other file changes.
-fn new_neighbour<R: Files<File = File>>(
-    system: &R,
-    alloc: Global,
-    name: &str,
-    mode: u32,
-) -> io::Result<(File, String)> {
-    for number in 0..=u32::MAX {
-        let neighbour = format!(in alloc; "{name}.{number}.new")?;
-        let made = File::options()
-            .write(true)
-            .create_new(true)
-            .mode(mode)
-            .open(system, neighbour.as_str());
-        match made {
-            Ok(file) => return Ok((file, neighbour)),
-            Err(error) if error.kind() == ErrorKind::AlreadyExists => {}
-            Err(error) => return Err(error),
-        }
-    }
-    Err(ErrorKind::AlreadyExists.into())
-}
-
-// Gives the new file the owner, the group and the rights of the old one. The rights come last, so that nobody else reads it before.
-fn keep_rights(old: &Metadata, file: &File) -> io::Result<()> {
-    let new = file.metadata()?;
-    if new.uid() != old.uid() || new.gid() != old.gid() {
-        fchown(file, Some(old.uid()), Some(old.gid()))?;
-    }
-    file.set_permissions(Permissions::from_mode(old.mode() & 0o777))
-}
-
-// Has the system keep the names in the folder of this file, where it can.
-fn sync_folder<R: Files>(system: &R, name: &str) {
-    let folder = match name.rsplit_once('/') {
-        Some(("", _)) => "/",
-        Some((folder, _)) => folder,
-        None => ".",
-    };
-    if let Ok(folder) = fs::open(system, folder) {
-        let _ = folder.sync_all();
-    }
-}
-
-fn fill_and_close<F: Write + OpenFile + Drop>(mut file: F, bytes: &[u8]) -> io::Result<()> {
-    fill(&mut file, bytes)
-}
-
-// Writes all of the bytes, and has the system keep them.
-fn fill<F: Write + OpenFile>(file: &mut F, bytes: &[u8]) -> io::Result<()>
-    ensures { OnOk result (Appends (F.contents file.old) (F.contents file.new) bytes.now) }
-{
-    file.write_all(bytes)?;
-    file.sync_all()
 }

@@ -30,6 +30,17 @@ impl From<AllocError> for ShelfFault {
     }
 }
 
+impl<T: Drop> From<AllocFailed<T>> for ShelfFault {
+    ghost use Rattle.std.specs.Prelude.{◌≡◌};
+    ghost use Rattle.ew_outside.specs.declared.fault.ShelfFault.{ShelfFault};
+
+    ghost from_gives = { λ _ fault. fault ≡ ShelfFault.OutOfMemory };
+
+    fn from(_: AllocFailed<T>) -> ShelfFault {
+        ShelfFault::OutOfMemory
+    }
+}
+
 /// Why a run stops: an object of the outside failed, and has counted it, or memory ran out.
 #[derive(Clone, Copy, Debug, PartialEq, Eq, Error)]
 pub enum Fault {

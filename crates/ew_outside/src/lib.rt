@@ -4,6 +4,7 @@
 //! `Std..` and `Dir..` stand over the system. `Sure..` are in memory and don't fail; `Mem..` are in memory too and fail at the calls that a test lists.
 #![tactic(auto)]
 
+mod answers;
 mod bounded_bytes;
 mod calls;
 mod counter;
@@ -15,6 +16,7 @@ mod mem_shelf;
 mod mem_sink;
 mod mem_source;
 mod output;
+mod replacing;
 mod shelf;
 mod sink;
 mod source;
@@ -25,6 +27,7 @@ mod sure_sink;
 mod sure_source;
 mod unread_bytes;
 
+pub use answers::{counted, counted_or_starved, uncounted, unless};
 pub use bounded_bytes::BoundedBytes;
 pub use calls::Calls;
 pub use counter::{Counter, Greatest};

@@ -1,9 +1,11 @@
 //! The files that a shelf has opened, for the stores that follow.
-ghost use Rattle.std.specs.Prelude.{◌≡◌, IfSome, string_bytes};
 
+ghost use Rattle.std.specs.Prelude.{◌≡◌, [], IfSome, string_bytes};
+ghost use Rattle.ew_outside.specs.Counts.{CountsFaults};
+
+use crate::{Counter, ShelfFault, counted_or_starved};
 use std::alloc::Global;
 use std::fs::{File, Metadata, OpenFile};
-use std::io;
 use std::os::unix::fs::MetadataExt;
 
 /// A file as it was when it was opened: its device and its number there, its length, and when it was last written.
@@ -38,7 +40,7 @@ pub struct OpenedFile {
 
 impl OpenedFile {
     /// Whether what the system found is this file, as it was when it was opened.
-    pub fn is_still(&self, found: &Metadata) -> bool {
+    pub(crate) fn is_still(&self, found: &Metadata) -> bool {
         Stamp::of(found) == self.stamp
     }
 }
@@ -50,22 +52,32 @@ pub struct OpenedFiles {
 }
 
 impl OpenedFiles {
-    pub fn new(alloc: Global) -> OpenedFiles {
+    /// No files.
+    pub fn new(alloc: Global) -> OpenedFiles
+        ensures { result.files.items ≡ [] }
+    {
         OpenedFiles {
             files: Vec::new(alloc),
         }
     }
 
     /// Keeps a file that was opened under this name. What is no file, as a pipe, isn't kept.
-    pub fn keep(&mut self, alloc: Global, name: &str, file: &File) -> io::Result<()> {
-        let found = file.metadata()?;
+    pub(crate) fn keep(
+        &mut self,
+        alloc: Global,
+        name: &str,
+        file: &File,
+        faults: &mut Counter,
+    ) -> Result<(), ShelfFault>
+        ensures cause { CountsFaults faults.old faults.new result }
+    {
+        let found = counted_or_starved(file.metadata(), faults)?;
         if found.is_file() {
+            let name = String::from_str(alloc, name)?;
             // The copy never takes the number of a standard stream that was closed.
-            self.files.push(OpenedFile {
-                name: String::from_str(alloc, name)?,
-                held: file.try_clone()?,
-                stamp: Stamp::of(&found),
-            })?;
+            let held = counted_or_starved(file.try_clone(), faults)?;
+            let stamp = Stamp::of(&found);
+            self.files.push(OpenedFile { name, held, stamp })?;
         }
         Ok(())
     }

@@ -4,7 +4,7 @@ ghost use Rattle.std.specs.Io.KnownBytes.{Keeps};
 ghost use Rattle.ew_outside.specs.Counts.{Counts};
 ghost use Rattle.ew_outside.specs.Bytes.{WriteTakes};
 
-use crate::{Counter, Failed, Sink};
+use crate::{Counter, Failed, Sink, counted};
 use std::io::Write;
 
 /// A writer, as standard output or a file. It tells nothing of what was taken, but passes on what it is given.
@@ -35,25 +35,18 @@ impl<W: Write> Sink for StdSink<W> {
         ensures cause { Counts self.old.faults self.new.faults result }
         ensures passed { WriteTakes (W.contents self.old.writer) (W.contents self.new.writer) result piece.now }
     {
-        match self.writer.write(piece) {
-            Ok(count) if count > 0 || piece.is_empty() => Ok(count),
-            _ => {
-                self.faults.rise();
-                Err(Failed)
-            }
+        let count = counted(self.writer.write(piece), &mut self.faults)?;
+        if count == 0 && !piece.is_empty() {
+            self.faults.rise();
+            return Err(Failed);
         }
+        Ok(count)
     }
 
     fn flush(&mut self) -> Result<(), Failed>
         ensures cause { Counts self.old.faults self.new.faults result }
         ensures passed { Keeps (W.contents self.old.writer) (W.contents self.new.writer) }
     {
-        match self.writer.flush() {
-            Ok(()) => Ok(()),
-            Err(_) => {
-                self.faults.rise();
-                Err(Failed)
-            }
-        }
+        counted(self.writer.flush(), &mut self.faults)
     }
 }

@@ -3,7 +3,7 @@ ghost use Rattle.std.specs.Prelude.{◌≡◌, None, length};
 ghost use Rattle.ew_outside.specs.Counts.{Counts, CountsEnds};
 ghost use Rattle.ew_outside.specs.Bytes.{ReadTakes};
 
-use crate::{Counter, Failed, Source};
+use crate::{Counter, Failed, Source, counted};
 use std::io::Read;
 
 /// A reader, as standard input or a file. It tells nothing of what is left, but passes on what its reader gives.
@@ -37,17 +37,10 @@ impl<R: Read> Source for StdSource<R> {
         ensures ends { CountsEnds (length buf.new) self.old.ends self.new.ends result }
         ensures passed { ReadTakes (R.remaining self.old.reader) (R.remaining self.new.reader) result buf.new }
     {
-        match self.reader.read(buf) {
-            Ok(count) => {
-                if count == 0 && !buf.is_empty() {
-                    self.ends.rise();
-                }
-                Ok(count)
-            }
-            Err(_) => {
-                self.faults.rise();
-                Err(Failed)
-            }
+        let count = counted(self.reader.read(buf), &mut self.faults)?;
+        if count == 0 && !buf.is_empty() {
+            self.ends.rise();
         }
+        Ok(count)
     }
 }
