@@ -11,7 +11,7 @@ pub struct Nears {
 
 impl Nears {
     /// At the beginning of both graphs.
-    pub fn start() -> Nears {
+    pub(crate) fn start() -> Nears {
         Nears {
             ours: Near::start(),
             theirs: Near::start(),

@@ -707,9 +707,10 @@ impl Graph {
         self.cuts = hold.cuts;
     }
 
-    /// Keeps all events that came since the hold, and ends it.
-    pub fn keep(&self, hold: Hold)
-        requires { hold ≡ hold_of (take hold.count self.now) }
+    /// Keeps all events that came since the hold, and ends it: the graph stays as it is. It takes no memory.
+    pub fn keep(&mut self, hold: Hold)
+        requires { hold ≡ hold_of (take hold.count self.old) }
+        ensures { self.new ≡ self.old }
     {
         drop(hold);
     }

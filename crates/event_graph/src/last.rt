@@ -69,7 +69,7 @@ impl Graph {
 }
 
 /// Whether the second is the next id of the first one's agent.
-pub fn is_next(x: &Id, y: &Id) -> bool
+fn is_next(x: &Id, y: &Id) -> bool
     ensures { IsTrue result ↔ (y.now ≡ next_id x.now) }
 {
     x.seq < y.seq && y.seq - x.seq == 1 && y.agent.is(&x.agent)

@@ -12,5 +12,4 @@ mod subgraph;
 
 pub use facts::Facts;
 pub use graph::{Graph, Hold};
-pub use last::is_next;
 pub use near::Near;

@@ -1,5 +1,7 @@
 //! Where events were found last.
 
+ghost use Rattle.std.specs.Prelude.{◌≡◌};
+
 /// Where the events that were asked for last were found in a graph's runs. For the ones behind them it is looked there first, and
 /// right behind. It changes no answer.
 #[derive(Clone, Copy)]
@@ -11,7 +13,9 @@ pub struct Near {
 
 impl Near {
     /// At the beginning.
-    pub fn start() -> Near {
+    pub fn start() -> Near
+        ensures { result ≡ record { event = 0; id = 0; cut = 0 } }
+    {
         Near {
             event: 0,
             id: 0,

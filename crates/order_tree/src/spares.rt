@@ -56,7 +56,7 @@ impl<R: Run + Drop> Spares<R> {
     }
 
     /// The streaks that went on last.
-    pub fn recent(&self) -> Recent {
+    pub(crate) fn recent(&self) -> Recent {
         let _ = &self.blocks;
         self.recent
     }

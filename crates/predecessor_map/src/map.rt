@@ -1,8 +1,8 @@
 //! Labels of any numbers.
 
-ghost use Rattle.std.specs.Prelude.{◌≡◌, ◌≤◌, ℕ, Option, Some, None, IfSome, IfNone, OnOk, OnErr, nat_eq, if◌then◌else◌};
+ghost use Rattle.std.specs.Prelude.{◌≡◌, ◌≤◌, ◌+◌, ◌*◌, ◌/◌, ℕ, max, Option, Some, None, IfSome, IfNone, OnOk, OnErr, nat_eq, if◌then◌else◌};
 ghost use Rattle.predecessor_map.specs.Labels.{IsLastIn, AreLastIn, first_of};
-ghost use Rattle.predecessor_map.specs.Maps.{label_at};
+ghost use Rattle.predecessor_map.specs.Maps.{label_at, blocks_of};
 
 use crate::table::Table;
 use crate::tree::{insert_in, last_in, remove_in};
@@ -15,7 +15,8 @@ use std::collections::BTreeMap;
 ///
 /// The blocks follow one another, from that of the number that came first. Numbers that lie before them, or far behind, stand in
 /// a map of their own, which is searched too where there are some. The blocks take memory for all numbers between the first and the
-/// last of them, whether these have labels or not, and removals give none back.
+/// last of them, whether these have labels or not, and removals give none back. So there are never more blocks than the greatest number
+/// that got a label has sixty-fours, and one; and one label makes at most twice as many of them, and sixty-five more.
 #[derive(Drop)]
 pub struct PredecessorMap {
     table: Table,
@@ -25,7 +26,8 @@ pub struct PredecessorMap {
 impl PredecessorMap {
     /// No labels. It takes no memory.
     pub fn new(alloc: Global) -> PredecessorMap
-        ensures { (n : ℕ) → label_at result n ≡ None }
+        ensures labels { (n : ℕ) → label_at result n ≡ None }
+        ensures blocks { blocks_of result ≡ 0 }
     {
         PredecessorMap {
             table: Table::new(alloc),
@@ -50,6 +52,8 @@ impl PredecessorMap {
         ensures ok { OnOk result ((k : ℕ) → label_at self.new k ≡ (if nat_eq n k then Some label else label_at self.old k)) }
         ensures err { OnErr result ((k : ℕ) → label_at self.new k ≡ label_at self.old k) }
         ensures absent { OnErr result (label_at self.old n ≡ None) }
+        ensures reach { blocks_of self.new ≤ max (blocks_of self.old) (n / 64 + 1) }
+        ensures growth { blocks_of self.new ≤ 2 * blocks_of self.old + 65 }
     {
         if !self.others.contains_key(&n) && self.table.reach(n)? {
             return self.table.insert(n, label);
@@ -59,7 +63,8 @@ impl PredecessorMap {
 
     /// Takes a number's label away, if it has one.
     pub fn remove(&mut self, n: u32)
-        ensures { (k : ℕ) → label_at self.new k ≡ (if nat_eq n k then None else label_at self.old k) }
+        ensures labels { (k : ℕ) → label_at self.new k ≡ (if nat_eq n k then None else label_at self.old k) }
+        ensures blocks { blocks_of self.new ≡ blocks_of self.old }
     {
         remove_in(&mut self.others, n);
         self.table.remove(n);

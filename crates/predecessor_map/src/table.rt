@@ -1,6 +1,6 @@
 //! Labels of numbers in blocks that follow one another.
 
-ghost use Rattle.std.specs.Prelude.{◌≡◌, ◌≤◌, ◌<◌, ◌+◌, ◌-◌, ◌/◌, ℕ, Bool, true, false, [], length, Some, None, IsSome, IfSome, IfNone, IfOk, OnOk, OnErr, nat_eq, nat_lt, max, ◌⊎◌, if◌then◌else◌};
+ghost use Rattle.std.specs.Prelude.{◌≡◌, ◌≤◌, ◌<◌, ◌+◌, ◌-◌, ◌*◌, ◌/◌, ℕ, Bool, true, false, [], length, Some, None, IsSome, IfSome, IfNone, IfOk, OnOk, OnErr, nat_eq, nat_lt, max, ◌⊎◌, if◌then◌else◌};
 ghost use Rattle.std.specs.Ordering.{nat_cmp};
 ghost use Rattle.std.specs.BTreeSet.{contains};
 ghost use Rattle.predecessor_map.specs.Labels.{IsLastIn, AreLastIn};
@@ -30,7 +30,8 @@ impl Table {
 
     /// No blocks.
     pub fn new(alloc: Global) -> Table
-        ensures { (n : ℕ) → label_of result n ≡ None }
+        ensures labels { (n : ℕ) → label_of result n ≡ None }
+        ensures blocks { result.blocks.items ≡ [] }
     {
         Table {
             first: 0,
@@ -89,6 +90,8 @@ impl Table {
         ensures has { IfOk result (λ has. has ≡ true → HasBlock self.new n) }
         ensures lacks { IfOk result (λ has. has ≡ false → label_of self.old n ≡ None) }
         ensures err { OnErr result (label_of self.old n ≡ None) }
+        ensures reach { length self.new.blocks.items ≤ max (length self.old.blocks.items) (n / 64 + 1) }
+        ensures growth { length self.new.blocks.items ≤ 2 * length self.old.blocks.items + 65 }
     {
         let block = n / WIDTH;
         if self.place(block).is_some() {
@@ -123,6 +126,7 @@ impl Table {
         ensures ok { OnOk result ((k : ℕ) → label_of self.new k ≡ (if nat_eq n k then Some label else label_of self.old k)) }
         ensures err { OnErr result ((k : ℕ) → label_of self.new k ≡ label_of self.old k) }
         ensures absent { OnErr result (label_of self.old n ≡ None) }
+        ensures blocks { length self.new.blocks.items ≡ length self.old.blocks.items }
     {
         let block = n / WIDTH;
         let place = (block - self.first) as usize;
@@ -139,7 +143,8 @@ impl Table {
 
     /// Takes a number's label away, if it has one.
     pub fn remove(&mut self, n: u32)
-        ensures { (k : ℕ) → label_of self.new k ≡ (if nat_eq n k then None else label_of self.old k) }
+        ensures labels { (k : ℕ) → label_of self.new k ≡ (if nat_eq n k then None else label_of self.old k) }
+        ensures blocks { length self.new.blocks.items ≡ length self.old.blocks.items }
     {
         let block = n / WIDTH;
         let Some(place) = self.place(block) else {

@@ -48,7 +48,7 @@ pub fn law_appends()
 {}
 
 /// Where receiving stops between two judgements, what is held and what was answered is a front of what receiving all comes to,
-/// and what is still to come is the end of what was received. Which events were judged then is a law of `arrival_laws`.
+/// and what is still to come is the end of what was received. Which events were judged then is a law of `history_laws`.
 pub fn law_stops()
     ensures { JudgementsAreAFront }
 {}

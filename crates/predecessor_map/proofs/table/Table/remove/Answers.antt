@@ -22,8 +22,8 @@ invariant_of-self-else-is_empty-clause-marked c =
     flags_changed own.first own.blocks.items c.args.n c.in-Some.place c.in-Some.ensures.some c.in-Some.ensures.bound c.index_mut.result.now c.index_mut.ensures.value c.remove.new.self (contains nat_cmp own.filled) (contains nat_cmp own.filled) own.marked (λ b o. refl)
     (own.marked b ∙ own_length own.first own.blocks.items c.args.n c.in-Some.place c.in-Some.ensures.some c.in-Some.ensures.bound c.index_mut.result.now c.index_mut.ensures.value ∙ kept_some c.index_mut.result.now.entries.items c.remove.new.self (c.args.n % 64) left c.remove.ensures ∙ sym left)
 
-pub returns-then-is_empty : goal.returns-then-is_empty
-returns-then-is_empty c = let own = c.args.self.now in labels_changed own.first own.blocks.items c.args.n c.in-Some.place c.in-Some.ensures.some c.in-Some.ensures.bound c.index_mut.result.now c.index_mut.ensures.value c.remove.new.self None c.remove.ensures
+pub returns-then-is_empty-clause-labels : goal.returns-then-is_empty-clause-labels
+returns-then-is_empty-clause-labels c = let own = c.args.self.now in labels_changed own.first own.blocks.items c.args.n c.in-Some.place c.in-Some.ensures.some c.in-Some.ensures.bound c.index_mut.result.now c.index_mut.ensures.value c.remove.new.self None c.remove.ensures
 
-pub returns-else-is_empty : goal.returns-else-is_empty
-returns-else-is_empty c = let own = c.args.self.now in labels_changed own.first own.blocks.items c.args.n c.in-Some.place c.in-Some.ensures.some c.in-Some.ensures.bound c.index_mut.result.now c.index_mut.ensures.value c.remove.new.self None c.remove.ensures
+pub returns-else-is_empty-clause-labels : goal.returns-else-is_empty-clause-labels
+returns-else-is_empty-clause-labels c = let own = c.args.self.now in labels_changed own.first own.blocks.items c.args.n c.in-Some.place c.in-Some.ensures.some c.in-Some.ensures.bound c.index_mut.result.now c.index_mut.ensures.value c.remove.new.self None c.remove.ensures
