@@ -3,6 +3,7 @@ use Rattle.std.proofs.Common.{◌≡◌, ℕ, ◌+◌, ◌-◌, ◌<◌, ◌≤�
 use Rattle.std.specs.List.{range_with_len}
 use Rattle.ew_model.specs.Tree.{Applied}
 use Rattle.character_runs.specs.declared.change.Change.TheVariants.{Raise, Lower}
+use Rattle.character_runs.specs.declared.change.Kind.{Kind}
 use Rattle.character_runs.specs.declared.change.Positions.{Positions}
 use Rattle.character_runs.specs.Replacing.{ArePart}
 use Rattle.advance_retreat.specs.declared.line.Line.{Line}
@@ -23,11 +24,11 @@ module _ (b : ℕ) (events : List (Applied ℕ)) (s : Kept) (prepared : List ℕ
   abbrev n : ℕ
   n = part.to - part.from
 
-  abbrev Raised : Type 0
-  Raised = Advanced (changed_span s part.from part.to Raise) b events prepared (range_with_len low (high - low)) (range_with_len (low + n) (high - (low + n)))
+  abbrev Raised : Kind → Type 0
+  Raised kind = Advanced (changed_span s kind part.from part.to Raise) b events prepared (range_with_len low (high - low)) (range_with_len (low + n) (high - (low + n)))
 
-  raised : (way : Way) (character count : ℕ) → AreAbout Up s.targets low way character count → count ≤ high - low → AreOf way character count whole → ArePart character part whole → MayAdvanceEach events prepared (range_with_len low (high - low)) → low < high → Raised
-  raised Up character count told few of p may some =
+  raised : (kind : Kind) (way : Way) (character count : ℕ) → AreAbout Up s.targets low way kind character count → count ≤ high - low → AreOf way character count whole → ArePart character part whole → MayAdvanceEach events prepared (range_with_len low (high - low)) → low < high → Raised kind
+  raised kind Up character count told few of p may some =
       let most = part_few Up character count whole part of p in
       let filled = most.0 in
       let within = most.1 in
@@ -35,11 +36,11 @@ module _ (b : ℕ) (events : List (Applied ℕ)) (s : Kept) (prepared : List ℕ
       let f = p.first in
       let lo = p.low in
       let is : part.from ≡ character = omega (arith, a, f, lo) in
-      let go : GoUp s low part.from n = λ i m k lt e g. told i m k (omega (arith, lt, within)) e (omega (arith, g, is)) in
+      let go : GoUp s kind low part.from n = λ i m k lt e g. told i m k (omega (arith, lt, within)) e (omega (arith, g, is)) in
       let on : part.from + n ≡ part.to = omega (arith, filled) in
-      subst (λ (k : ℕ). Advanced (changed_span s part.from k Raise) b events prepared (range_with_len low (high - low)) (range_with_len (low + n) (high - (low + n)))) on
-      (advance_front_up b events s prepared low n high part.from (omega (arith, within, few, some)) st go may)
-  raised Down character count told few of p may some =
+      subst (λ (k : ℕ). Advanced (changed_span s kind part.from k Raise) b events prepared (range_with_len low (high - low)) (range_with_len (low + n) (high - (low + n)))) on
+      (advance_front_up b events kind s prepared low n high part.from (omega (arith, within, few, some)) st go may)
+  raised kind Down character count told few of p may some =
       let most = part_few Down character count whole part of p in
       let filled = most.0 in
       let within = most.1 in
@@ -47,24 +48,24 @@ module _ (b : ℕ) (events : List (Applied ℕ)) (s : Kept) (prepared : List ℕ
       let l = p.last in
       let hi = p.high in
       let is : part.to ≡ character + 1 = omega (arith, z, l, hi) in
-      let go : GoDown s low part.from n = λ i m k lt e g. told i m k (omega (arith, lt, within)) e (omega (arith, g, is, filled)) in
+      let go : GoDown s kind low part.from n = λ i m k lt e g. told i m k (omega (arith, lt, within)) e (omega (arith, g, is, filled)) in
       let on : part.from + n ≡ part.to = omega (arith, filled) in
-      subst (λ (k : ℕ). Advanced (changed_span s part.from k Raise) b events prepared (range_with_len low (high - low)) (range_with_len (low + n) (high - (low + n)))) on
-      (advance_front_down b events s prepared low n high part.from (omega (arith, within, few, some)) st go may)
+      subst (λ (k : ℕ). Advanced (changed_span s kind part.from k Raise) b events prepared (range_with_len low (high - low)) (range_with_len (low + n) (high - (low + n)))) on
+      (advance_front_down b events kind s prepared low n high part.from (omega (arith, within, few, some)) st go may)
 
-  pub line_raised : (line : Line) → IsLineFrom Up s.targets low (high - low) line → AreOf line.way line.character line.count whole → ArePart line.character part whole → MayAdvanceEach events prepared (range_with_len low (high - low)) → low < high → Raised
+  pub line_raised : (line : Line) → IsLineFrom Up s.targets low (high - low) line → AreOf line.way line.character line.count whole → ArePart line.character part whole → MayAdvanceEach events prepared (range_with_len low (high - low)) → low < high → Raised line.kind
   line_raised line from of p may some =
       let most = part_few line.way line.character line.count whole part of p in
       let one = most.0 in
       let few = most.1 in
       let filled : 0 < line.count = omega (arith, one, few) in
-      raised line.way line.character line.count (subst (λ (k : ℕ). AreAbout Up s.targets k line.way line.character line.count) (from.begins filled) from.told) from.few of p may some
+      raised line.kind line.way line.character line.count (subst (λ (k : ℕ). AreAbout Up s.targets k line.way line.kind line.character line.count) (from.begins filled) from.told) from.few of p may some
 
-  abbrev Lowered : Type 0
-  Lowered = Retreated (changed_span s part.from part.to Lower) b events prepared (reverse (range_with_len low (high - low))) (reverse (range_with_len low ((high - n) - low)))
+  abbrev Lowered : Kind → Type 0
+  Lowered kind = Retreated (changed_span s kind part.from part.to Lower) b events prepared (reverse (range_with_len low (high - low))) (reverse (range_with_len low ((high - n) - low)))
 
-  lowered : (way : Way) (character count : ℕ) → AreAbout Down s.targets (high - 1) way character count → count ≤ high - low → AreOf way character count whole → ArePart character part whole → MayRetreatEach events prepared (reverse (range_with_len low (high - low))) → low < high → Lowered
-  lowered Up character count told few of p may some =
+  lowered : (kind : Kind) (way : Way) (character count : ℕ) → AreAbout Down s.targets (high - 1) way kind character count → count ≤ high - low → AreOf way character count whole → ArePart character part whole → MayRetreatEach events prepared (reverse (range_with_len low (high - low))) → low < high → Lowered kind
+  lowered kind Up character count told few of p may some =
       let most = part_few Up character count whole part of p in
       let filled = most.0 in
       let within = most.1 in
@@ -73,11 +74,11 @@ module _ (b : ℕ) (events : List (Applied ℕ)) (s : Kept) (prepared : List ℕ
       let lo = p.low in
       let is : part.from ≡ character = omega (arith, a, f, lo) in
       let back : (high - n) + n ≡ high = omega (arith, within, few, some) in
-      let go : GoDown s (high - n) part.from n = λ i m k lt e g. told (n - 1 - i) m k (omega (arith, lt, within)) (omega (arith, lt, e, back)) (omega (arith, lt, g, is)) in
+      let go : GoDown s kind (high - n) part.from n = λ i m k lt e g. told (n - 1 - i) m k (omega (arith, lt, within)) (omega (arith, lt, e, back)) (omega (arith, lt, g, is)) in
       let on : part.from + n ≡ part.to = omega (arith, filled) in
-      subst (λ (k : ℕ). Retreated (changed_span s part.from k Lower) b events prepared (reverse (range_with_len low (high - low))) (reverse (range_with_len low ((high - n) - low)))) on
-      (retreat_back_down b events s prepared low (high - n) n high part.from (omega (arith, within, few, some)) back st go may)
-  lowered Down character count told few of p may some =
+      subst (λ (k : ℕ). Retreated (changed_span s kind part.from k Lower) b events prepared (reverse (range_with_len low (high - low))) (reverse (range_with_len low ((high - n) - low)))) on
+      (retreat_back_down b events kind s prepared low (high - n) n high part.from (omega (arith, within, few, some)) back st go may)
+  lowered kind Down character count told few of p may some =
       let most = part_few Down character count whole part of p in
       let filled = most.0 in
       let within = most.1 in
@@ -86,15 +87,15 @@ module _ (b : ℕ) (events : List (Applied ℕ)) (s : Kept) (prepared : List ℕ
       let hi = p.high in
       let is : part.to ≡ character + 1 = omega (arith, z, l, hi) in
       let back : (high - n) + n ≡ high = omega (arith, within, few, some) in
-      let go : GoUp s (high - n) part.from n = λ i m k lt e g. told (n - 1 - i) m k (omega (arith, lt, within)) (omega (arith, lt, e, back)) (omega (arith, lt, g, is, filled)) in
+      let go : GoUp s kind (high - n) part.from n = λ i m k lt e g. told (n - 1 - i) m k (omega (arith, lt, within)) (omega (arith, lt, e, back)) (omega (arith, lt, g, is, filled)) in
       let on : part.from + n ≡ part.to = omega (arith, filled) in
-      subst (λ (k : ℕ). Retreated (changed_span s part.from k Lower) b events prepared (reverse (range_with_len low (high - low))) (reverse (range_with_len low ((high - n) - low)))) on
-      (retreat_back_up b events s prepared low (high - n) n high part.from (omega (arith, within, few, some)) back st go may)
+      subst (λ (k : ℕ). Retreated (changed_span s kind part.from k Lower) b events prepared (reverse (range_with_len low (high - low))) (reverse (range_with_len low ((high - n) - low)))) on
+      (retreat_back_up b events kind s prepared low (high - n) n high part.from (omega (arith, within, few, some)) back st go may)
 
-  pub line_lowered : (line : Line) → IsLineFrom Down s.targets (high - 1) (high - low) line → AreOf line.way line.character line.count whole → ArePart line.character part whole → MayRetreatEach events prepared (reverse (range_with_len low (high - low))) → low < high → Lowered
+  pub line_lowered : (line : Line) → IsLineFrom Down s.targets (high - 1) (high - low) line → AreOf line.way line.character line.count whole → ArePart line.character part whole → MayRetreatEach events prepared (reverse (range_with_len low (high - low))) → low < high → Lowered line.kind
   line_lowered line from of p may some =
       let most = part_few line.way line.character line.count whole part of p in
       let one = most.0 in
       let few = most.1 in
       let filled : 0 < line.count = omega (arith, one, few) in
-      lowered line.way line.character line.count (subst (λ (k : ℕ). AreAbout Down s.targets k line.way line.character line.count) (from.begins filled) from.told) from.few of p may some
+      lowered line.kind line.way line.character line.count (subst (λ (k : ℕ). AreAbout Down s.targets k line.way line.kind line.character line.count) (from.begins filled) from.told) from.few of p may some

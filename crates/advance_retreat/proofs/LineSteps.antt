@@ -19,7 +19,7 @@ away_one Down n steps m k a e = omega (arith, a, e)
 -- the rest of a line
 pub left_behind : (order : Way) (targets : List Target) (line : Line) (first most left next event character passed : ℕ) → IsLineFrom order targets first most line → (0 < left → IsAway order first passed next) → most ≡ left + passed → passed < line.count
     → IsAway order line.event passed event → IsAway line.way line.character passed character
-    → IsLineFrom order targets next left (record { event = event; way = line.way; character = character; count = line.count - passed })
+    → IsLineFrom order targets next left (record { event = event; way = line.way; kind = line.kind; character = character; count = line.count - passed })
 left_behind order targets line first most left next event character passed from away parts lt a c =
     let few = from.few in
     let some : 0 < line.count = omega (arith, lt) in

@@ -38,7 +38,8 @@ more_events way v lv steps (suc count) =
 -- of a run of one event any way is the same
 at_first : (way : Way) (v : Node) → node_from way v 0 ≡ v
 at_first way Root = refl
-at_first way (Base i) = refl
+at_first Up (Base n) = let same : n + 0 ≡ n = omega arith in ap Base same
+at_first Down (Base n) = let same : n - 0 ≡ n = omega arith in ap Base same
 at_first Up (Event n) = let same : n + 0 ≡ n = omega arith in ap Event same
 at_first Down (Event n) = let same : n - 0 ≡ n = omega arith in ap Event same
 
@@ -94,7 +95,8 @@ pushed rs lv v are fits nodes below =
 -- a way that is long enough is so for fewer steps
 fewer_nodes : (way : Way) (v : Node) (more less : ℕ) → less ≤ more → HasNodes way v more → HasNodes way v less
 fewer_nodes way Root more less le h = tt
-fewer_nodes way (Base i) more less le h = tt
+fewer_nodes Up (Base n) more less le h = omega (arith, le, h)
+fewer_nodes Down (Base n) more less le h = omega (arith, le, h)
 fewer_nodes Up (Event n) more less le h = omega (arith, le, h)
 fewer_nodes Down (Event n) more less le h = omega (arith, le, h)
 

@@ -2,7 +2,6 @@
 use Rattle.std.proofs.Common.{◌≡◌, ℕ, zero, suc, ◌+◌, ◌-◌, ◌<◌, ◌≤◌, List, [], ◌∷◌, ◌++◌, map, reverse, Some, refl, sym, ap, ◌∙◌, subst, append_assoc, arith, Result, OnErr}
 use Rattle.std.specs.List.{range_with_len}
 use Rattle.std.proofs.lemmas.List.{reverse-append}
-use Rattle.ew_model.specs.declared.node.Node.TheVariants.{Event}
 use Rattle.ew_model.specs.Tree.{Applied}
 use Rattle.ew_model.specs.Records.{without}
 use Rattle.ew_model.specs.Moves.{after_advances, after_retreats}
@@ -10,10 +9,11 @@ use Rattle.fugue_place.specs.Attachments.{node_eq}
 use Rattle.character_runs.specs.declared.change.Change.{Change}
 use Rattle.character_runs.specs.declared.change.Change.TheVariants.{Raise, Lower}
 use Rattle.advance_retreat.specs.Kept.{Kept, target_at}
-use Rattle.character_runs.specs.Replacing.{changed_among, is_event_in}
+use Rattle.character_runs.specs.declared.change.Kind.{Kind}
+use Rattle.character_runs.specs.Replacing.{changed_among, node_by, is_in}
 use Rattle.advance_retreat.specs.Standing.{StandsFor}
 use Rattle.advance_retreat.specs.Conditions.{MayAdvanceEach, MayRetreatEach, Advanced, Retreated, PartAdvanced, PartRetreated}
-use Rattle.character_runs.proofs.EventSpans.{none_between, none_among, in_turn, event_low, low_apart, event_high, high_apart}
+use Rattle.character_runs.proofs.Spans.{none_between, none_among, in_turn, one_lower, low_apart, one_higher, high_apart}
 use Rattle.advance_retreat.proofs.Moving.{with_records, changed_state, advanced_by, retreated_by}
 use Rattle.ew_model.proofs.Ranges.{range_joined, range_first}
 use Rattle.ew_model.proofs.Outcomes.{on_err}
@@ -49,19 +49,19 @@ falling_first low last high le next =
     let on : low + (last - low) ≡ last = omega (arith, le) in
     ap (λ (n : ℕ). reverse (range_with_len low n)) long ∙ falling_more low (last - low) ∙ ap (λ (n : ℕ). n ∷ reverse (range_with_len low (last - low))) on
 
--- the characters of the events at these positions are changed
-abbrev pub changed_span : Kept → ℕ → ℕ → Change → Kept
-changed_span s low high change = with_records s (map (changed_among (is_event_in low high) change) s.records)
+-- the characters of a kind with such numbers are changed
+abbrev pub changed_span : Kept → Kind → ℕ → ℕ → Change → Kept
+changed_span s kind low high change = with_records s (map (changed_among (is_in kind low high) change) s.records)
 
-same_records : (s : Kept) (low high : ℕ) (change : Change) → high ≤ low → changed_span s low high change ≡ s
-same_records s low high change le = ap (with_records s) (none_among change (is_event_in low high) (none_between low high le) s.records)
+same_records : (s : Kept) (kind : Kind) (low high : ℕ) (change : Change) → high ≤ low → changed_span s kind low high change ≡ s
+same_records s kind low high change le = ap (with_records s) (none_among change (is_in kind low high) (none_between kind low high le) s.records)
 
 -- so many events from one on are about characters that go up with them, from c on, or down, to c
-abbrev pub GoUp : Kept → ℕ → ℕ → ℕ → Type 0
-GoUp s low c n = (i m k : ℕ) → i < n → m ≡ low + i → k ≡ c + i → target_at s.targets m ≡ Some (Event k)
+abbrev pub GoUp : Kept → Kind → ℕ → ℕ → ℕ → Type 0
+GoUp s kind low c n = (i m k : ℕ) → i < n → m ≡ low + i → k ≡ c + i → target_at s.targets m ≡ Some (node_by kind k)
 
-abbrev pub GoDown : Kept → ℕ → ℕ → ℕ → Type 0
-GoDown s low c n = (i m k : ℕ) → i < n → m ≡ low + i → k + i + 1 ≡ c + n → target_at s.targets m ≡ Some (Event k)
+abbrev pub GoDown : Kept → Kind → ℕ → ℕ → ℕ → Type 0
+GoDown s kind low c n = (i m k : ℕ) → i < n → m ≡ low + i → k + i + 1 ≡ c + n → target_at s.targets m ≡ Some (node_by kind k)
 
 -- MOVES IN PARTS
 pub advances-append : (prepared xs ys : List ℕ) → after_advances prepared (xs ++ ys) ≡ after_advances (after_advances prepared xs) ys
@@ -135,47 +135,47 @@ module _ (b : ℕ) (events : List (Applied ℕ)) (prepared all : List ℕ) where
 module _ (b : ℕ) (events : List (Applied ℕ)) where
   -- ADVANCES
   -- events whose characters go up with them, from c on
-  advance_up : (n low c high : ℕ) (s : Kept) (prepared rest : List ℕ) → c + n ≡ high → StandsFor s b events prepared → GoUp s low c n → MayAdvanceEach events prepared (range_with_len low n ++ rest)
-      → Advanced (changed_span s c high Raise) b events prepared (range_with_len low n ++ rest) rest
-  advance_up zero low c high s prepared rest long st told may =
-      subst (λ (t : Kept). Advanced t b events prepared rest rest) (sym (same_records s c high Raise (omega (arith, long)))) (record { made = []; parts = refl; now = prepared; is = refl; stands = st; may = may })
-  advance_up (suc n) low c high s prepared rest long st told may =
-      let one = changed_state s (Event c) Raise in
-      let stands : StandsFor one b events (low ∷ prepared) = advanced_by s b events prepared st low (Event c) (told 0 low c (omega arith) (omega arith) (omega arith)) may.0.0 may.0.1 in
-      let later = advance_up n (low + 1) (c + 1) high one (low ∷ prepared) rest (omega (arith, long)) stands (λ i m k lt e f. told (i + 1) m k (omega (arith, lt)) (omega (arith, e)) (omega (arith, f))) may.1 in
-      let records = in_turn Raise (is_event_in c high) (λ v. node_eq v (Event c)) (is_event_in (c + 1) high) (event_low c high (omega (arith, long))) (low_apart c high) s.records in
+  advance_up : (kind : Kind) (n low c high : ℕ) (s : Kept) (prepared rest : List ℕ) → c + n ≡ high → StandsFor s b events prepared → GoUp s kind low c n → MayAdvanceEach events prepared (range_with_len low n ++ rest)
+      → Advanced (changed_span s kind c high Raise) b events prepared (range_with_len low n ++ rest) rest
+  advance_up kind zero low c high s prepared rest long st told may =
+      subst (λ (t : Kept). Advanced t b events prepared rest rest) (sym (same_records s kind c high Raise (omega (arith, long)))) (record { made = []; parts = refl; now = prepared; is = refl; stands = st; may = may })
+  advance_up kind (suc n) low c high s prepared rest long st told may =
+      let one = changed_state s (node_by kind c) Raise in
+      let stands : StandsFor one b events (low ∷ prepared) = advanced_by s b events prepared st low (node_by kind c) (told 0 low c (omega arith) (omega arith) (omega arith)) may.0.0 may.0.1 in
+      let later = advance_up kind n (low + 1) (c + 1) high one (low ∷ prepared) rest (omega (arith, long)) stands (λ i m k lt e f. told (i + 1) m k (omega (arith, lt)) (omega (arith, e)) (omega (arith, f))) may.1 in
+      let records = in_turn Raise (is_in kind c high) (λ v. node_eq v (node_by kind c)) (is_in kind (c + 1) high) (one_lower kind c high (omega (arith, long))) (low_apart kind c high) s.records in
       subst (λ (t : Kept). Advanced t b events prepared (low ∷ (range_with_len (low + 1) n ++ rest)) rest) (ap (with_records s) records)
       (record { made = low ∷ later.made; parts = ap (λ (ps : List ℕ). low ∷ ps) later.parts; now = later.now; is = later.is; stands = later.stands; may = later.may })
 
   -- events whose characters go down, to c
-  advance_down : (n low c : ℕ) (s : Kept) (prepared rest : List ℕ) → StandsFor s b events prepared → GoDown s low c n → MayAdvanceEach events prepared (range_with_len low n ++ rest)
-      → Advanced (changed_span s c (c + n) Raise) b events prepared (range_with_len low n ++ rest) rest
-  advance_down zero low c s prepared rest st told may =
-      subst (λ (t : Kept). Advanced t b events prepared rest rest) (sym (same_records s c (c + 0) Raise (omega arith))) (record { made = []; parts = refl; now = prepared; is = refl; stands = st; may = may })
-  advance_down (suc n) low c s prepared rest st told may =
+  advance_down : (kind : Kind) (n low c : ℕ) (s : Kept) (prepared rest : List ℕ) → StandsFor s b events prepared → GoDown s kind low c n → MayAdvanceEach events prepared (range_with_len low n ++ rest)
+      → Advanced (changed_span s kind c (c + n) Raise) b events prepared (range_with_len low n ++ rest) rest
+  advance_down kind zero low c s prepared rest st told may =
+      subst (λ (t : Kept). Advanced t b events prepared rest rest) (sym (same_records s kind c (c + 0) Raise (omega arith))) (record { made = []; parts = refl; now = prepared; is = refl; stands = st; may = may })
+  advance_down kind (suc n) low c s prepared rest st told may =
       let top = c + n in
       let next : c + suc n ≡ top + 1 = omega arith in
-      let one = changed_state s (Event top) Raise in
-      let stands : StandsFor one b events (low ∷ prepared) = advanced_by s b events prepared st low (Event top) (told 0 low top (omega arith) (omega arith) (omega arith)) may.0.0 may.0.1 in
-      let later = advance_down n (low + 1) c one (low ∷ prepared) rest stands (λ i m k lt e f. told (i + 1) m k (omega (arith, lt)) (omega (arith, e)) (omega (arith, f))) may.1 in
-      let records = in_turn Raise (is_event_in c (top + 1)) (λ v. node_eq v (Event top)) (is_event_in c top) (event_high c top (omega arith)) (high_apart c top) s.records in
-      subst (λ (k : ℕ). Advanced (changed_span s c k Raise) b events prepared (low ∷ (range_with_len (low + 1) n ++ rest)) rest) (sym next)
+      let one = changed_state s (node_by kind top) Raise in
+      let stands : StandsFor one b events (low ∷ prepared) = advanced_by s b events prepared st low (node_by kind top) (told 0 low top (omega arith) (omega arith) (omega arith)) may.0.0 may.0.1 in
+      let later = advance_down kind n (low + 1) c one (low ∷ prepared) rest stands (λ i m k lt e f. told (i + 1) m k (omega (arith, lt)) (omega (arith, e)) (omega (arith, f))) may.1 in
+      let records = in_turn Raise (is_in kind c (top + 1)) (λ v. node_eq v (node_by kind top)) (is_in kind c top) (one_higher kind c top (omega arith)) (high_apart kind c top) s.records in
+      subst (λ (k : ℕ). Advanced (changed_span s kind c k Raise) b events prepared (low ∷ (range_with_len (low + 1) n ++ rest)) rest) (sym next)
       (subst (λ (t : Kept). Advanced t b events prepared (low ∷ (range_with_len (low + 1) n ++ rest)) rest) (ap (with_records s) records)
       (record { made = low ∷ later.made; parts = ap (λ (ps : List ℕ). low ∷ ps) later.parts; now = later.now; is = later.is; stands = later.stands; may = later.may }))
 
-  pub advance_front_up : (s : Kept) (prepared : List ℕ) (low n high c : ℕ) → low + n ≤ high → StandsFor s b events prepared → GoUp s low c n → MayAdvanceEach events prepared (range_with_len low (high - low))
-      → Advanced (changed_span s c (c + n) Raise) b events prepared (range_with_len low (high - low)) (range_with_len (low + n) (high - (low + n)))
-  advance_front_up s prepared low n high c le st told may =
+  pub advance_front_up : (kind : Kind) (s : Kept) (prepared : List ℕ) (low n high c : ℕ) → low + n ≤ high → StandsFor s b events prepared → GoUp s kind low c n → MayAdvanceEach events prepared (range_with_len low (high - low))
+      → Advanced (changed_span s kind c (c + n) Raise) b events prepared (range_with_len low (high - low)) (range_with_len (low + n) (high - (low + n)))
+  advance_front_up kind s prepared low n high c le st told may =
       let parts = front_parted low n high le in
-      subst (λ (ps : List ℕ). Advanced (changed_span s c (c + n) Raise) b events prepared ps (range_with_len (low + n) (high - (low + n)))) (sym parts)
-      (advance_up n low c (c + n) s prepared (range_with_len (low + n) (high - (low + n))) refl st told (subst (MayAdvanceEach events prepared) parts may))
+      subst (λ (ps : List ℕ). Advanced (changed_span s kind c (c + n) Raise) b events prepared ps (range_with_len (low + n) (high - (low + n)))) (sym parts)
+      (advance_up kind n low c (c + n) s prepared (range_with_len (low + n) (high - (low + n))) refl st told (subst (MayAdvanceEach events prepared) parts may))
 
-  pub advance_front_down : (s : Kept) (prepared : List ℕ) (low n high c : ℕ) → low + n ≤ high → StandsFor s b events prepared → GoDown s low c n → MayAdvanceEach events prepared (range_with_len low (high - low))
-      → Advanced (changed_span s c (c + n) Raise) b events prepared (range_with_len low (high - low)) (range_with_len (low + n) (high - (low + n)))
-  advance_front_down s prepared low n high c le st told may =
+  pub advance_front_down : (kind : Kind) (s : Kept) (prepared : List ℕ) (low n high c : ℕ) → low + n ≤ high → StandsFor s b events prepared → GoDown s kind low c n → MayAdvanceEach events prepared (range_with_len low (high - low))
+      → Advanced (changed_span s kind c (c + n) Raise) b events prepared (range_with_len low (high - low)) (range_with_len (low + n) (high - (low + n)))
+  advance_front_down kind s prepared low n high c le st told may =
       let parts = front_parted low n high le in
-      subst (λ (ps : List ℕ). Advanced (changed_span s c (c + n) Raise) b events prepared ps (range_with_len (low + n) (high - (low + n)))) (sym parts)
-      (advance_down n low c s prepared (range_with_len (low + n) (high - (low + n))) st told (subst (MayAdvanceEach events prepared) parts may))
+      subst (λ (ps : List ℕ). Advanced (changed_span s kind c (c + n) Raise) b events prepared ps (range_with_len (low + n) (high - (low + n)))) (sym parts)
+      (advance_down kind n low c s prepared (range_with_len (low + n) (high - (low + n))) st told (subst (MayAdvanceEach events prepared) parts may))
 
   pub advance_one : (t : Kept) (prepared : List ℕ) (low high : ℕ) → low < high → MayAdvanceEach events prepared (range_with_len low (high - low)) → StandsFor t b events (low ∷ prepared)
       → Advanced t b events prepared (range_with_len low (high - low)) (range_with_len (low + 1) (high - (low + 1)))
@@ -191,55 +191,55 @@ module _ (b : ℕ) (events : List (Applied ℕ)) where
 
   -- RETREATS
   -- events whose characters go up with them, from c on
-  retreat_up : (n low c : ℕ) (s : Kept) (prepared rest : List ℕ) → StandsFor s b events prepared → GoUp s low c n → MayRetreatEach events prepared (reverse (range_with_len low n) ++ rest)
-      → Retreated (changed_span s c (c + n) Lower) b events prepared (reverse (range_with_len low n) ++ rest) rest
-  retreat_up zero low c s prepared rest st told may =
-      subst (λ (t : Kept). Retreated t b events prepared rest rest) (sym (same_records s c (c + 0) Lower (omega arith))) (record { made = []; parts = refl; now = prepared; is = refl; stands = st; may = may })
-  retreat_up (suc n) low c s prepared rest st told may =
+  retreat_up : (kind : Kind) (n low c : ℕ) (s : Kept) (prepared rest : List ℕ) → StandsFor s b events prepared → GoUp s kind low c n → MayRetreatEach events prepared (reverse (range_with_len low n) ++ rest)
+      → Retreated (changed_span s kind c (c + n) Lower) b events prepared (reverse (range_with_len low n) ++ rest) rest
+  retreat_up kind zero low c s prepared rest st told may =
+      subst (λ (t : Kept). Retreated t b events prepared rest rest) (sym (same_records s kind c (c + 0) Lower (omega arith))) (record { made = []; parts = refl; now = prepared; is = refl; stands = st; may = may })
+  retreat_up kind (suc n) low c s prepared rest st told may =
       let last = low + n in
       let top = c + n in
       let next : c + suc n ≡ top + 1 = omega arith in
       let falls : reverse (range_with_len low (suc n)) ++ rest ≡ last ∷ (reverse (range_with_len low n) ++ rest) = ap (λ (ps : List ℕ). ps ++ rest) (falling_more low n) in
       let allowed = subst (MayRetreatEach events prepared) falls may in
-      let one = changed_state s (Event top) Lower in
-      let stands : StandsFor one b events (without last prepared) = retreated_by s b events prepared st last (Event top) (told n last top (omega arith) refl refl) allowed.0.0 allowed.0.1 in
-      let later = retreat_up n low c one (without last prepared) rest stands (λ i m k lt e f. told i m k (omega (arith, lt)) e f) allowed.1 in
-      let records = in_turn Lower (is_event_in c (top + 1)) (λ v. node_eq v (Event top)) (is_event_in c top) (event_high c top (omega arith)) (high_apart c top) s.records in
-      subst (λ (ps : List ℕ). Retreated (changed_span s c (c + suc n) Lower) b events prepared ps rest) (sym falls)
-      (subst (λ (k : ℕ). Retreated (changed_span s c k Lower) b events prepared (last ∷ (reverse (range_with_len low n) ++ rest)) rest) (sym next)
+      let one = changed_state s (node_by kind top) Lower in
+      let stands : StandsFor one b events (without last prepared) = retreated_by s b events prepared st last (node_by kind top) (told n last top (omega arith) refl refl) allowed.0.0 allowed.0.1 in
+      let later = retreat_up kind n low c one (without last prepared) rest stands (λ i m k lt e f. told i m k (omega (arith, lt)) e f) allowed.1 in
+      let records = in_turn Lower (is_in kind c (top + 1)) (λ v. node_eq v (node_by kind top)) (is_in kind c top) (one_higher kind c top (omega arith)) (high_apart kind c top) s.records in
+      subst (λ (ps : List ℕ). Retreated (changed_span s kind c (c + suc n) Lower) b events prepared ps rest) (sym falls)
+      (subst (λ (k : ℕ). Retreated (changed_span s kind c k Lower) b events prepared (last ∷ (reverse (range_with_len low n) ++ rest)) rest) (sym next)
       (subst (λ (t : Kept). Retreated t b events prepared (last ∷ (reverse (range_with_len low n) ++ rest)) rest) (ap (with_records s) records)
       (record { made = last ∷ later.made; parts = ap (λ (ps : List ℕ). last ∷ ps) later.parts; now = later.now; is = later.is; stands = later.stands; may = later.may })))
 
   -- events whose characters go down, to c
-  retreat_down : (n low c high : ℕ) (s : Kept) (prepared rest : List ℕ) → c + n ≡ high → StandsFor s b events prepared → GoDown s low c n → MayRetreatEach events prepared (reverse (range_with_len low n) ++ rest)
-      → Retreated (changed_span s c high Lower) b events prepared (reverse (range_with_len low n) ++ rest) rest
-  retreat_down zero low c high s prepared rest long st told may =
-      subst (λ (t : Kept). Retreated t b events prepared rest rest) (sym (same_records s c high Lower (omega (arith, long)))) (record { made = []; parts = refl; now = prepared; is = refl; stands = st; may = may })
-  retreat_down (suc n) low c high s prepared rest long st told may =
+  retreat_down : (kind : Kind) (n low c high : ℕ) (s : Kept) (prepared rest : List ℕ) → c + n ≡ high → StandsFor s b events prepared → GoDown s kind low c n → MayRetreatEach events prepared (reverse (range_with_len low n) ++ rest)
+      → Retreated (changed_span s kind c high Lower) b events prepared (reverse (range_with_len low n) ++ rest) rest
+  retreat_down kind zero low c high s prepared rest long st told may =
+      subst (λ (t : Kept). Retreated t b events prepared rest rest) (sym (same_records s kind c high Lower (omega (arith, long)))) (record { made = []; parts = refl; now = prepared; is = refl; stands = st; may = may })
+  retreat_down kind (suc n) low c high s prepared rest long st told may =
       let last = low + n in
       let falls : reverse (range_with_len low (suc n)) ++ rest ≡ last ∷ (reverse (range_with_len low n) ++ rest) = ap (λ (ps : List ℕ). ps ++ rest) (falling_more low n) in
       let allowed = subst (MayRetreatEach events prepared) falls may in
-      let one = changed_state s (Event c) Lower in
-      let stands : StandsFor one b events (without last prepared) = retreated_by s b events prepared st last (Event c) (told n last c (omega arith) refl (omega arith)) allowed.0.0 allowed.0.1 in
-      let later = retreat_down n low (c + 1) high one (without last prepared) rest (omega (arith, long)) stands (λ i m k lt e f. told i m k (omega (arith, lt)) e (omega (arith, f))) allowed.1 in
-      let records = in_turn Lower (is_event_in c high) (λ v. node_eq v (Event c)) (is_event_in (c + 1) high) (event_low c high (omega (arith, long))) (low_apart c high) s.records in
-      subst (λ (ps : List ℕ). Retreated (changed_span s c high Lower) b events prepared ps rest) (sym falls)
+      let one = changed_state s (node_by kind c) Lower in
+      let stands : StandsFor one b events (without last prepared) = retreated_by s b events prepared st last (node_by kind c) (told n last c (omega arith) refl (omega arith)) allowed.0.0 allowed.0.1 in
+      let later = retreat_down kind n low (c + 1) high one (without last prepared) rest (omega (arith, long)) stands (λ i m k lt e f. told i m k (omega (arith, lt)) e (omega (arith, f))) allowed.1 in
+      let records = in_turn Lower (is_in kind c high) (λ v. node_eq v (node_by kind c)) (is_in kind (c + 1) high) (one_lower kind c high (omega (arith, long))) (low_apart kind c high) s.records in
+      subst (λ (ps : List ℕ). Retreated (changed_span s kind c high Lower) b events prepared ps rest) (sym falls)
       (subst (λ (t : Kept). Retreated t b events prepared (last ∷ (reverse (range_with_len low n) ++ rest)) rest) (ap (with_records s) records)
       (record { made = last ∷ later.made; parts = ap (λ (ps : List ℕ). last ∷ ps) later.parts; now = later.now; is = later.is; stands = later.stands; may = later.may }))
 
-  pub retreat_back_up : (s : Kept) (prepared : List ℕ) (low mid n high c : ℕ) → low ≤ mid → mid + n ≡ high → StandsFor s b events prepared → GoUp s mid c n → MayRetreatEach events prepared (reverse (range_with_len low (high - low)))
-      → Retreated (changed_span s c (c + n) Lower) b events prepared (reverse (range_with_len low (high - low))) (reverse (range_with_len low (mid - low)))
-  retreat_back_up s prepared low mid n high c le on st told may =
+  pub retreat_back_up : (kind : Kind) (s : Kept) (prepared : List ℕ) (low mid n high c : ℕ) → low ≤ mid → mid + n ≡ high → StandsFor s b events prepared → GoUp s kind mid c n → MayRetreatEach events prepared (reverse (range_with_len low (high - low)))
+      → Retreated (changed_span s kind c (c + n) Lower) b events prepared (reverse (range_with_len low (high - low))) (reverse (range_with_len low (mid - low)))
+  retreat_back_up kind s prepared low mid n high c le on st told may =
       let parts = back_parted low mid n high le on in
-      subst (λ (ps : List ℕ). Retreated (changed_span s c (c + n) Lower) b events prepared ps (reverse (range_with_len low (mid - low)))) (sym parts)
-      (retreat_up n mid c s prepared (reverse (range_with_len low (mid - low))) st told (subst (MayRetreatEach events prepared) parts may))
+      subst (λ (ps : List ℕ). Retreated (changed_span s kind c (c + n) Lower) b events prepared ps (reverse (range_with_len low (mid - low)))) (sym parts)
+      (retreat_up kind n mid c s prepared (reverse (range_with_len low (mid - low))) st told (subst (MayRetreatEach events prepared) parts may))
 
-  pub retreat_back_down : (s : Kept) (prepared : List ℕ) (low mid n high c : ℕ) → low ≤ mid → mid + n ≡ high → StandsFor s b events prepared → GoDown s mid c n → MayRetreatEach events prepared (reverse (range_with_len low (high - low)))
-      → Retreated (changed_span s c (c + n) Lower) b events prepared (reverse (range_with_len low (high - low))) (reverse (range_with_len low (mid - low)))
-  retreat_back_down s prepared low mid n high c le on st told may =
+  pub retreat_back_down : (kind : Kind) (s : Kept) (prepared : List ℕ) (low mid n high c : ℕ) → low ≤ mid → mid + n ≡ high → StandsFor s b events prepared → GoDown s kind mid c n → MayRetreatEach events prepared (reverse (range_with_len low (high - low)))
+      → Retreated (changed_span s kind c (c + n) Lower) b events prepared (reverse (range_with_len low (high - low))) (reverse (range_with_len low (mid - low)))
+  retreat_back_down kind s prepared low mid n high c le on st told may =
       let parts = back_parted low mid n high le on in
-      subst (λ (ps : List ℕ). Retreated (changed_span s c (c + n) Lower) b events prepared ps (reverse (range_with_len low (mid - low)))) (sym parts)
-      (retreat_down n mid c (c + n) s prepared (reverse (range_with_len low (mid - low))) refl st told (subst (MayRetreatEach events prepared) parts may))
+      subst (λ (ps : List ℕ). Retreated (changed_span s kind c (c + n) Lower) b events prepared ps (reverse (range_with_len low (mid - low)))) (sym parts)
+      (retreat_down kind n mid c (c + n) s prepared (reverse (range_with_len low (mid - low))) refl st told (subst (MayRetreatEach events prepared) parts may))
 
   pub retreat_one : (t : Kept) (prepared : List ℕ) (low last high : ℕ) → low ≤ last → last + 1 ≡ high → MayRetreatEach events prepared (reverse (range_with_len low (high - low))) → StandsFor t b events (without last prepared)
       → Retreated t b events prepared (reverse (range_with_len low (high - low))) (reverse (range_with_len low (last - low)))

@@ -9,12 +9,16 @@ use Rattle.advance_retreat.specs.declared.run.Run.{Run}
 use Rattle.advance_retreat.specs.declared.target.Target.{Target}
 use Rattle.advance_retreat.specs.Kept.{target_at}
 
--- the character so many steps away from another; the root and a character of the base stay
+-- the number so many steps away from another
+abbrev pub number_from : Way → ℕ → ℕ → ℕ
+number_from Up n steps = n + steps
+number_from Down n steps = n - steps
+
+-- the character so many steps away from another, among the base characters or among the events'; the root stays
 abbrev pub node_from : Way → Node → ℕ → Node
 node_from way Root steps = Root
-node_from way (Base i) steps = Base i
-node_from Up (Event n) steps = Event (n + steps)
-node_from Down (Event n) steps = Event (n - steps)
+node_from way (Base n) steps = Base (number_from way n steps)
+node_from way (Event n) steps = Event (number_from way n steps)
 
 -- the event so many positions behind a first one, about the character so many steps from the first one's
 abbrev pub event_from : Way → Node → ℕ → ℕ → Target
@@ -33,12 +37,16 @@ events_in (r ∷ runs) = events_from r.way r.node r.first 0 (suc r.more) ++ even
 abbrev pub EndIn : List Run → Option Run → Type 0
 EndIn runs last = last ≡ None → runs ≡ []
 
--- so many steps from an event's node lead to nodes of events: on the way up their positions stay below 2^32, on the way down they don't go below 0
+-- so many steps lead to numbers: on the way up they stay below 2^32, on the way down they don't go below 0
+abbrev pub HasSteps : Way → ℕ → ℕ → Type 0
+HasSteps Up n more = n + more < 2 ^ 32
+HasSteps Down n more = more ≤ n
+
+-- so many steps from a character lead to others of its kind
 abbrev pub HasNodes : Way → Node → ℕ → Type 0
 HasNodes way Root more = Unit {0}
-HasNodes way (Base i) more = Unit {0}
-HasNodes Up (Event n) more = n + more < 2 ^ 32
-HasNodes Down (Event n) more = more ≤ n
+HasNodes way (Base n) more = HasSteps way n more
+HasNodes way (Event n) more = HasSteps way n more
 
 -- the runs stand one behind the other, from a position on. All positions are below 2^32, and there are nodes for all steps of a run
 abbrev pub AreRuns : ℕ → List Run → Type 0

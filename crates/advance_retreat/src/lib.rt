@@ -5,7 +5,7 @@
 //! and the tree of their nodes.
 //!
 //! Events at neighbouring positions move in one go where they inserted the characters of one run, or deleted characters of one run
-//! one after another, forwards or backwards. Any other event moves alone. Where all applied events are taken out of what is prepared
+//! one after another, forwards or backwards, whether events inserted these or they are of the base. Any other event moves alone. Where all applied events are taken out of what is prepared
 //! at once, one way over the runs does it.
 //!
 //! Insertions that go on from the one that was applied last, each right behind the one before, are applied in one go. So are deletions

@@ -1,10 +1,11 @@
-//! Events one after another that are about characters which were inserted one after another, forwards or backwards.
+//! Events one after another that are about characters with numbers one after another, forwards or backwards: events' characters
+//! by the positions of their insertions, base characters by their indexes.
 
 ghost use Rattle.std.specs.Prelude.{◌≡◌, ℕ, ◌+◌, ◌<◌, ◌≤◌, List, IfSome};
 ghost use Rattle.advance_retreat.specs.declared.target.Target.{Target};
 ghost use Rattle.advance_retreat.specs.Lines.{IsAway, IsLineFrom, AreOf};
 
-use character_runs::Positions;
+use character_runs::{Kind, Positions};
 
 /// Which way positions go.
 #[derive(Clone, Copy)]
@@ -25,17 +26,18 @@ impl Way {
     }
 }
 
-/// So many events, from one on, and the characters that they are about, from the first one's on.
+/// So many events, from one on, and the characters that they are about, all of one kind, from the first one's on.
 #[derive(Clone, Copy)]
 pub struct Line {
     pub event: u32,
     pub way: Way,
+    pub kind: Kind,
     pub character: u32,
     pub count: u32,
 }
 
 impl Line {
-    /// The positions of its characters.
+    /// The numbers of its characters.
     pub fn characters(self) -> Option<Positions>
         ensures { IfSome result (AreOf self.way self.character self.count) }
     {
@@ -54,6 +56,7 @@ impl Line {
         Some(Line {
             event,
             way: self.way,
+            kind: self.kind,
             character,
             count: self.count - passed,
         })
@@ -70,7 +73,7 @@ pub fn behind(line: Option<Line>, order: Way, passed: u32) -> Option<Line>
     }
 }
 
-/// The positions of so many characters, from one on, which go this way.
+/// The numbers of so many characters, from one on, which go this way.
 fn span(way: Way, character: u32, count: u32) -> Option<Positions>
     ensures { IfSome result (AreOf way character count) }
 {

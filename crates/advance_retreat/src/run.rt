@@ -1,16 +1,17 @@
 //! A run of applied events.
 
-ghost use Rattle.std.specs.Prelude.{◌≡◌, ◌+◌, ◌-◌, ◌≤◌, ◌<◌, ℕ, List, false, IsTrue, IfSome, IfNone};
+ghost use Rattle.std.specs.Prelude.{◌≡◌, ◌+◌, ◌-◌, ◌≤◌, ◌<◌, ℕ, suc, List, false, IsTrue, IfSome, IfNone};
 ghost use Rattle.advance_retreat.specs.declared.target.Target.{Target};
-ghost use Rattle.advance_retreat.specs.Runs.{node_from, HasNodes, HasEvent, HasRun, IsNextCharacter, GoesOn, IsTypedTo, way_in, count_from, alone};
+ghost use Rattle.advance_retreat.specs.Runs.{number_from, node_from, HasSteps, HasNodes, HasEvent, HasRun, IsNextCharacter, GoesOn, IsTypedTo, way_in, count_from, alone};
 ghost use Rattle.advance_retreat.specs.declared.line.Way.TheVariants as lines;
 ghost use Rattle.advance_retreat.specs.Lines.{IsLineFrom};
 
 use crate::line::{Line, Way};
+use character_runs::Kind;
 use ew_model::node::Node;
 
 /// Events at positions one after another. Each is about the character that is one further on its way than that of the event
-/// before it. (One event alone may be about a character of the base too, or about none.)
+/// before it, all of the base, or all of events. (Marks are about none.)
 #[derive(Clone, Copy)]
 pub struct Run {
     /// The position of the first event.
@@ -68,29 +69,27 @@ impl Run {
         ensures { result ≡ node_from self.way self.node (lv - self.first) }
     {
         let steps = lv - self.first;
-        match self.node {
-            Node::Root => Node::Root,
-            Node::Base(i) => Node::Base(i),
-            Node::Event(n) => match self.way {
-                Way::Up => Node::Event(n + steps),
-                Way::Down => Node::Event(n - steps),
-            },
+        match (self.node, self.way) {
+            (Node::Root, _) => Node::Root,
+            (Node::Base(n), Way::Up) => Node::Base(n + steps),
+            (Node::Base(n), Way::Down) => Node::Base(n - steps),
+            (Node::Event(n), Way::Up) => Node::Event(n + steps),
+            (Node::Event(n), Way::Down) => Node::Event(n - steps),
         }
     }
 
-    /// Its events from one on, at most so many. None where they are about no events' characters.
+    /// Its events from one on, at most so many. None where they are about no characters.
     pub fn line(self, event: u32, order: Way, most: u32) -> Option<Line>
         requires some { self.first ≤ event }
         requires most { event - self.first ≤ self.more }
         requires nodes { HasNodes self.way self.node self.more }
         ensures { (targets : List Target) → HasRun targets self → IfSome result (IsLineFrom order targets event most) }
     {
-        let Node::Event(character) = self.node_at(event) else {
-            return None;
-        };
+        let (kind, character) = Kind::of(self.node_at(event))?;
         Some(Line {
             event,
             way: self.way_in(order),
+            kind,
             character,
             count: most.min(self.count_from(event, order)),
         })
@@ -143,10 +142,9 @@ impl Run {
         ensures { IsTrue result → IsNextCharacter self node }
     {
         match (self.node, node) {
-            (Node::Event(first), Node::Event(next)) => match self.way {
-                Way::Up => next > first && next - first - 1 == self.more,
-                Way::Down => next < first && first - next - 1 == self.more,
-            },
+            (Node::Base(first), Node::Base(next)) | (Node::Event(first), Node::Event(next)) => {
+                is_one_further(self.way, first, self.more, next)
+            }
             _ => false,
         }
     }
@@ -162,5 +160,16 @@ impl Run {
             Way::Down => Way::Up,
         };
         Run { way, ..self }
+    }
+}
+
+/// Whether a number is one step further away from another than so many.
+fn is_one_further(way: Way, first: u32, more: u32, next: u32) -> bool
+    ensures number { IsTrue result → next ≡ number_from way first (suc more) }
+    ensures steps { IsTrue result → HasSteps way first (suc more) }
+{
+    match way {
+        Way::Up => next > first && next - first - 1 == more,
+        Way::Down => next < first && first - next - 1 == more,
     }
 }

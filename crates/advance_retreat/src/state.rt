@@ -567,7 +567,7 @@ impl State {
         let characters = line.characters()?;
         let moved = self
             .tree
-            .change_run(line.character, characters, Change::Raise)?;
+            .change_run(line.kind, line.character, characters, Change::Raise)?;
         Some(moved.to - moved.from)
     }
 
@@ -669,7 +669,7 @@ impl State {
         let characters = line.characters()?;
         let moved = self
             .tree
-            .change_run(line.character, characters, Change::Lower)?;
+            .change_run(line.kind, line.character, characters, Change::Lower)?;
         Some(moved.to - moved.from)
     }
 

@@ -65,7 +65,7 @@ impl Targets {
     }
 
     /// Where the memory is from.
-    pub fn allocator(&self) -> Global {
+    pub(crate) fn allocator(&self) -> Global {
         *self.later.allocator()
     }
 
@@ -116,8 +116,8 @@ impl Targets {
         }
     }
 
-    /// Events from one on, at most so many, about characters which were inserted one after another, forwards or backwards. None where
-    /// they are about no events' characters.
+    /// Events from one on, at most so many, about characters of one kind with numbers one after another, forwards or backwards. None
+    /// where they are about no characters.
     fn line(&mut self, event: u32, order: Way, most: u32) -> Option<Line>
         ensures line { IfSome result (IsLineFrom order self.old event most) }
         ensures same { self.new ≡ self.old }

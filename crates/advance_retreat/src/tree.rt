@@ -17,13 +17,13 @@ ghost use Rattle.character_runs.specs.States.{is_of, sees, visible_in, shown_in,
 ghost use Rattle.character_runs.specs.Laid.{records_in};
 ghost use Rattle.character_runs.specs.Loose.{loose_in, AreAmong};
 ghost use Rattle.advance_retreat.specs.Refusals.{is_told};
-ghost use Rattle.character_runs.specs.Replacing.{ArePart, changed_in};
+ghost use Rattle.character_runs.specs.Replacing.{ArePart, node_by, changed_in};
 ghost use Rattle.character_runs.specs.Resting.{rested};
 ghost use Rattle.right_children.specs.Rights.{HangWithin};
 ghost use Rattle.character_runs.specs.Spots.{IsSlot, IsDeletion, Comes, ComeEach};
 ghost use Rattle.advance_retreat.specs.Hanging.{has_known_right, has_next_base};
 
-use character_runs::{Change, Characters, Deletion, Deletions, KnownRights, Positions, Slot};
+use character_runs::{Change, Characters, Deletion, Deletions, Kind, KnownRights, Positions, Slot};
 use ew_model::NoMem;
 use ew_model::id::Id;
 use ew_model::node::Node;
@@ -185,24 +185,36 @@ impl Tree {
         Ok(())
     }
 
-    /// Changes the states of the run of an event's character, where all of its characters are of events at positions within
-    /// these. Answers the positions of those events.
-    pub fn change_run(&mut self, lv: u32, within: Positions, change: Change) -> Option<Positions>
+    /// Changes the states of the run of the character of a kind with a number, where all of its characters are of that kind, and
+    /// their numbers within these. Answers the numbers of those characters.
+    pub fn change_run(
+        &mut self,
+        kind: Kind,
+        number: u32,
+        within: Positions,
+        change: Change,
+    ) -> Option<Positions>
         requires room { AllByRecursion HasRoom self.old.records }
         requires few { length self.old.records ≤ 2 ^ 25 }
         requires sound { AreAttached [] self.old.attached }
         requires there { (n : ℕ) → list_any (is_of (nodes.Event n)) self.old.records ≡ true → is_there self.old.attached (nodes.Event n) ≡ true }
-        ensures part { IfSome result (λ p. ArePart lv p within) }
-        ensures told { IfSome result (λ p. (n : ℕ) → p.from ≤ n → n < p.to → list_any (is_of (nodes.Event n)) self.old.records ≡ true) }
-        ensures records { IfSome result (λ p. self.new.records ≡ map (changed_in p change) self.old.records) }
+        ensures part { IfSome result (λ p. ArePart number p within) }
+        ensures told { IfSome result (λ p. (n : ℕ) → p.from ≤ n → n < p.to → list_any (is_of (node_by kind n)) self.old.records ≡ true) }
+        ensures records { IfSome result (λ p. self.new.records ≡ map (changed_in kind p change) self.old.records) }
         ensures none { IfNone result (self.new ≡ self.old) }
         ensures attached { self.new.attached ≡ self.old.attached }
         ensures loose { (among : Nodes → Bool) → loose_in among self.new.runs ≡ loose_in among self.old.runs }
     {
-        let (positions, known) = self.characters.change_run(lv, within, change)?;
-        self.rights
-            .shift_each(positions.from, positions.to, known.was, known.is);
-        Some(positions)
+        let (numbers, known) = self.characters.change_run(kind, number, within, change)?;
+        match kind {
+            // The nodes of base characters hang nowhere.
+            Kind::OfBase => Some(numbers),
+            Kind::OfEvents => {
+                self.rights
+                    .shift_each(numbers.from, numbers.to, known.was, known.is);
+                Some(numbers)
+            }
+        }
     }
 
     /// Takes all events out of what is prepared. Those whose nodes hang are at these positions.

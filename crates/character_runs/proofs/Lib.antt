@@ -13,7 +13,6 @@ pub mod Cuts
 pub mod EmptyRuns
 pub mod Entered
 pub mod EventPositions
-pub mod EventSpans
 pub mod Exchanged
 pub mod ExchangedChars
 pub mod FewRuns
@@ -47,6 +46,7 @@ pub mod RunsAt
 pub mod Settled
 pub mod ShiftedEnds
 pub mod ShiftedFirsts
+pub mod Spans
 pub mod Splits
 pub mod Standings
 pub mod StruckEnds

@@ -4,6 +4,8 @@ use Rattle.ew_model.specs.declared.node.Node.{Node}
 use Rattle.ew_model.specs.declared.node.Node.TheVariants.{Root, Base, Event}
 use Rattle.walker_record.specs.Stretches.{Stretch, node_on, prepared_of, effect_of}
 use Rattle.character_runs.specs.declared.change.Change.{Change}
+use Rattle.character_runs.specs.declared.change.Kind.{Kind}
+use Rattle.character_runs.specs.declared.change.Kind.TheVariants.{OfBase, OfEvents}
 use Rattle.character_runs.specs.declared.change.Positions.{Positions}
 use Rattle.character_runs.specs.declared.runs.changing.Altered.{Altered}
 use Rattle.character_runs.specs.declared.runs.changing.Recasting.{Recasting}
@@ -52,33 +54,40 @@ abbrev pub are_inserted : Option Altered → Bool
 are_inserted None = false
 are_inserted (Some a) = is_inserted a.after
 
--- the node is that of an event at one of the positions from the first on that are below the second
-abbrev pub is_event_in : ℕ → ℕ → Node → Bool
-is_event_in low high Root = false
-is_event_in low high (Base i) = false
-is_event_in low high (Event n) = nat_le low n && nat_lt n high
+-- the node of the kind with the number: a base character's index, or an event's position
+abbrev pub node_by : Kind → ℕ → Node
+node_by OfBase n = Base n
+node_by OfEvents n = Event n
 
--- the records of such events are changed
-abbrev pub changed_in : Positions → Change → Stretch → Stretch
-changed_in at change r = changed_among (is_event_in at.from at.to) change r
+-- the node is of the kind, and its number is one from the first on that is below the second
+abbrev pub is_in : Kind → ℕ → ℕ → Node → Bool
+is_in kind low high Root = false
+is_in OfBase low high (Base n) = nat_le low n && nat_lt n high
+is_in OfBase low high (Event n) = false
+is_in OfEvents low high (Base n) = false
+is_in OfEvents low high (Event n) = nat_le low n && nat_lt n high
 
--- the position is one of these, all of which are among those
-pub record ArePart (position : ℕ) (these those : Positions) : Type 0 where
+-- the records of such nodes are changed
+abbrev pub changed_in : Kind → Positions → Change → Stretch → Stretch
+changed_in kind at change r = changed_among (is_in kind at.from at.to) change r
+
+-- the number is one of these, all of which are among those
+pub record ArePart (number : ℕ) (these those : Positions) : Type 0 where
   pub first : those.from ≤ these.from
   pub last : these.to ≤ those.to
-  pub low : these.from ≤ position
-  pub high : position < these.to
+  pub low : these.from ≤ number
+  pub high : number < these.to
 
--- the run's characters are those of events, all of them at positions among these
-pub record LiesWithin (run : Stretch) (within : Positions) : Type 0 where
-  pub position : ℕ
-  pub begins : run.from ≡ Event position
-  pub first : within.from ≤ position
-  pub last : position + run.len ≤ within.to
+-- the run's characters are of the kind, all of their numbers among these
+pub record LiesWithin (kind : Kind) (run : Stretch) (within : Positions) : Type 0 where
+  pub number : ℕ
+  pub begins : run.from ≡ node_by kind number
+  pub first : within.from ≤ number
+  pub last : number + run.len ≤ within.to
 
--- the run takes the change: it has the node's character, and all of its characters are of events at the positions
+-- the run takes the change: it has the node's character, and all of its characters are of the kind and have such numbers
 pub record Takes (c : Recasting) (run : Stretch) : Type 0 where
-  pub within : LiesWithin run c.within
+  pub within : LiesWithin c.kind run c.within
   pub offset : ℕ
   pub node : IsOffset run c.node offset
 

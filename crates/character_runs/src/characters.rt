@@ -17,11 +17,11 @@ ghost use Rattle.character_runs.specs.Entering.{attached_by, run_of, IsNewChild}
 ghost use Rattle.character_runs.specs.EventPositions.{event_positions};
 ghost use Rattle.character_runs.specs.Laid.{AreLabelled, IsOffset, chars_in, records_in};
 ghost use Rattle.character_runs.specs.Loose.{loose_in, is_one, AreAmong};
-ghost use Rattle.character_runs.specs.Replacing.{ArePart, LiesWithin, changed_in};
+ghost use Rattle.character_runs.specs.Replacing.{ArePart, LiesWithin, node_by, changed_in};
 ghost use Rattle.character_runs.specs.Resting.{rested};
 ghost use Rattle.character_runs.specs.Spots.{IsSlot, IsDeletion, Comes, ComeEach};
 
-use crate::change::{Change, Positions};
+use crate::change::{Change, Kind, Positions};
 use crate::cursor::{Cursor, Struck};
 use crate::runs::{Child, Counted, Known, Runs};
 use crate::slot::{KnownRights, Slot};
@@ -182,26 +182,27 @@ impl Characters {
         self.change_by::<Brand>(node, change, Blank::new(1))
     }
 
-    /// Changes the states of the run of an event's character, where all of its characters are of events at positions within
-    /// these. Answers the positions of those events, and whether they are inserted before and after. None, and nothing changes,
-    /// where there is no such run.
+    /// Changes the states of the run of the character of a kind with a number, where all of its characters are of that kind, and
+    /// their numbers within these. Answers the numbers of those characters, and whether they are inserted before and after. None,
+    /// and nothing changes, where there is no such run.
     pub fn change_run(
         &mut self,
-        position: u32,
+        kind: Kind,
+        number: u32,
         within: Positions,
         change: Change,
     ) -> Option<(Positions, Known)>
         requires { AllByRecursion HasRoom self.old.records }
-        ensures part { IfSome result (λ r. ArePart position r.0 within) }
-        ensures told { IfSome result (λ r. (n : ℕ) → r.0.from ≤ n → n < r.0.to → list_any (is_of (nodes.Event n)) self.old.records ≡ true) }
-        ensures records { IfSome result (λ r. self.new.records ≡ map (changed_in r.0 change) self.old.records) }
-        ensures was { IfSome result (λ r. (n : ℕ) → r.0.from ≤ n → n < r.0.to → knows self.old.records (nodes.Event n) ≡ r.1.was) }
-        ensures is { IfSome result (λ r. (n : ℕ) → r.0.from ≤ n → n < r.0.to → knows self.new.records (nodes.Event n) ≡ r.1.is) }
+        ensures part { IfSome result (λ r. ArePart number r.0 within) }
+        ensures told { IfSome result (λ r. (n : ℕ) → r.0.from ≤ n → n < r.0.to → list_any (is_of (node_by kind n)) self.old.records ≡ true) }
+        ensures records { IfSome result (λ r. self.new.records ≡ map (changed_in kind r.0 change) self.old.records) }
+        ensures was { IfSome result (λ r. (n : ℕ) → r.0.from ≤ n → n < r.0.to → knows self.old.records (node_by kind n) ≡ r.1.was) }
+        ensures is { IfSome result (λ r. (n : ℕ) → r.0.from ≤ n → n < r.0.to → knows self.new.records (node_by kind n) ≡ r.1.is) }
         ensures none { IfNone result (self.new ≡ self.old) }
-        ensures refused { IfNone result ((run : Stretch) (n : ℕ) → Contains self.old.runs run → IsOffset run (nodes.Event position) n → LiesWithin run within → ⊥) }
+        ensures refused { IfNone result ((run : Stretch) (n : ℕ) → Contains self.old.runs run → IsOffset run (node_by kind number) n → LiesWithin kind run within → ⊥) }
         ensures loose { (among : Nodes → Bool) → loose_in among self.new.runs ≡ loose_in among self.old.runs }
     {
-        self.change_run_by::<Brand>(position, within, change, Blank::new(1))
+        self.change_run_by::<Brand>(kind, number, within, change, Blank::new(1))
     }
 
     /// Puts the character of a new event at a place, and attaches its node. Answers its index in the text.
@@ -499,7 +500,8 @@ impl Characters {
 
     fn change_run_by<L: Ledger>(
         &mut self,
-        position: u32,
+        kind: Kind,
+        number: u32,
         within: Positions,
         change: Change,
         blank: Blank,
@@ -508,22 +510,24 @@ impl Characters {
         requires parts { blank.parts ≡ L.parts }
         requires some { 0 < blank.parts }
         requires room { AllByRecursion HasRoom self.old.records }
-        ensures part { IfSome result (λ r. ArePart position r.0 within) }
-        ensures told { IfSome result (λ r. (n : ℕ) → r.0.from ≤ n → n < r.0.to → list_any (is_of (nodes.Event n)) self.old.records ≡ true) }
-        ensures records { IfSome result (λ r. self.new.records ≡ map (changed_in r.0 change) self.old.records) }
-        ensures was { IfSome result (λ r. (n : ℕ) → r.0.from ≤ n → n < r.0.to → knows self.old.records (nodes.Event n) ≡ r.1.was) }
-        ensures is { IfSome result (λ r. (n : ℕ) → r.0.from ≤ n → n < r.0.to → knows self.new.records (nodes.Event n) ≡ r.1.is) }
+        ensures part { IfSome result (λ r. ArePart number r.0 within) }
+        ensures told { IfSome result (λ r. (n : ℕ) → r.0.from ≤ n → n < r.0.to → list_any (is_of (node_by kind n)) self.old.records ≡ true) }
+        ensures records { IfSome result (λ r. self.new.records ≡ map (changed_in kind r.0 change) self.old.records) }
+        ensures was { IfSome result (λ r. (n : ℕ) → r.0.from ≤ n → n < r.0.to → knows self.old.records (node_by kind n) ≡ r.1.was) }
+        ensures is { IfSome result (λ r. (n : ℕ) → r.0.from ≤ n → n < r.0.to → knows self.new.records (node_by kind n) ≡ r.1.is) }
         ensures none { IfNone result (self.new ≡ self.old) }
-        ensures refused { IfNone result ((run : Stretch) (n : ℕ) → Contains self.old.runs run → IsOffset run (nodes.Event position) n → LiesWithin run within → ⊥) }
+        ensures refused { IfNone result ((run : Stretch) (n : ℕ) → Contains self.old.runs run → IsOffset run (node_by kind number) n → LiesWithin kind run within → ⊥) }
         ensures loose { (among : Nodes → Bool) → loose_in among self.new.runs ≡ loose_in among self.old.runs }
     {
         let mut visits: Steps<L> = Steps::new(blank);
         settle(&mut self.runs, &self.cursor, &mut self.pending, &mut visits);
         self.cursor = None;
-        let recast = self.runs.change_run(position, within, change, &mut visits)?;
+        let recast = self
+            .runs
+            .change_run(kind, number, within, change, &mut visits)?;
         self.visible = recast.altered.visible(self.visible);
         self.shown = recast.altered.shown(self.shown);
-        Some((recast.positions, recast.altered.known()))
+        Some((recast.numbers, recast.altered.known()))
     }
 
     fn insert_by<L: Ledger>(

@@ -25,7 +25,7 @@ mod offsets;
 mod runs;
 mod slot;
 
-pub use change::{Change, Positions};
+pub use change::{Change, Kind, Positions};
 pub use characters::{Characters, Deletion, Deletions};
 pub use runs::Known;
 pub use slot::{KnownRights, Slot};

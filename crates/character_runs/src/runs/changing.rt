@@ -3,16 +3,15 @@
 ghost use Rattle.std.specs.Prelude.{◌≡◌, ◌+◌, ◌-◌, ◌<◌, ◌≤◌, ◌^◌, ℕ, List, map, length, Contains, Bool, true, IfOk, OnOk, OnErr, IfSome, IfNone};
 ghost use Rattle.std.specs.List.{AllByRecursion, list_any};
 ghost use Rattle.ew_model.specs.declared.node.Node.{Node as Nodes};
-ghost use Rattle.ew_model.specs.declared.node.Node.TheVariants as nodes;
 ghost use Rattle.walker_record.specs.Stretches.{Stretch, node_on, prepared_of, effect_of};
 ghost use Rattle.order_tree.specs.Pairs.{runs, IsRising, changed as with_run};
 ghost use Rattle.character_runs.specs.States.{is_inserted, is_of, knows, sees, changed, changed_at, HasRoom};
 ghost use Rattle.character_runs.specs.Deleting.{struck_each, AreAllAmong};
 ghost use Rattle.character_runs.specs.Laid.{Stands, IsOffset, AreLabelled, chars_in};
 ghost use Rattle.character_runs.specs.Loose.{loose_in, MayBeCut};
-ghost use Rattle.character_runs.specs.Replacing.{StaysOr, AreNodesOf, ArePart, Recounted, changed_among, changed_in, were_inserted, are_inserted, LiesWithin, Recasts, MayRecast};
+ghost use Rattle.character_runs.specs.Replacing.{StaysOr, AreNodesOf, ArePart, Recounted, node_by, changed_among, changed_in, were_inserted, are_inserted, LiesWithin, Recasts, MayRecast};
 
-use crate::change::{Change, Positions, changed};
+use crate::change::{Change, Kind, Positions, changed};
 use crate::offsets::{node_at, offset_in};
 use crate::runs::Runs;
 use crate::runs::reading::Found;
@@ -38,10 +37,10 @@ pub struct Known {
     pub is: bool,
 }
 
-/// The positions of a run's events, and the run before a change of their characters' states and after it.
+/// The numbers of a run's characters, and the run before a change of their characters' states and after it.
 #[derive(Clone, Copy)]
 pub struct Recast {
-    pub positions: Positions,
+    pub numbers: Positions,
     pub altered: Altered,
 }
 
@@ -75,17 +74,15 @@ impl Altered {
     }
 }
 
-/// The positions of a run's events, where all of its characters are of events at positions within these.
-fn positions_within(run: &Record, within: Positions) -> Option<Positions>
-    ensures from { IfSome result (λ p. run.now.from ≡ nodes.Event p.from) }
+/// The numbers of a run's characters, where all of them are of a kind, and their numbers within these.
+fn numbers_within(kind: Kind, run: &Record, within: Positions) -> Option<Positions>
+    ensures from { IfSome result (λ p. run.now.from ≡ node_by kind p.from) }
     ensures to { IfSome result (λ p. p.from + run.now.len ≡ p.to) }
     ensures first { IfSome result (λ p. within.from ≤ p.from) }
     ensures last { IfSome result (λ p. p.to ≤ within.to) }
-    ensures none { IfNone result (LiesWithin run.now within → ⊥) }
+    ensures none { IfNone result (LiesWithin kind run.now within → ⊥) }
 {
-    let Node::Event(from) = run.from else {
-        return None;
-    };
+    let from = kind.number(run.from)?;
     if from < within.from || from > within.to || run.len > within.to - from {
         return None;
     }
@@ -95,9 +92,11 @@ fn positions_within(run: &Record, within: Positions) -> Option<Positions>
     })
 }
 
-/// A change of the states of the run with a node's character, where all of its characters are of events at positions within these.
+/// A change of the states of the run with a node's character, where all of its characters are of a kind, and their numbers within
+/// these.
 #[derive(Clone, Copy)]
 struct Recasting {
+    kind: Kind,
     node: Node,
     within: Positions,
     change: Change,
@@ -110,7 +109,7 @@ impl Alteration<Record> for Recasting {
 
     fn alter(&self, run: &Record) -> Option<Record> {
         offset_in(run, self.node)?;
-        positions_within(run, self.within)?;
+        numbers_within(self.kind, run, self.within)?;
         Some(changed(*run, self.change))
     }
 }
@@ -301,11 +300,12 @@ impl Runs {
         }
     }
 
-    /// Changes the states of the run of an event's character, where all of its characters are of events at positions within these.
-    /// None, and nothing changes, where there is no such run.
+    /// Changes the states of the run of the character of a kind with a number, where all of its characters are of that kind, and their
+    /// numbers within these. None, and nothing changes, where there is no such run.
     pub fn change_run<L: Ledger>(
         &mut self,
-        position: u32,
+        kind: Kind,
+        number: u32,
         within: Positions,
         change: Change,
         visits: &mut Steps<L>,
@@ -314,32 +314,33 @@ impl Runs {
         requires room { AllByRecursion HasRoom (chars_in self.old.tree.pairs) }
         requires few { length (chars_in self.old.tree.pairs) < 2 ^ 32 }
         ensures laid { AreLabelled self.new.tree.pairs self.new.labels }
-        ensures part { IfSome result (λ r. ArePart position r.positions within) }
-        ensures told { IfSome result (λ r. (n : ℕ) → r.positions.from ≤ n → n < r.positions.to → list_any (is_of (nodes.Event n)) (chars_in self.old.tree.pairs) ≡ true) }
-        ensures chars { IfSome result (λ r. chars_in self.new.tree.pairs ≡ map (changed_in r.positions change) (chars_in self.old.tree.pairs)) }
+        ensures part { IfSome result (λ r. ArePart number r.numbers within) }
+        ensures told { IfSome result (λ r. (n : ℕ) → r.numbers.from ≤ n → n < r.numbers.to → list_any (is_of (node_by kind n)) (chars_in self.old.tree.pairs) ≡ true) }
+        ensures chars { IfSome result (λ r. chars_in self.new.tree.pairs ≡ map (changed_in kind r.numbers change) (chars_in self.old.tree.pairs)) }
         ensures recounted { IfSome result (λ r. Recounted (chars_in self.old.tree.pairs) (chars_in self.new.tree.pairs) r.altered) }
-        ensures was { IfSome result (λ r. (n : ℕ) → r.positions.from ≤ n → n < r.positions.to → knows (chars_in self.old.tree.pairs) (nodes.Event n) ≡ is_inserted r.altered.before) }
-        ensures is { IfSome result (λ r. (n : ℕ) → r.positions.from ≤ n → n < r.positions.to → knows (chars_in self.new.tree.pairs) (nodes.Event n) ≡ is_inserted r.altered.after) }
+        ensures was { IfSome result (λ r. (n : ℕ) → r.numbers.from ≤ n → n < r.numbers.to → knows (chars_in self.old.tree.pairs) (node_by kind n) ≡ is_inserted r.altered.before) }
+        ensures is { IfSome result (λ r. (n : ℕ) → r.numbers.from ≤ n → n < r.numbers.to → knows (chars_in self.new.tree.pairs) (node_by kind n) ≡ is_inserted r.altered.after) }
         ensures none { IfNone result (self.new ≡ self.old) }
-        ensures refused { IfNone result ((label n : ℕ) (run : Stretch) → Contains self.old.tree.pairs (label, run) → IsOffset run (nodes.Event position) n → LiesWithin run within → ⊥) }
+        ensures refused { IfNone result ((label n : ℕ) (run : Stretch) → Contains self.old.tree.pairs (label, run) → IsOffset run (node_by kind number) n → LiesWithin kind run within → ⊥) }
         ensures loose { (among : Nodes → Bool) → loose_in among (runs self.new.tree.pairs) ≡ loose_in among (runs self.old.tree.pairs) }
     {
         self.facts();
-        let node = Node::Event(position);
+        let node = kind.node(number);
         let label = self.labels.last_up_to(node)?;
         let recasting = Recasting {
+            kind,
             node,
             within,
             change,
         };
         let taken = self.tree.alter(label, &recasting, visits)?;
         self.facts();
-        // The run took the change, so all of its characters are of events at these positions.
-        let Some(positions) = positions_within(&taken.before, within) else {
+        // The run took the change, so all of its characters are of the kind, and their numbers within these.
+        let Some(numbers) = numbers_within(kind, &taken.before, within) else {
             unreachable!()
         };
         Some(Recast {
-            positions,
+            numbers,
             altered: Altered {
                 before: taken.before,
                 after: taken.after,

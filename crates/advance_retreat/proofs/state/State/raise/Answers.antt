@@ -46,8 +46,8 @@ returns-clause-ok c = λ b events prepared st may.
     let attached = c.change_run.ensures.attached in
     let line = c.in_ok-line.line in
     let build : List Stretch → List Attached → Kept = λ rs xs. record { base = inside.base; records = rs; attached = xs; targets = inside.targets; lost = inside.lost } in
-    let view : build c.change_run.new.self.records c.change_run.new.self.attached ≡ changed_span now run.from run.to Raise =
-    (λ i. build (records i) (attached i)) ∙ ap (λ (s : Kept). changed_span s run.from run.to Raise) c.self.view_is in
+    let view : build c.change_run.new.self.records c.change_run.new.self.attached ≡ changed_span now line.kind run.from run.to Raise =
+    (λ i. build (records i) (attached i)) ∙ ap (λ (s : Kept). changed_span s line.kind run.from run.to Raise) c.self.view_is in
     subst (λ (s : Kept). Advanced s b events prepared (range_with_len c.args.at.from (c.args.at.to - c.args.at.from)) (range_with_len (c.args.at.from + (run.to - run.from)) (c.args.at.to - (c.args.at.from + (run.to - run.from))))) (sym view)
     (line_raised b events now prepared c.args.at.from c.args.at.to st c.in_ok-characters.characters run line (subst (λ (o : Option Line). IfSome o (IsLineFrom Up c.args.self.now.targets c.args.at.from (c.args.at.to - c.args.at.from))) c.in_ok-line.was c.requires.line) c.in_ok-characters.ensures c.in_ok-moved.ensures.part may c.requires.some)
 

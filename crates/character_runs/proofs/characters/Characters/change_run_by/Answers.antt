@@ -1,7 +1,7 @@
 use Rattle.std.proofs.Common.{Contains, refl, sym, ap, ◌∙◌, subst, arith}
-use Rattle.ew_model.specs.declared.node.Node.TheVariants.{Event}
 use Rattle.character_runs.specs.declared.runs.changing.Known.{Known}
 use Rattle.character_runs.specs.States.{knows}
+use Rattle.character_runs.specs.Replacing.{node_by}
 use Rattle.character_runs.specs.Laid.{InRuns, in_runs}
 use Rattle.character_runs.proofs.Counters.{visible_fits, shown_fits, counted_again}
 use Rattle.character_runs.proofs.KnownRuns.{label_of_run}
@@ -42,7 +42,7 @@ invariant_of-self-2 g c =
 
 pub returns-clause-was : goal.returns-clause-was
 returns-clause-was g c = λ n low high.
-    ap (λ (s : InRuns). knows s.records (Event n)) (sym (ap in_runs c.settle.ensures.pairs ∙ c.self.view_is)) ∙ c.in_ok-recast.ensures.was n low high ∙ sym (ap (λ (k : Known). k.was) c.known.ensures)
+    ap (λ (s : InRuns). knows s.records (node_by c.args.kind n)) (sym (ap in_runs c.settle.ensures.pairs ∙ c.self.view_is)) ∙ c.in_ok-recast.ensures.was n low high ∙ sym (ap (λ (k : Known). k.was) c.known.ensures)
 
 pub returns-clause-is : goal.returns-clause-is
 returns-clause-is g c = λ n low high. c.in_ok-recast.ensures.is n low high ∙ sym (ap (λ (k : Known). k.is) c.known.ensures)
