@@ -7,7 +7,7 @@ use Rattle.ew_model.specs.declared.event.Event.{Event}
 use Rattle.ew_model.specs.Ancestors.{ids_of}
 use Rattle.ew_model.specs.Entries.{Inserted}
 use Rattle.ew_model.specs.Texts.{text_chars}
-use Rattle.tree_places.proofs.Order.{place_at}
+use Rattle.transform.proofs.TextOrder.{place_at}
 use Rattle.blame.specs.Letters.{AreShownAt}
 use Rattle.blame_definitions.specs.Blame.{blame_lines, piece_line, piece_text, text_line}
 use Rattle.blame_definitions.specs.Pieces.{goes_on, pieces}

@@ -16,8 +16,7 @@ use ew_model::steps::Steps;
 use replica::{Replica, VersionFault};
 use std::alloc::Global;
 use std::sync::ledger::Ledger;
-use transform::placed;
-use tree_places::deleted;
+use transform::{deleted, placed};
 
 /// Who inserted which part of the text of a version, or of the whole text where none is named; or the first of the version's ids, in
 /// the order given, that isn't held. Each piece is a line `ID N TEXT`, of whose text as much is shown as fits into the columns.

@@ -4,7 +4,7 @@ ghost use Rattle.std.specs.Prelude.{◌≡◌, IfOk};
 ghost use Rattle.blame.specs.Letters.{AreShown, AreShownAt};
 ghost use Rattle.ew_model.specs.Verdicts.{IsGood};
 ghost use Rattle.transform.specs.Placing.{order_ids, AreAt};
-ghost use Rattle.tree_places.specs.Places.{are_deleted};
+ghost use Rattle.transform.specs.Places.{are_deleted};
 
 use event_graph::{Graph, Near};
 use ew_model::NoMem;

@@ -1,6 +1,6 @@
 //! The lines of a blame.
 
-ghost use Rattle.std.specs.Prelude.{◌≡◌, ◌==◌, ◌&&◌, not, ◌++◌, IfOk, OnOk};
+ghost use Rattle.std.specs.Prelude.{◌≡◌, ◌↔◌, ◌==◌, ◌&&◌, not, ◌++◌, IfOk, IsTrue, OnOk};
 ghost use Rattle.blame.specs.Letters.{AreShown, AreShownAt};
 ghost use Rattle.blame_definitions.specs.Blame.{blame_lines, text_line};
 ghost use Rattle.ew_model.specs.Ids.{id_eq};
@@ -8,7 +8,7 @@ ghost use Rattle.ew_model.specs.Texts.{text_chars};
 ghost use Rattle.history_definitions.specs.Chains.{next_id};
 
 use crate::fitting::shown;
-use event_graph::{Graph, Near, is_next};
+use event_graph::{Graph, Near};
 use ew_model::NoMem;
 use ew_model::id::Id;
 use itoa::Buffer;
@@ -53,6 +53,13 @@ fn goes_on(last: &Id, ch: char, id: &Id) -> bool
     ensures { result ≡ (not (ch == 10) && id_eq id.now (next_id last.now)) }
 {
     ch != '\n' && is_next(last, id)
+}
+
+/// Whether the second is the next id of the first one's agent.
+fn is_next(x: &Id, y: &Id) -> bool
+    ensures { IsTrue result ↔ (y.now ≡ next_id x.now) }
+{
+    x.seq < y.seq && y.seq - x.seq == 1 && y.agent.is(&x.agent)
 }
 
 /// Writes a line: an id, how many characters a text has, and as many of them as fit into the columns, escaped.

@@ -29,8 +29,8 @@ use Rattle.carets.specs.declared.caret.Caret.TheVariants.{Behind}
 use Rattle.carets.specs.Sides.{all_chars, text_chars, char_of, is_up_to, many_up_to, side}
 use Rattle.carets.proofs.Sides.{chars_apart}
 use Rattle.carets.proofs.UpTo.{firsts, none_up_to, not_up_to, up_to_before, up_to_itself, own_char, char_told}
-use Rattle.tree_places.proofs.Order.{chars}
-use Rattle.tree_places.proofs.Targets.{good_distinct, map_agree, set_one}
+use Rattle.transform.proofs.TextOrder.{chars}
+use Rattle.transform.proofs.DeletionTargets.{good_distinct, map_agree, set_one}
 use Rattle.caret_places.specs.Indexes.{sides_of}
 
 -- THOSE UP TO A CHARACTER

@@ -23,8 +23,8 @@ use Rattle.ew_model.proofs.SubgraphLaws.{part_entries, part_over, taken_within, 
 use Rattle.ew_model.proofs.TextLaws.{ids_equal}
 use Rattle.ew_model.proofs.TreeLaws.{entry_after}
 use Rattle.transform.specs.Placing.{AreAt}
-use Rattle.tree_places.specs.Places.{shown_ids}
-use Rattle.tree_places.proofs.Order.{as_many, place_at}
+use Rattle.transform.specs.Places.{shown_ids}
+use Rattle.transform.proofs.TextOrder.{as_many, place_at}
 use Rattle.carets.specs.declared.caret.Caret.TheVariants.{Behind}
 use Rattle.carets.specs.Sides.{text_chars, caret_in}
 

@@ -18,11 +18,10 @@ use ew_model::event::Op;
 use ew_model::steps::Steps;
 use std::alloc::Global;
 use std::sync::ledger::Ledger;
-use transform::placed;
-use tree_places::deleted;
+use transform::{deleted, placed};
 
-/// The index of a caret in the text of a good history.
-pub fn index_of<L: Ledger>(
+/// The index of a caret in the text of a good history, or why it has none.
+pub fn find_index<L: Ledger>(
     alloc: Global,
     graph: &Graph,
     caret: &Caret,

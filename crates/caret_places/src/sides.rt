@@ -3,7 +3,7 @@
 ghost use Rattle.std.specs.Prelude.{◌≡◌, ◌+◌, ◌<◌, ◌^◌, IfOk, if◌then◌else◌};
 ghost use Rattle.ew_model.specs.Verdicts.{IsGood};
 ghost use Rattle.transform.specs.Placing.{order_ids, AreAt};
-ghost use Rattle.tree_places.specs.Places.{are_deleted};
+ghost use Rattle.transform.specs.Places.{are_deleted};
 ghost use Rattle.caret_places.specs.Indexes.{sides_of};
 
 use event_graph::Graph;

@@ -9,7 +9,7 @@ ghost use Rattle.ew_model.specs.Touches.{touches};
 ghost use Rattle.ew_model.specs.Verdicts.{IsGood, first_unknown};
 ghost use Rattle.carets.specs.Sides as model;
 ghost use Rattle.transform.specs.Placing.{AreAt};
-ghost use Rattle.tree_places.specs.Places.{shown_ids};
+ghost use Rattle.transform.specs.Places.{shown_ids};
 
 use crate::fault::CaretFault;
 use carets::Caret;
@@ -19,10 +19,10 @@ use ew_model::id::Id;
 use ew_model::steps::Steps;
 use std::alloc::Global;
 use std::sync::ledger::Ledger;
-use tree_places::shown;
+use transform::shown;
 
 /// The caret at an index of a version's text. It takes at most one walk, over the version's own events.
-pub fn caret_at<L: Ledger>(
+pub fn caret_in_version<L: Ledger>(
     alloc: Global,
     graph: &Graph,
     version: &[Id],

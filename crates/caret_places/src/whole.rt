@@ -13,7 +13,7 @@ use ew_model::NoMem;
 use ew_model::steps::Steps;
 use std::alloc::Global;
 use std::sync::ledger::Ledger;
-use tree_places::shown;
+use transform::shown;
 
 /// The caret at an index of the text of a good history, where the text is as long as that. It takes one walk over all events.
 pub fn caret_in_text<L: Ledger>(

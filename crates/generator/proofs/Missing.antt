@@ -7,7 +7,7 @@ use Rattle.ew_model.specs.declared.event.Event.{Event}
 use Rattle.ew_model.specs.Ancestors.{is_held}
 use Rattle.ew_model.specs.Ids.{name_eq}
 use Rattle.ew_model.specs.Kept.{IsKept, ReplicaState}
-use Rattle.arrival_laws.specs.Repeats.{without_held}
+use Rattle.history_laws.specs.Repeats.{without_held}
 use Rattle.history_definitions.specs.Missing.{missing}
 use Rattle.history_definitions.specs.Summary.{summary_of}
 use Rattle.peer_exchange.proofs.Ascending.{ascending_distinct, summary_up}

@@ -10,7 +10,7 @@ use Rattle.ew_model.specs.Kept.{ReplicaState}
 use Rattle.ew_model.specs.Limits.{AreLimits, LimitNumbers}
 use Rattle.ew_model.specs.Texts.{text_of}
 use Rattle.ew_model.proofs.PositionCuts.{last_at}
-use Rattle.arrival_laws.proofs.Parts.{nothing_arrives, parts_are_the_whole}
+use Rattle.history_laws.proofs.Parts.{nothing_arrives, parts_are_the_whole}
 use Rattle.peer_definitions.specs.declared.net_step.NetStep.{NetStep}
 use Rattle.peer_definitions.specs.declared.net_step.NetStep.TheVariants as step
 use Rattle.peer_definitions.specs.Answering.{answer_to, event_frames}

@@ -10,9 +10,9 @@ use Rattle.ew_model.specs.ArrivalLaw.{NoneReady}
 use Rattle.ew_model.specs.Kept.{ReplicaState}
 use Rattle.ew_model.specs.Limits.{program_limits}
 use Rattle.history_definitions.specs.Outcomes.{state_at}
-use Rattle.arrival_laws.specs.Repeats.{without_held}
-use Rattle.arrival_laws.proofs.Repeats.{held_events_change_nothing}
-use Rattle.arrival_laws.proofs.Settling.{none_ready_behind}
+use Rattle.history_laws.specs.Repeats.{without_held}
+use Rattle.history_laws.proofs.Repeats.{held_events_change_nothing}
+use Rattle.history_laws.proofs.Settling.{none_ready_behind}
 use Rattle.peer_definitions.specs.Making.{gives, newcomer, peer_at}
 use Rattle.generator.specs.Owning.{ArePeers, HasOwned, IsOwned, NamesOwned}
 use Rattle.generator.proofs.Growing.{HoldsMore, judgements_grow}

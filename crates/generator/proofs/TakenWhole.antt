@@ -22,7 +22,7 @@ use Rattle.ew_model.proofs.MergeSteps.{IsTakenIn, first_judged, none_judged, not
 use Rattle.ew_model.proofs.RoundLaws.{then}
 use Rattle.ew_model.proofs.RulingLaws.{IsRight, next_right, stays}
 use Rattle.ew_model.proofs.SetLaws.{among_joined, joined_left, joined_right}
-use Rattle.arrival_laws.proofs.FirstRows.{not_full, row_off}
+use Rattle.history_laws.proofs.FirstRows.{not_full, row_off}
 
 module _ (limits : LimitNumbers) (U : Event → Type 0) (one : (f g : Event) → U f → U g → id_eq f.id g.id ≡ true → f ≡ g)
     (room : (held : List Event) (x : Event) → IsGood held → ((z : Event) → Among z held → U z) → U x → is_held held x.id ≡ false → length held < limits.events) where

@@ -6,8 +6,8 @@ use Rattle.ew_model.specs.ArrivalLaw.{NoneReady}
 use Rattle.ew_model.specs.Kept.{ReplicaState}
 use Rattle.ew_model.specs.Limits.{LimitNumbers}
 use Rattle.ew_model.specs.Rounds.{most_touches}
-use Rattle.arrival_laws.specs.Repeats.{without_held}
-use Rattle.arrival_laws.proofs.Repeats.{held_events_change_nothing}
+use Rattle.history_laws.specs.Repeats.{without_held}
+use Rattle.history_laws.proofs.Repeats.{held_events_change_nothing}
 use Rattle.peer_definitions.specs.Making.{Made, drawn_step, gives, peer_at}
 use Rattle.peer_definitions.specs.Making.Made.{Going}
 use Rattle.peer_definitions.specs.Touches.{end_touches, gift_touches, made_touches, rounding_touches, step_touches, steps_touches, turn_touches}

@@ -4,7 +4,7 @@ ghost use Rattle.std.specs.Prelude.{◌≡◌, ◌<◌, ◌≤◌, ◌+◌, ◌^
 ghost use Rattle.ew_model.specs.Edits.Edit.{Insert};
 ghost use Rattle.ew_model.specs.Kept.{is_awaited};
 ghost use Rattle.ew_model.specs.Texts.{text_of};
-ghost use Rattle.arrival_laws.specs.Repeats.{without_held};
+ghost use Rattle.history_laws.specs.Repeats.{without_held};
 ghost use Rattle.replica.specs.Answers.{EditsBy};
 ghost use Rattle.generator.specs.Answers.{TellsStop};
 ghost use Rattle.peer_definitions.specs.Draws.{drawn_edit, letter};

@@ -10,10 +10,10 @@ use Rattle.ew_model.specs.Kept.{IsKept, ReplicaState}
 use Rattle.ew_model.specs.Rounds.{most_touches}
 use Rattle.ew_model.specs.Sets.{Among}
 use Rattle.ew_model.proofs.SetLaws.{among_joined, joined_left, joined_right}
-use Rattle.arrival_laws.specs.Repeats.{AreAnsweredAlike, LeaveTheSame, without_held}
-use Rattle.arrival_laws.proofs.Answered.{each_swapped, held_events_are_repeats}
-use Rattle.arrival_laws.proofs.LastAnswers.{few_repeats}
-use Rattle.arrival_laws.proofs.Repeats.{held_events_change_nothing}
+use Rattle.history_laws.specs.Repeats.{AreAnsweredAlike, LeaveTheSame, without_held}
+use Rattle.history_laws.proofs.Answered.{each_swapped, held_events_are_repeats}
+use Rattle.history_laws.proofs.LastAnswers.{few_repeats}
+use Rattle.history_laws.proofs.Repeats.{held_events_change_nothing}
 use Rattle.history_definitions.specs.Missing.{missing}
 use Rattle.history_definitions.specs.Summary.{summary_of}
 use Rattle.generator.proofs.Missing.{lacking, no_more}

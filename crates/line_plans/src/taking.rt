@@ -1,7 +1,7 @@
 //! Receiving the events of a graph.
 ghost use Rattle.std.specs.Prelude.{◌≡◌, ◌<◌, ◌≤◌, ◌+◌, ◌^◌, [], ◌++◌, length, IfOk};
 ghost use Rattle.std.specs.List.{All};
-ghost use Rattle.arrival_laws.specs.Repeats.{without_held};
+ghost use Rattle.history_laws.specs.Repeats.{without_held};
 ghost use Rattle.ew_model.specs.ArrivalLaw.{OneEach};
 ghost use Rattle.ew_model.specs.Rounds.{most_touches};
 ghost use Rattle.event_graph.specs.Subgraphs.{events_at};

@@ -58,7 +58,15 @@ fn undone_plan<L: Ledger>(
 {
     let before = replica.count();
     let limits = replica.limits();
-    match undo(alloc, replica, agent, undone, steps) {
+    match undo(
+        alloc,
+        replica,
+        agent,
+        undone.agent,
+        undone.first,
+        undone.count,
+        steps,
+    ) {
         Ok(_) => made_plan(alloc, name, replica, before),
         Err(fault) => refuse_undo(&limits, fault),
     }

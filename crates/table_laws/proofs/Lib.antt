@@ -6,3 +6,9 @@ pub mod MergedFiles
 pub mod Merges
 pub mod Pasts
 pub mod Upgrades
+mod MergeTouches
+mod GoodBehind
+mod Received
+mod Spoken
+mod Brought
+mod Alike

@@ -4,3 +4,5 @@ pub mod MergeLaws
 pub mod PastLaws
 pub mod Sequences
 pub mod UpgradeLaws
+pub mod MergeTouches
+pub mod Conversations

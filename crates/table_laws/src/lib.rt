@@ -1,4 +1,5 @@
-//! What holds of the command table: of every list of runs, of merges, of upgrades, of watches and exports, of past versions and replays, and of the frames of an input.
+//! What holds of the command table: of every list of runs, of merges and what they take, of upgrades, of watches and exports, of past versions
+//! and replays, of the frames of an input, and of two people who talk to each other.
 #![tactic(auto)]
 
 ghost use Rattle.table_laws.specs.FramingLaws.{FramingsAreCuts, FramingsAreFound, FramingsAreOne};
@@ -7,6 +8,8 @@ ghost use Rattle.table_laws.specs.MergeLaws.{MergesAgree, MergesHoldSame, Merges
 ghost use Rattle.table_laws.specs.PastLaws.{HeadsAreAVersion, HeadsShowAll, ReplaysMakeContent, VersionsAreTaken};
 ghost use Rattle.table_laws.specs.Sequences.{RunsFold};
 ghost use Rattle.table_laws.specs.UpgradeLaws.{UpgradesKeep};
+ghost use Rattle.table_laws.specs.MergeTouches.{MergesSpare};
+ghost use Rattle.table_laws.specs.Conversations.{ConversationsAgree, ConversationsBring};
 
 /// After a list of runs of which none met a fault or want of memory, the files and the journal are the fold of the
 /// command table, and each run printed and answered what the table says.
@@ -84,4 +87,21 @@ pub fn law_framings_one()
 /// The frames of a framing are those that the input, up to the limit, is cut into.
 pub fn law_framings_cuts()
     ensures { FramingsAreCuts }
+{}
+
+/// Where a merge is done, what its receiving takes is what a walk takes over the events from a critical version on, as if none
+/// stood before: from the latest one of the history that the file holds then, among those that its events had come to before.
+pub fn law_merge_touches()
+    ensures { MergesSpare }
+{}
+
+/// The bytes that `ask` prints for a file are given to `serve` with another, and its answer, with a Bye behind it, to `serve` with the
+/// first. Where both are good histories that can be one, that leaves the first with every event of the other.
+pub fn law_conversation()
+    ensures { ConversationsBring }
+{}
+
+/// Done both ways, both files hold the same events, and `cat` prints the same.
+pub fn law_conversations_agree()
+    ensures { ConversationsAgree }
 {}

@@ -5,6 +5,7 @@ pub mod CutFronts
 pub mod Differences
 pub mod Fronts
 pub mod Judging
+pub mod KeptWalks
 pub mod Lines
 pub mod Loops
 pub mod NamedAlike
@@ -24,3 +25,6 @@ pub mod TypedEvents
 pub mod WalkedEvents
 pub mod WholeWalks
 pub mod DeletedEvents
+pub mod ShownCharacters
+pub mod TextOrder
+pub mod DeletionTargets

@@ -26,7 +26,7 @@ use Rattle.ew_model.proofs.TouchSteps.{touches_add}
 use Rattle.advance_retreat.specs.Kept.{Kept}
 use Rattle.advance_retreat.specs.Standing.{StandsFor}
 use Rattle.event_graph.specs.Keeping.{IsAdmitted}
-use Rattle.transform.specs.Reaching.{InLine, IsBehind, IsReadyAt, Reached, ReadyAt, StandsAt, Turned, TurnedTo, WalkedTo, over_since, prepared_since}
+use Rattle.transform.specs.Reaching.{InLine, IsBehind, IsReadyAt, Reached, ReadyAt, StandsAt, Turned, TurnedAt, WalkedTo, over_since, prepared_since}
 use Rattle.transform.specs.Walking.{StandsBehind, bad_at, cut_left}
 use Rattle.transform.specs.declared.apply.Turn.{Turn}
 use Rattle.transform.specs.declared.apply.Turn.TheVariants.{Applied, OutOfRange}
@@ -87,27 +87,27 @@ starts_untouched history cut steps within =
 
 -- ONE TURN
 -- what an apply answers, in the whole history
-pub turned_to : (history : List Event) (from cut n : ℕ) (e : Event) (state : Kept) (turn : Turn) → from ≤ n → IsBehind history cut n → cut ≡ latest_cut history n → slice_get history n ≡ Some e → Turned (take n history) cut e state turn → TurnedTo history from n None state turn
-turned_to history from cut n e state (Applied op) low behind is at t =
+pub turned_at : (history : List Event) (cut n : ℕ) (e : Event) (state : Kept) (turn : Turn) → IsBehind history cut n → slice_get history n ≡ Some e → Turned (take n history) cut e state turn → TurnedAt history cut n state turn
+turned_at history cut n e state (Applied op) behind at t =
     let next = take_next history n e at in
-    let latest : cut ≡ latest_cut history (n + 1 - 1) = let same : n ≡ n + 1 - 1 = omega arith in is ∙ ap (latest_cut history) same in
     let reached : Reached history cut (n + 1) state = record {
       some = omega (arith, behind.low);
       behind = record { low = omega (arith, behind.low); critical = behind.critical; good = subst IsGood (sym next) t.0 };
       stands = subst (λ b. StandsFor state b (walked_from (take (n + 1) history) cut) (prepared_since (take (n + 1) history) cut)) (same_base history cut n behind.low)
           (subst (λ (es : List Event). StandsFor state (base_at (take n history) cut) (walked_from es cut) (prepared_since es cut)) (sym next) t.1);
-    } in (
-      (omega (arith, low), subst (λ c. Reached history c (n + 1) state) latest reached),
-      ap operations next ∙ t.2,
-    )
-turned_to history from cut n e state (OutOfRange len) low behind is at t = (
+    } in
+    (reached, ap operations next ∙ t.2)
+turned_at history cut n e state (OutOfRange len) behind at t = (
   λ f there. let same : e ≡ f = cc in subst (λ (g : Event). next_verdict (take n history) g ≡ Outside len) same t.0,
-  (
-    t.1.0,
-    subst (λ c. StandsFor state (base_at history c) (walked_from (take n history) c) t.1.0) is
-        (subst (λ b. StandsFor state b (walked_from (take n history) cut) t.1.0) (same_base history cut n behind.low) t.1.1),
-  ),
+  (t.1.0, subst (λ b. StandsFor state b (walked_from (take n history) cut) t.1.0) (same_base history cut n behind.low) t.1.1),
 )
+
+-- the event at a place is ready, where what it was made over is prepared
+pub ready_over : (history : List Event) (cut n : ℕ) (e : Event) (state : Kept) → IsBehind history cut n → slice_get history n ≡ Some e → StandsAt history cut n (over_since (take n history) cut e) state → IsReadyAt history cut n state
+ready_over history cut n e state behind at stands = record {
+  behind = behind;
+  stands = λ f there. let same : e ≡ f = cc in subst (λ (g : Event). StandsAt history cut n (over_since (take n history) cut g) state) same stands;
+}
 
 -- in line all is ready
 pub ready_in_line : (history : List Event) (from n : ℕ) (line : Option ℕ) (state : Kept) → is_some line ≡ true → WalkedTo history from n line state → ReadyAt history n line state
@@ -127,20 +127,13 @@ not_in_line history from n None state none h = h
 pub ready_between : (history : List Event) (n : ℕ) (e : Event) (state later : Kept) → slice_get history n ≡ Some e → is_critical history n ≡ false → Reached history (latest_cut history (n - 1)) n state
     → StandsAt history (latest_cut history (n - 1)) n (over_since (take n history) (latest_cut history (n - 1)) e) later → ReadyAt history n None later
 ready_between history n e state later at plain reached stands =
-    subst (λ c. IsReadyAt history c n later) (sym (latest_before history n (omega (arith, reached.some)) plain))
-    (record {
-      behind = reached.behind;
-      stands = λ f there. let same : e ≡ f = cc in subst (λ (g : Event). StandsAt history (latest_cut history (n - 1)) n (over_since (take n history) (latest_cut history (n - 1)) g) later) same stands;
-    })
+    subst (λ c. IsReadyAt history c n later) (sym (latest_before history n (omega (arith, reached.some)) plain)) (ready_over history (latest_cut history (n - 1)) n e later reached.behind at stands)
 
 pub ready_at_cut : (history : List Event) (cut n len : ℕ) (e : Event) (state later : Kept) → IsAdmitted history → AreSound history → slice_get history n ≡ Some e → is_critical history n ≡ true → Reached history cut n state
     → StandsAt history cut n (over_since (take n history) cut e) later → len ≡ length (visible (prepared_entries (base_at history cut) (walked_from (take n history) cut) (over_since (take n history) cut e))) → ReadyAt history n (Some len) later
 ready_at_cut history cut n len e state later admitted sound at critical reached stands is =
     let front = take n history in
-    let here : IsReadyAt history cut n later = record {
-      behind = reached.behind;
-      stands = λ f there. let same : e ≡ f = cc in subst (λ (g : Event). StandsAt history cut n (over_since front cut g) later) same stands;
-    } in (
+    let here : IsReadyAt history cut n later = ready_over history cut n e later reached.behind at stands in (
       record { low = omega arith; critical = critical; good = reached.behind.good },
       is ∙ ap (λ b. length (visible (prepared_entries b (walked_from front cut) (over_since front cut e)))) (sym (same_base history cut n reached.behind.low))
           ∙ same_length front cut e later (ready history cut n e later admitted sound at here)
@@ -166,30 +159,31 @@ emitted history position n old new op within more before after =
     ∙ ap (drop n) (sym more)
 
 -- one more event was walked
-pub goes_on : (history : List Event) (from position : ℕ) (line : Option ℕ) (state : Kept) (turn : Turn) (op : TextOp) → turn ≡ Applied op → TurnedTo history from position line state turn
-    → WalkedTo history from (position + 1) line state × (operations (take (position + 1) history) ≡ operations (take position history) ++ op ∷ [])
-goes_on history from position line state turn op is turned = subst (TurnedTo history from position line state) is turned
+pub goes_on : (history : List Event) (cut n : ℕ) (state : Kept) (turn : Turn) (op : TextOp) → turn ≡ Applied op → TurnedAt history cut n state turn → Reached history cut (n + 1) state × (operations (take (n + 1) history) ≡ operations (take n history) ++ op ∷ [])
+goes_on history cut n state turn op is turned = subst (TurnedAt history cut n state) is turned
 
 -- THE END
 good_to : (history : List Event) (from n : ℕ) (line : Option ℕ) (state : Kept) → WalkedTo history from n line state → IsGood (take n history)
 good_to history from n (Some len) state h = h.behind.good
 good_to history from n None state h = h.1.behind.good
 
-pub stops : (history : List Event) (from position len : ℕ) (line : Option ℕ) (state : Kept) → position < length history → IsGood (take position history) → TurnedTo history from position line state (OutOfRange len)
+-- the first event that is out of range is the first bad one
+pub first_outside : (history : List Event) (n len : ℕ) → n < length history → IsGood (take n history) → ((e : Event) → slice_get history n ≡ Some e → next_verdict (take n history) e ≡ Outside len) → Some (bad_at (n, len)) ≡ first_bad history
+first_outside history n len within good outside =
+    let found = element_there history n within in
+    let e = found.0 in
+    sym (ap first_bad (split_at history n e found.1) ∙ first_bad_is (take n history) e (drop (suc n) history) len good (outside e found.1) ∙ ap (λ m. Some (bad_at (m, len))) (length_front history n e found.1))
+
+-- and none is where all were walked
+pub none_outside : (history : List Event) (n : ℕ) → length history ≡ n → IsGood (take n history) → None ≡ first_bad history
+none_outside history n all good = sym ((good_has_no_bad history).0 (subst IsGood (take_all n history (omega (arith, all))) good))
+
+pub stops : (history : List Event) (from position len : ℕ) (state : Kept) → position < length history → IsGood (take position history) → TurnedAt history (latest_cut history position) position state (OutOfRange len)
     → (Some (bad_at (position, len)) ≡ first_bad history) × StandsBehind history (cut_left history from (Some (position, len))) (take position history) state
-stops history from position len line state within good done =
-    let found = element_there history position within in
-    let e = found.0 in (
-      sym (ap first_bad (split_at history position e found.1) ∙ first_bad_is (take position history) e (drop (suc position) history) len good (done.0 e found.1) ∙ ap (λ n. Some (bad_at (n, len))) (length_front history position e found.1)),
-      record { prepared = done.1.0; stands = done.1.1 },
-    )
+stops history from position len state within good done = (first_outside history position len within good done.0, record { prepared = done.1.0; stands = done.1.1 })
 
 pub ends : (history : List Event) (from position : ℕ) (line : Option ℕ) (state : Kept) → from ≤ position → length history ≡ position → WalkedTo history from position line state → (None ≡ first_bad history) × StandsBehind history (cut_left history from None) history state
-ends history from position line state low all walked =
-    let whole : take position history ≡ history = take_all position history (omega (arith, all)) in (
-      sym ((good_has_no_bad history).0 (subst IsGood whole (good_to history from position line state walked))),
-      left line walked,
-    )
+ends history from position line state low all walked = (none_outside history position all (good_to history from position line state walked), left line walked)
   where
     -- a state that was kept
     kept : (b : Bool) → nat_eq from (length history) ≡ b → (from < length history → b ≡ false) → from < position → Reached history (latest_cut history (position - 1)) position state → StandsBehind history (cond b from (latest_cut history (length history - 1))) history state
@@ -231,10 +225,8 @@ touched history k cut =
     omega (arith, grown, ap (λ (es : List Event). touches es cut) (take-append-drop k history))
 
 -- THE TURNS
--- of an event between cuts
-pub turned_between : (history : List Event) (from n : ℕ) (state later : Kept) (turn : Turn) → n < length history → from ≤ n → ReadyAt history n None state
-    → ((cut : ℕ) (e : Event) → IsReadyAt history cut n state → slice_get history n ≡ Some e → Turned (take n history) cut e later turn) → TurnedTo history from n None later turn
-turned_between history from n state later turn within low is_ready turned =
+pub turned_over : (history : List Event) (cut n : ℕ) (state later : Kept) (turn : Turn) → n < length history → IsReadyAt history cut n state
+    → ((c : ℕ) (e : Event) → IsReadyAt history c n state → slice_get history n ≡ Some e → Turned (take n history) c e later turn) → TurnedAt history cut n later turn
+turned_over history cut n state later turn within is_ready turned =
     let found = element_there history n within in
-    let cut = latest_cut history n in
-    turned_to history from cut n found.0 later turn low is_ready.behind refl found.1 (turned cut found.0 is_ready found.1)
+    turned_at history cut n found.0 later turn is_ready.behind found.1 (turned cut found.0 is_ready found.1)

@@ -1,5 +1,5 @@
 -- The turns over events of one run.
-use Rattle.std.proofs.Common.{◌≡◌, ℕ, zero, suc, ◌+◌, ◌-◌, ◌<◌, ◌≤◌, true, false, List, [], ◌∷◌, ◌++◌, length, map, take, Option, Some, Result, Ok, Err, IfOk, refl, sym, ap, ◌∙◌, subst, arith}
+use Rattle.std.proofs.Common.{◌≡◌, ℕ, zero, suc, ◌+◌, ◌-◌, ◌<◌, ◌≤◌, true, false, List, [], ◌∷◌, ◌++◌, length, map, take, Option, Some, None, Result, Ok, Err, IfOk, refl, sym, ap, ◌∙◌, subst, arith}
 use Rattle.std.specs.Prelude.{slice_get}
 use Rattle.std.specs.declared.alloc.AllocError.{AllocError}
 use Rattle.ew_model.specs.declared.event.Event.{Event}
@@ -19,11 +19,12 @@ use Rattle.event_graph.specs.Keeping.{IsAdmitted}
 use Rattle.transform.specs.declared.run.Turns.{Turns}
 use Rattle.transform.specs.declared.run.Turns.TheVariants.{To, OutOfRange}
 use Rattle.transform.specs.Changing.{length_by}
-use Rattle.transform.specs.Reaching.{InLine, IsBehind, IsReadyAt, Reached}
-use Rattle.transform.specs.Running.{IsRunAt, HasNoCut, TurnsTo, judged_to}
+use Rattle.transform.specs.declared.apply.Turn.TheVariants as turn
+use Rattle.transform.specs.Reaching.{InLine, IsBehind, IsReadyAt, Reached, TurnedAt}
+use Rattle.transform.specs.Running.{GoesTo, IsRunAt, HasNoCut, TurnsTo, judged_to}
 use Rattle.transform.proofs.Applies.{change_is}
 use Rattle.transform.proofs.Lines.{goes_in_line, good_next, own_length, own_operation}
-use Rattle.transform.proofs.Loops.{ready_between, touched}
+use Rattle.transform.proofs.Loops.{latest_before, ready_over, touched}
 use Rattle.transform.proofs.RunCuts.{touched_along}
 use Rattle.transform.proofs.Sides.{over_last}
 use Rattle.transform.proofs.Turning.{arrived_already}
@@ -55,13 +56,9 @@ pub change_at : (history : List Event) (position count place : ℕ) (changes : L
 change_at history position count place changes change run low is = let all = run.told in run.changes_are place (omega (arith, low, all)) ∙ is
 
 -- READY
-pub ready_first : (history : List Event) (position n : ℕ) (state : Kept) → n ≡ position → IsReadyAt history (latest_cut history position) position state → IsReadyAt history (latest_cut history n) n state
-ready_first history position n state same = subst (λ m. IsReadyAt history (latest_cut history m) m state) (sym same)
-
--- the next event of a chain is ready, where no state was to be forgotten
-pub ready_next : (history : List Event) (position count n : ℕ) (changes : List TextOp) (state : Kept) → IsAdmitted history → AreSound history → IsRunAt history position count changes → HasNoCut history position count
-    → position < n → n < position + count → Reached history (latest_cut history (n - 1)) n state → IsReadyAt history (latest_cut history n) n state
-ready_next history position count n changes state admitted sound run apart low high reached =
+-- the next event of a chain is ready
+pub ready_next : (history : List Event) (cut position count n : ℕ) (changes : List TextOp) (state : Kept) → IsAdmitted history → AreSound history → IsRunAt history position count changes → position < n → n < position + count → Reached history cut n state → IsReadyAt history cut n state
+ready_next history cut position count n changes state admitted sound run low high reached =
     let all = run.within in
     let within : n < length history = omega (arith, high, all) in
     let e = element_there history n within in
@@ -69,14 +66,44 @@ ready_next history position count n changes state admitted sound run apart low h
     let there : suc (n - 1) ≡ n = omega (arith, low) in
     let only : parents_at (parent_positions history) n ≡ (n - 1) ∷ [] = ap (parents_at (parent_positions history)) (sym there) ∙ run.chain.links (n - 1) (omega (arith, low)) (omega (arith, low, high)) in
     let same = over_last history n (n - 1) e.0 admitted next within e.1 only in
-    ready_between history n e.0 state state e.1 (apart n low high) reached (arrived_already history (latest_cut history (n - 1)) n e.0 state admitted sound e.1 reached same)
+    ready_over history cut n e.0 state reached.behind e.1 (arrived_already history cut n e.0 state admitted sound e.1 reached same)
 
 -- THE TURNS
 pub turns_wider : (history : List Event) (from position end more : ℕ) (line : Option ℕ) (state : Kept) (turns : Turns) → end ≤ more → TurnsTo history from position end line state turns → TurnsTo history from position more line state turns
 turns_wider history from position end more line state (To n) low t = (t.0, omega (arith, low, t.1), t.2)
 turns_wider history from position end more line state (OutOfRange n len) low t = (t.0, omega (arith, low, t.1), t.2, t.3)
 
+pub goes_wider : (history : List Event) (cut position end more : ℕ) (state : Kept) (turns : Turns) → end ≤ more → GoesTo history cut position end state turns → GoesTo history cut position more state turns
+goes_wider history cut position end more state (To n) low t = (t.0, omega (arith, low, t.1), t.2)
+goes_wider history cut position end more state (OutOfRange n len) low t = (t.0, omega (arith, low, t.1), t.2, t.3)
+
+-- no event between is a cut: the latest one stays
+latest_stays : (history : List Event) (position far count : ℕ) → far < count → HasNoCut history position count → latest_cut history (position + far) ≡ latest_cut history position
+latest_stays history position zero count low apart = let same : position + 0 ≡ position = omega arith in ap (latest_cut history) same
+latest_stays history position (suc far) count low apart =
+    let next : position + suc far - 1 ≡ position + far = omega arith in
+    latest_before history (position + suc far) (omega arith) (apart (position + suc far) (omega arith) (omega (arith, low)))
+    ∙ ap (latest_cut history) next
+    ∙ latest_stays history position far count (omega (arith, low)) apart
+
+latest_to : (history : List Event) (position n count : ℕ) → position ≤ n → n < position + count → HasNoCut history position count → latest_cut history position ≡ latest_cut history n
+latest_to history position n count low high apart =
+    let same : position + (n - position) ≡ n = omega (arith, low) in
+    sym (latest_stays history position (n - position) count (omega (arith, low, high)) apart) ∙ ap (latest_cut history) same
+
+-- where none is, a walk that forgets goes as one that doesn't
+pub goes_uncut : (history : List Event) (from position count : ℕ) (state : Kept) (turns : Turns) → from ≤ position → HasNoCut history position count → GoesTo history (latest_cut history position) position (position + count) state turns
+    → TurnsTo history from position (position + count) None state turns
+goes_uncut history from position count state (To n) start apart t =
+    (t.0, t.1, (omega (arith, start, t.0), subst (λ c. Reached history c n state) (latest_to history position (n - 1) count (omega (arith, t.0)) (omega (arith, t.0, t.1)) apart) t.2))
+goes_uncut history from position count state (OutOfRange n len) start apart t =
+    (t.0, t.1, t.2, subst (λ c. TurnedAt history c n state (turn.OutOfRange len)) (latest_to history position n count t.0 t.1 apart) t.3)
+
 -- how far the turns judged
+pub judged_going : (history : List Event) (cut position end : ℕ) (state : Kept) (turns : Turns) → GoesTo history cut position end state turns → (position < judged_to turns) × (judged_to turns ≤ end)
+judged_going history cut position end state (To n) t = (t.0, t.1)
+judged_going history cut position end state (OutOfRange n len) t = (omega (arith, t.0), omega (arith, t.1))
+
 pub judged_low : (history : List Event) (from position end : ℕ) (line : Option ℕ) (state : Kept) (turns : Turns) → TurnsTo history from position end line state turns → (position < judged_to turns) × (judged_to turns ≤ end)
 judged_low history from position end line state (To n) t = (t.0, t.1)
 judged_low history from position end line state (OutOfRange n len) t = (omega (arith, t.0), omega (arith, t.1))

@@ -1,5 +1,5 @@
 -- Insertions of a run that are applied in one go are events of the walk.
-use Rattle.std.proofs.Common.{◌≡◌, ◌↔◌, ℕ, zero, suc, ◌+◌, ◌-◌, ◌<◌, ◌≤◌, nat_eq, ◌||◌, true, false, ⊎_elim, List, [], ◌∷◌, ◌++◌, length, map, take, drop, get_or, Some, None, Result, Ok, Err, option_map, refl, sym, ap, ◌∙◌, subst, arith, append_assoc, append-nil}
+use Rattle.std.proofs.Common.{◌≡◌, ◌↔◌, ℕ, zero, suc, ◌+◌, ◌-◌, ◌<◌, ◌≤◌, nat_eq, ◌||◌, true, false, ⊎_elim, List, [], ◌∷◌, ◌++◌, length, map, take, drop, get_or, Some, Result, Ok, Err, option_map, refl, sym, ap, ◌∙◌, subst, arith, append_assoc, append-nil}
 use Rattle.std.specs.Prelude.{slice_get}
 use Rattle.std.proofs.Math.Seq.{take-suc}
 use Rattle.std.proofs.lemmas.Bool.{false≢true, eq-eqb, or_parts}
@@ -12,7 +12,6 @@ use Rattle.ew_model.specs.declared.text_op.TextOp.{TextOp}
 use Rattle.ew_model.specs.declared.text_op.TextOp.TheVariants as change
 use Rattle.ew_model.specs.Sets.{Among}
 use Rattle.ew_model.specs.Ancestors.{ids_of, is_held}
-use Rattle.ew_model.specs.Cuts.{latest_cut}
 use Rattle.ew_model.specs.Operations.{operations}
 use Rattle.ew_model.specs.Records.{inserts_as}
 use Rattle.ew_model.specs.Sound.{AreSound}
@@ -35,13 +34,13 @@ use Rattle.advance_retreat.specs.Typing.{MayType, Inserts, TypedEach}
 use Rattle.event_graph.specs.Keeping.{IsAdmitted}
 use Rattle.operation_runs.specs.Runs.{insertions}
 use Rattle.operation_runs.proofs.RunLaws.{insertion_there, insertions_append, insertions_to, length-insertions}
-use Rattle.transform.specs.Reaching.{IsReady, IsReadyAt, Reached, Turned, WalkedTo, over_since, prepared_since}
+use Rattle.transform.specs.Reaching.{IsReady, IsReadyAt, Reached, Turned, over_since, prepared_since}
 use Rattle.transform.specs.declared.apply.Turn.TheVariants as turns
-use Rattle.transform.specs.Running.{HasNoCut, IsRunAt}
+use Rattle.transform.specs.Running.{IsRunAt}
 use Rattle.transform.proofs.Applies.{change_is, id_is, insertion_answers, may_insert, prepared_length, ready, turned}
 use Rattle.transform.proofs.AtPlaces.{new_there}
 use Rattle.transform.proofs.CutFronts.{take_front}
-use Rattle.transform.proofs.Loops.{turned_to}
+use Rattle.transform.proofs.Loops.{turned_at}
 use Rattle.transform.proofs.RunTurns.{ready_next}
 use Rattle.transform.proofs.OwnChanges.{asks_insertion}
 use Rattle.transform.proofs.Sides.{length_front, take_next}
@@ -126,10 +125,7 @@ slice_ops first place n chars =
     ∙ ap (insertions first) (take_front n n (drop place chars) (omega arith))
 
 -- Where a walk stands behind an insertion of a run, so many further ones may be applied in one go, and are walked then.
-module _ (history : List Event) (admitted : IsAdmitted history) (sound : AreSound history) (position count place newest n most at : ℕ) (chars : List ℕ) (old : Kept) (run : IsRunAt history position count (insertions at chars)) (apart : HasNoCut history position count) (here : newest + 1 ≡ position + place) (walked : WalkedTo history position (position + place) None old) (within : place + n ≤ count) (few : n ≤ most) (next : AreNextFrom (ids_of history) newest most) where
-  abbrev cut : ℕ
-  cut = latest_cut history newest
-
+module _ (history : List Event) (admitted : IsAdmitted history) (sound : AreSound history) (cut position count place newest n most at : ℕ) (chars : List ℕ) (old : Kept) (run : IsRunAt history position count (insertions at chars)) (some : 0 < place) (here : newest + 1 ≡ position + place) (walked : Reached history cut (position + place) old) (within : place + n ≤ count) (few : n ≤ most) (next : AreNextFrom (ids_of history) newest most) where
   abbrev pub slice : List ℕ
   slice = take n (drop place chars)
 
@@ -137,13 +133,7 @@ module _ (history : List Event) (admitted : IsAdmitted history) (sound : AreSoun
   start = omega arith
 
   reached : Reached history cut (newest + 0 + 1) old
-  reached =
-      let same : position + place ≡ newest + 0 + 1 = omega (arith, here) in
-      let less : newest + 0 + 1 - 1 ≡ newest = omega arith in
-      subst (λ m. Reached history (latest_cut history m) (newest + 0 + 1) old) less (subst (λ m. Reached history (latest_cut history (m - 1)) m old) same walked.1)
-
-  some : 0 < place
-  some = let more = walked.0 in omega (arith, more)
+  reached = let same : position + place ≡ newest + 0 + 1 = omega (arith, here) in subst (λ m. Reached history cut m old) same walked
 
   low : cut ≤ newest
   low = let less = reached.some in omega (arith, less)
@@ -187,7 +177,7 @@ module _ (history : List Event) (admitted : IsAdmitted history) (sound : AreSoun
   module _ (first : ℕ) where
     -- so many of the events were walked, and did this
     record Walks (k : ℕ) (now : Kept) : Type 0 where
-      pub goes : WalkedTo history position (newest + k + 1) None now
+      pub goes : Reached history cut (newest + k + 1) now
       pub ops : operations (take (newest + k + 1) history) ≡ operations (take (newest + 0 + 1) history) ++ insertions first (take k slice)
 
     module _ (k : ℕ) (less : k < n) (now new : Kept)
@@ -199,9 +189,6 @@ module _ (history : List Event) (admitted : IsAdmitted history) (sound : AreSoun
       abbrev front : List Event
       front = take m history
 
-      abbrev last : ℕ
-      last = latest_cut history m
-
       abbrev e : Event
       e = (typed.there k less).0
 
@@ -211,25 +198,25 @@ module _ (history : List Event) (admitted : IsAdmitted history) (sound : AreSoun
       at_e : slice_get history m ≡ Some e
       at_e = (typed.there k less).1
 
-      ready_at : IsReadyAt history last m now
-      ready_at = ready_next history position count m (insertions at chars) now admitted sound run apart (omega (arith, here, some)) (omega (arith, here, less, within)) walks.goes.1
+      ready_at : IsReadyAt history cut m now
+      ready_at = ready_next history cut position count m (insertions at chars) now admitted sound run (omega (arith, here, some)) (omega (arith, here, less, within)) walks.goes
 
-      is_ready : IsReady front last e now
-      is_ready = ready history last m e now admitted sound at_e ready_at
+      is_ready : IsReady front cut e now
+      is_ready = ready history cut m e now admitted sound at_e ready_at
 
       long_front : length front ≡ m
       long_front = length_front history m e at_e
 
-      inserts : Inserts new m (id_on x (k + 1)) (at + place + k) (first + k) (base_at front last) (walked_from front last) (over_since front last e) ch
-      inserts = each (base_at front last) (walked_from front last) (over_since front last e) ch is_ready.stands (may_insert front last e m (id_on x (k + 1)) is_ready.low is_ready.admitted (typed.there k less).2 long_front)
+      inserts : Inserts new m (id_on x (k + 1)) (at + place + k) (first + k) (base_at front cut) (walked_from front cut) (over_since front cut e) ch
+      inserts = each (base_at front cut) (walked_from front cut) (over_since front cut e) ch is_ready.stands (may_insert front cut e m (id_on x (k + 1)) is_ready.low is_ready.admitted (typed.there k less).2 long_front)
 
-      in_text : (len : ℕ) → (◌≡◌ {A = Result TextOp ApplyFault} (Ok (change.Ins (first + k) ch)) (Err (OutOfRange len))) ↔ ((len ≡ prepared_length front last e) × (len < at + place + k))
+      in_text : (len : ℕ) → (◌≡◌ {A = Result TextOp ApplyFault} (Ok (change.Ins (first + k) ch)) (Err (OutOfRange len))) ↔ ((len ≡ prepared_length front cut e) × (len < at + place + k))
       in_text len = (λ refused. absurd cc, λ past. let low = inserts.within in let same = past.0 in let far = past.1 in absurd (omega (arith, low, same, far)))
 
-      turn : Turned front last e new (turns.Applied (change.Ins (first + k) ch))
+      turn : Turned front cut e new (turns.Applied (change.Ins (first + k) ch))
       turn =
-          turned front last e now new (Ok (change.Ins (first + k) ch)) is_ready
-          (insertion_answers front last e now new (Ok (change.Ins (first + k) ch)) m (id_on x (k + 1)) (at + place + k) ch long_front (typed.there k less).2 (typed.there k less).3 (sym inserts.does) inserts.stands in_text tt)
+          turned front cut e now new (Ok (change.Ins (first + k) ch)) is_ready
+          (insertion_answers front cut e now new (Ok (change.Ins (first + k) ch)) m (id_on x (k + 1)) (at + place + k) ch long_front (typed.there k less).2 (typed.there k less).3 (sym inserts.does) inserts.stands in_text tt)
 
       one_op : insertions first (take k slice) ++ change.Ins (first + k) ch ∷ [] ≡ insertions first (take (suc k) slice)
       one_op =
@@ -240,10 +227,10 @@ module _ (history : List Event) (admitted : IsAdmitted history) (sound : AreSoun
 
       walks_next : Walks (suc k) new
       walks_next =
-          let to = turned_to history position last m e new (turns.Applied (change.Ins (first + k) ch)) (omega (arith, here, some)) ready_at.behind refl at_e turn in
+          let to = turned_at history cut m e new (turns.Applied (change.Ins (first + k) ch)) ready_at.behind at_e turn in
           let one : m + 1 ≡ newest + suc k + 1 = omega arith in
           record {
-            goes = subst (λ j. WalkedTo history position j None new) one to.0;
+            goes = subst (λ j. Reached history cut j new) one to.0;
             ops =
                 ap (λ j. operations (take j history)) (sym one)
                 ∙ to.1
@@ -257,7 +244,7 @@ module _ (history : List Event) (admitted : IsAdmitted history) (sound : AreSoun
 
     walks_to : (k : ℕ) → k ≤ n → (now : Kept) → TypedEach old now x newest (at + place) k first → Walks k now
     walks_to zero less now each = record {
-      goes = subst (λ (s : Kept). WalkedTo history position (newest + 0 + 1) None s) (sym each) (subst (λ j. WalkedTo history position j None old) first_there walked);
+      goes = subst (λ (s : Kept). Reached history cut (newest + 0 + 1) s) (sym each) reached;
       ops = sym (append-nil (operations (take (newest + 0 + 1) history)));
     }
     walks_to (suc k) less now each = walks_next k (omega (arith, less)) each.0 now each.2 (walks_to k (omega (arith, less)) each.0 each.1)
@@ -269,8 +256,8 @@ module _ (history : List Event) (admitted : IsAdmitted history) (sound : AreSoun
       end : newest + n + 1 ≡ position + place + n
       end = omega (arith, here)
 
-      pub run_walked : WalkedTo history position (position + place + n) None new
-      run_walked = subst (λ j. WalkedTo history position j None new) end all.goes
+      pub run_walked : Reached history cut (position + place + n) new
+      run_walked = subst (λ j. Reached history cut j new) end all.goes
 
       pub run_ops_typed : operations (take (position + place + n) history) ≡ operations (take (position + place) history) ++ insertions first slice
       run_ops_typed =

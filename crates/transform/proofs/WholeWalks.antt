@@ -1,5 +1,5 @@
 -- A walk over all events of a good history that forgets none of them.
-use Rattle.std.proofs.Common.{◌≡◌, ℕ, zero, suc, ◌+◌, ◌<◌, List, [], ◌∷◌, ◌++◌, length, take, Some, refl, sym, ap, ◌∙◌, subst, append_assoc, append-nil, arith}
+use Rattle.std.proofs.Common.{◌≡◌, ℕ, zero, suc, ◌+◌, List, [], ◌∷◌, ◌++◌, length, take, Some, refl, sym, ap, ◌∙◌, subst, append_assoc, append-nil, arith}
 use Rattle.std.specs.Prelude.{slice_get}
 use Rattle.std.proofs.lemmas.List.{take_all}
 use Rattle.ew_model.specs.declared.event.Event.{Event}
@@ -8,16 +8,13 @@ use Rattle.ew_model.specs.Verdicts.{IsGood, IsGoodAfter, next_verdict}
 use Rattle.ew_model.specs.Verdicts.Ruling.{Good, OutOfRange}
 use Rattle.ew_model.specs.Walks.{base_at, walked_from}
 use Rattle.ew_model.proofs.CutLaws.{start_critical}
-use Rattle.ew_model.proofs.ListParts.{element_there}
 use Rattle.advance_retreat.specs.Kept.{Kept}
 use Rattle.advance_retreat.specs.Standing.{StandsFor}
-use Rattle.event_graph.specs.Keeping.{IsAdmitted}
 use Rattle.transform.specs.declared.apply.Turn.{Turn}
 use Rattle.transform.specs.declared.apply.Turn.TheVariants.{Applied, OutOfRange as Stops}
-use Rattle.transform.specs.Reaching.{IsBehind, IsReadyAt, Reached, StandsAt, Turned, over_since, prepared_since}
+use Rattle.transform.specs.Keeping.{CountsFrom}
+use Rattle.transform.specs.Reaching.{GoesFrom, IsBehind, StandsAt, Turned, prepared_since}
 use Rattle.transform.proofs.CutFronts.{same_base}
-use Rattle.transform.proofs.Lines.{fresh}
-use Rattle.transform.proofs.Loops.{starts, steps_in_line}
 use Rattle.transform.proofs.Sides.{take_next}
 use Rattle.transform.proofs.Steps.{base_is_none}
 
@@ -71,31 +68,13 @@ pub all_touched : (history : List Event) (n : ℕ) → n ≡ length history → 
 all_touched history n is = ap (λ (es : List Event). touches es 0) (take_all n history (omega (arith, is)))
 
 -- THE MOVES
--- the first event is ready
-pub first_ready : (history : List Event) (n : ℕ) (state : Kept) → n ≡ 0 → IsGood history → IsWhole history n state → IsReadyAt history 0 n state
-first_ready history n state is good stands =
-    let now : IsWhole history 0 state = subst (λ k. IsWhole history k state) is stands in
-    subst (λ k. IsReadyAt history 0 k state) (sym is) (fresh history 0 (base_at history 0) state (omega arith) (from_start history 0 good) refl now)
+-- it is a walk that goes from the start
+pub whole_goes : (history : List Event) (n : ℕ) (state : Kept) → IsGood history → IsWhole history n state → GoesFrom history 0 n state
+whole_goes history n state good stands = record { behind = from_start history n good; stands = stands }
 
--- and it is touched once
-pub first_touched : (history : List Event) (n : ℕ) (state : Kept) → n ≡ 0 → IsGood history → IsAdmitted history → n < length history → IsWhole history n state → touches (take (n + 1) history) 0 ≡ touches (take n history) 0 + 1
-first_touched history n state is good admitted within stands =
-    let now : IsWhole history 0 state = subst (λ k. IsWhole history k state) is stands in
-    let found = element_there history 0 (omega (arith, is, within)) in
-    let begun = starts history 0 (base_at history 0) state (omega arith) (start_critical history) (front_good history 0 good) now refl in
-    subst (λ k. touches (take (k + 1) history) 0 ≡ touches (take k history) 0 + 1) (sym is)
-    (steps_in_line history 0 0 (Some (base_at history 0)) found.0 state admitted found.1 refl (omega arith) begun)
-
--- before a later one the state reached it
-pub whole_reached : (history : List Event) (n : ℕ) (state : Kept) → 0 < n → IsGood history → IsWhole history n state → Reached history 0 n state
-whole_reached history n state some good stands = record { some = some; behind = from_start history n good; stands = stands }
-
--- and is ready where its ancestors are prepared
-pub later_ready : (history : List Event) (n : ℕ) (e : Event) (state : Kept) → IsGood history → slice_get history n ≡ Some e → StandsAt history 0 n (over_since (take n history) 0 e) state → IsReadyAt history 0 n state
-later_ready history n e state good at stands = record {
-  behind = from_start history n good;
-  stands = λ f there. let same : e ≡ f = cc in subst (λ (g : Event). StandsAt history 0 n (over_since (take n history) 0 g) state) same stands;
-}
+-- whose touches are counted from there
+pub whole_counts : (n : ℕ) → CountsFrom 0 n 0
+whole_counts n = record { begins = λ same. refl; goes_on = λ some. some }
 
 -- THE APPLY
 -- an event that was applied is walked too

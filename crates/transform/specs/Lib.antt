@@ -1,7 +1,9 @@
 pub mod Answering
 pub mod Changing
+pub mod Keeping
 pub mod Moving
 pub mod Placing
 pub mod Reaching
 pub mod Running
 pub mod Walking
+pub mod Places

@@ -41,6 +41,11 @@ pub record Reached (history : List Event) (cut n : ℕ) (state : Kept) : Type 0 
   pub behind : IsBehind history cut n
   pub stands : StandsAt history cut n (prepared_since (take n history) cut) state
 
+-- the events from a critical cut on up to the place n were walked; there may be none
+pub record GoesFrom (history : List Event) (cut n : ℕ) (state : Kept) : Type 0 where
+  pub behind : IsBehind history cut n
+  pub stands : StandsAt history cut n (prepared_since (take n history) cut) state
+
 -- The place n is a critical cut, before which the text has so many characters. A walk from a place on has all events before n
 -- prepared there. The state is kept where the walk begins; no walk ends behind an event that was walked without it.
 pub record InLine (history : List Event) (from n len : ℕ) (state : Kept) : Type 0 where
@@ -86,9 +91,9 @@ Turned front cut e state (Applied op) =
     × (operations (front ++ e ∷ []) ≡ operations front ++ op ∷ [])
 Turned front cut e state (Stops len) = (next_verdict front e ≡ OutOfRange len) × ((prepared : List ℕ) × StandsFor state (base_at front cut) (walked_from front cut) prepared)
 
--- The same of the event at the place n, where a walk from a place on came to.
-abbrev pub TurnedTo : List Event → ℕ → ℕ → Option ℕ → Kept → Turn → Type 0
-TurnedTo history from n line state (Applied op) = WalkedTo history from (n + 1) line state × (operations (take (n + 1) history) ≡ operations (take n history) ++ op ∷ [])
-TurnedTo history from n line state (Stops len) =
+-- The same of the event at the place n of a history, where the events from the cut on up to there were applied.
+abbrev pub TurnedAt : List Event → ℕ → ℕ → Kept → Turn → Type 0
+TurnedAt history cut n state (Applied op) = Reached history cut (n + 1) state × (operations (take (n + 1) history) ≡ operations (take n history) ++ op ∷ [])
+TurnedAt history cut n state (Stops len) =
     ((e : Event) → slice_get history n ≡ Some e → next_verdict (take n history) e ≡ OutOfRange len)
-    × ((prepared : List ℕ) × StandsFor state (base_at history (latest_cut history n)) (walked_from (take n history) (latest_cut history n)) prepared)
+    × ((prepared : List ℕ) × StandsFor state (base_at history cut) (walked_from (take n history) cut) prepared)

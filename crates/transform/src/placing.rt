@@ -6,11 +6,11 @@ ghost use Rattle.ew_model.specs.Verdicts.{IsGood};
 ghost use Rattle.ew_model.specs.Walks.{walked_from};
 ghost use Rattle.advance_retreat.specs.Standing.{StandsFor};
 ghost use Rattle.transform.specs.Placing.{order_ids, AreAt, AreTargets, with_target};
-ghost use Rattle.transform.specs.Reaching.{IsReadyAt, StandsAt, prepared_since};
+ghost use Rattle.transform.specs.Reaching.{StandsAt, prepared_since};
 
 use crate::answer::Placed;
 use crate::apply::{Turn, apply};
-use crate::turn::prepare;
+use crate::turn::make_ready;
 use advance_retreat::State;
 use event_graph::{Graph, Near};
 use ew_model::NoMem;
@@ -72,37 +72,12 @@ fn apply_next<L: Ledger>(
     ensures steps { OnOk result (steps.new + touches (take position graph.now) 0 ≡ steps.old + touches (take (position + 1) graph.now) 0) }
     ensures most { steps.new + touches (take position graph.now) 0 ≤ steps.old + touches (take (position + 1) graph.now) 0 }
 {
-    make_ready(graph, state, position, near, steps)?;
+    make_ready(graph, state, 0, position, near, steps)?;
     let change = graph.change_near(position, near);
     let turn = apply(graph, state, position, change, near, steps)?;
     match turn {
         Turn::Applied(_) => Ok(()),
         Turn::OutOfRange(_) => unreachable!(),
-    }
-}
-
-/// Prepares the ancestors of the event at a position, where all events before it were applied and none was forgotten. The first has
-/// none.
-fn make_ready<L: Ledger>(
-    graph: &Graph,
-    state: &mut State,
-    position: u32,
-    near: &mut Near,
-    steps: &mut Steps<L>,
-) -> Result<(), NoMem>
-    requires good { IsGood graph.now }
-    requires within { position < length graph.now }
-    requires applied { StandsAt graph.now 0 position (prepared_since (take position graph.now) 0) state.old }
-    ensures ready { OnOk result (IsReadyAt graph.now 0 position state.new) }
-    ensures steps { OnOk result (steps.new + touches (take position graph.now) 0 + 1 ≡ steps.old + touches (take (position + 1) graph.now) 0) }
-    ensures most { steps.new + touches (take position graph.now) 0 + 1 ≤ steps.old + touches (take (position + 1) graph.now) 0 }
-{
-    // The events of a graph are sound, and fewer than 2^32.
-    let _count = graph.count();
-    if position == 0 {
-        Ok(())
-    } else {
-        prepare(graph, state, position, near, steps)
     }
 }
 

@@ -1,11 +1,10 @@
 //! Events of a run that are applied one after another, or in one go.
 
-ghost use Rattle.std.specs.Prelude.{◌≡◌, ℕ, ◌+◌, ◌<◌, ◌≤◌, None, IfOk, replicate};
-ghost use Rattle.ew_model.specs.Cuts.{latest_cut};
+ghost use Rattle.std.specs.Prelude.{◌≡◌, ℕ, ◌+◌, ◌<◌, ◌≤◌, IfOk, replicate};
 ghost use Rattle.character_runs.specs.Deleting.{deletion_op};
 ghost use Rattle.operation_runs.specs.Runs.{run_ops, RunFits};
-ghost use Rattle.transform.specs.Reaching.{IsReadyAt, WalkedTo};
-ghost use Rattle.transform.specs.Running.{IsUncutRun, TurnsTo, emitted_to, judged_to, walked_to};
+ghost use Rattle.transform.specs.Reaching.{IsReadyAt, Reached};
+ghost use Rattle.transform.specs.Running.{GoesTo, IsRunOf, emitted_to, judged_to, walked_to};
 
 use crate::apply::{Turn, apply};
 use crate::emit::{emit, emit_run};
@@ -46,10 +45,10 @@ pub fn apply_run<L: Ledger>(
     near: &mut Near,
     steps: &mut Steps<L>,
 ) -> Result<Turns, NoMem>
-    requires run { IsUncutRun graph.now run }
-    requires ready { IsReadyAt graph.now (latest_cut graph.now run.position) run.position state.old }
+    requires run { IsRunOf graph.now run }
+    requires ready { (cut : ℕ) × IsReadyAt graph.now cut run.position state.old }
     requires emitted { ops.old ≡ emitted_to graph.now emit_from run.position }
-    ensures turned { (from : ℕ) → from ≤ run.entry.position → IfOk result (TurnsTo graph.now from run.entry.position (run.entry.position + run.entry.count) None state.new) }
+    ensures turned { (cut : ℕ) → IsReadyAt graph.now cut run.entry.position state.old → IfOk result (GoesTo graph.now cut run.entry.position (run.entry.position + run.entry.count) state.new) }
     ensures emitted { IfOk result (λ t. ops.new ≡ emitted_to graph.now emit_from (walked_to t)) }
     ensures steps { IfOk result (λ t. steps.new + run.entry.position ≡ steps.old + judged_to t) }
     ensures most { steps.new ≤ steps.old + run.entry.count }
@@ -77,11 +76,11 @@ fn apply_some<L: Ledger>(
     near: &mut Near,
     steps: &mut Steps<L>,
 ) -> Result<Turns, NoMem>
-    requires run { IsUncutRun graph.now run }
+    requires run { IsRunOf graph.now run }
     requires within { place < run.count }
-    requires ready { IsReadyAt graph.now (latest_cut graph.now (run.position + place)) (run.position + place) state.old }
+    requires ready { (cut : ℕ) × IsReadyAt graph.now cut (run.position + place) state.old }
     requires emitted { ops.old ≡ emitted_to graph.now emit_from (run.position + place) }
-    ensures turned { (from : ℕ) → from ≤ run.entry.position → IfOk result (TurnsTo graph.now from (run.entry.position + place) (run.entry.position + run.entry.count) None state.new) }
+    ensures turned { (cut : ℕ) → IsReadyAt graph.now cut (run.entry.position + place) state.old → IfOk result (GoesTo graph.now cut (run.entry.position + place) (run.entry.position + run.entry.count) state.new) }
     ensures emitted { IfOk result (λ t. ops.new ≡ emitted_to graph.now emit_from (walked_to t)) }
     ensures steps { IfOk result (λ t. steps.new + run.entry.position + place ≡ steps.old + judged_to t) }
     ensures most { steps.new + place ≤ steps.old + run.entry.count }
@@ -117,12 +116,13 @@ fn type_on<L: Ledger>(
     near: &mut Near,
     steps: &mut Steps<L>,
 ) -> Result<u32, NoMem>
-    requires run { IsUncutRun graph.now run }
+    requires run { IsRunOf graph.now run }
+    requires behind { 0 < place }
     requires within { place ≤ run.count }
-    requires walked { WalkedTo graph.now run.position (run.position + place) None state.old }
+    requires walked { (cut : ℕ) × Reached graph.now cut (run.position + place) state.old }
     requires emitted { ops.old ≡ emitted_to graph.now emit_from (run.position + place) }
     ensures within { IfOk result (λ n. place + n ≤ run.entry.count) }
-    ensures walked { IfOk result (λ n. WalkedTo graph.now run.entry.position (run.entry.position + place + n) None state.new) }
+    ensures walked { (cut : ℕ) → Reached graph.now cut (run.entry.position + place) state.old → IfOk result (λ n. Reached graph.now cut (run.entry.position + place + n) state.new) }
     ensures emitted { IfOk result (λ n. ops.new ≡ emitted_to graph.now emit_from (run.entry.position + place + n)) }
     ensures steps { IfOk result (λ n. steps.new ≡ steps.old + n) }
     ensures most { steps.new + place ≤ steps.old + run.entry.count }
@@ -162,12 +162,12 @@ fn delete_run<L: Ledger>(
     ops: &mut OperationRuns,
     steps: &mut Steps<L>,
 ) -> Result<u32, NoMem>
-    requires run { IsUncutRun graph.now run }
+    requires run { IsRunOf graph.now run }
     requires within { place < run.count }
-    requires ready { IsReadyAt graph.now (latest_cut graph.now (run.position + place)) (run.position + place) state.old }
+    requires ready { (cut : ℕ) × IsReadyAt graph.now cut (run.position + place) state.old }
     requires emitted { ops.old ≡ emitted_to graph.now emit_from (run.position + place) }
     ensures within { IfOk result (λ n. place + n ≤ run.entry.count) }
-    ensures walked { IfOk result (λ n. 0 < n → (from : ℕ) → from ≤ run.entry.position → WalkedTo graph.now from (run.entry.position + place + n) None state.new) }
+    ensures walked { (cut : ℕ) → IsReadyAt graph.now cut (run.entry.position + place) state.old → IfOk result (λ n. 0 < n → Reached graph.now cut (run.entry.position + place + n) state.new) }
     ensures same { IfOk result (λ n. n ≡ 0 → state.new ≡ state.old) }
     ensures emitted { IfOk result (λ n. ops.new ≡ emitted_to graph.now emit_from (run.entry.position + place + n)) }
     ensures steps { IfOk result (λ n. steps.new ≡ steps.old + n) }

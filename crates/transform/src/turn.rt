@@ -7,7 +7,8 @@ ghost use Rattle.ew_model.specs.Positions.{parents_at, parent_positions};
 ghost use Rattle.ew_model.specs.Touches.{touches};
 ghost use Rattle.ancestors.specs.Spans.{positions_of};
 ghost use Rattle.transform.specs.Moving.{alone};
-ghost use Rattle.transform.specs.Reaching.{Reached, ReadyAt, StandsAt, WalkedTo, prepared_since, over_since};
+ghost use Rattle.transform.specs.Keeping.{CountsFrom};
+ghost use Rattle.transform.specs.Reaching.{GoesFrom, IsReadyAt, Reached, ReadyAt, StandsAt, WalkedTo, prepared_since, over_since};
 
 use crate::moves::{advance_all, retreat_all};
 use advance_retreat::State;
@@ -49,8 +50,32 @@ pub fn reach<L: Ledger>(
     }
 }
 
+/// Prepares the ancestors of the event at a position, where those from a cut on up to there were walked. The first has none behind the cut.
+pub fn make_ready<L: Ledger>(
+    graph: &Graph,
+    state: &mut State,
+    cut: u32,
+    position: u32,
+    near: &mut Near,
+    steps: &mut Steps<L>,
+) -> Result<(), NoMem>
+    requires within { position < length graph.now }
+    requires walked { GoesFrom graph.now cut position state.old }
+    ensures ready { OnOk result (IsReadyAt graph.now cut position state.new) }
+    ensures steps { (from : ℕ) → CountsFrom cut position from → OnOk result (steps.new + touches (take position graph.now) from + 1 ≡ steps.old + touches (take (position + 1) graph.now) from) }
+    ensures most { (from : ℕ) → CountsFrom cut position from → steps.new + touches (take position graph.now) from + 1 ≤ steps.old + touches (take (position + 1) graph.now) from }
+{
+    // The events of a graph are sound, and fewer than 2^32.
+    let _count = graph.count();
+    if position == cut {
+        Ok(())
+    } else {
+        prepare(graph, state, position, near, steps)
+    }
+}
+
 /// Prepares the ancestors of the event at a position. Where its one parent is the event before it, they are prepared already.
-pub fn prepare<L: Ledger>(
+fn prepare<L: Ledger>(
     graph: &Graph,
     state: &mut State,
     position: u32,

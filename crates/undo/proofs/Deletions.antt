@@ -15,7 +15,7 @@ use Rattle.ew_model.specs.Verdicts.{IsGood}
 use Rattle.ew_model.proofs.CoverLaws.{ids_alike}
 use Rattle.ew_model.proofs.ListParts.{take_next}
 use Rattle.transform.specs.Placing.{deletion_by, deletions_in, AreTargets}
-use Rattle.tree_places.proofs.Targets.{IsPair, is_target, all_pairs, map_agree, good_distinct, set_one, targets_long}
+use Rattle.transform.proofs.DeletionTargets.{IsPair, is_target, all_pairs, map_agree, good_distinct, set_one, targets_long}
 use Rattle.undo_definitions.specs.Wanted.{left_by_others}
 use Rattle.undo.specs.declared.fate.Fate.{Fate}
 use Rattle.undo.specs.Fates.{fate_by, fate_of, fates_of, with_deletion}

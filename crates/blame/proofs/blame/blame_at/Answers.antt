@@ -1,5 +1,5 @@
 use Rattle.std.proofs.Common.{None, sym, ap, ◌∙◌}
-use Rattle.version_laws.proofs.VersionHistories.{part_good}
+use Rattle.history_laws.proofs.VersionHistories.{part_good}
 use Rattle.blame_definitions.specs.Blame.{blame_text}
 use Rattle.blame_definitions.proofs.Joins.{versions_blame_alone}
 use Rattle.blame.proofs.blame.blame_at.Goals as goal

@@ -6,8 +6,8 @@ use Rattle.ew_model.specs.Ancestors.{ids_of}
 use Rattle.ew_model.specs.Entries.{is_deleted}
 use Rattle.ew_model.specs.Tree.{all_entries, tree}
 use Rattle.ew_model.proofs.AgentLaws.{within_ids}
-use Rattle.tree_places.proofs.Kept.{mark_there}
-use Rattle.tree_places.proofs.Order.{char_there, order_long}
+use Rattle.transform.proofs.ShownCharacters.{mark_there}
+use Rattle.transform.proofs.TextOrder.{char_there, order_long}
 use Rattle.undo.proofs.Letters.{letter_there}
 use Rattle.blame.proofs.Kept.{first_as, first_none, first_kept, first_passed, positions_all, chars_all}
 use Rattle.blame.proofs.letters.visible_letters.Goals as goal

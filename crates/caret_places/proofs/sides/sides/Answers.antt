@@ -1,9 +1,9 @@
 use Rattle.std.proofs.Common.{◌≡◌, ◌+◌, ℕ, suc, length, get_or, set, replicate, refl, ap, ◌∙◌, arith}
 use Rattle.std.proofs.lemmas.Option.{slice_get-get_or}
 use Rattle.ew_model.proofs.AgentLaws.{within_ids}
-use Rattle.tree_places.proofs.Kept.{mark_there, order_within}
-use Rattle.tree_places.proofs.Order.{char_there, few_chars, order_long}
-use Rattle.tree_places.proofs.Targets.{one_for_all}
+use Rattle.transform.proofs.ShownCharacters.{mark_there, order_within}
+use Rattle.transform.proofs.TextOrder.{char_there, few_chars, order_long}
+use Rattle.transform.proofs.DeletionTargets.{one_for_all}
 use Rattle.caret_places.proofs.Along.{few_shown, shown_first, side_by, side_next, sides_by, sides_long, sides_next, sides_all}
 use Rattle.caret_places.proofs.sides.sides.Goals as goal
 

@@ -4,7 +4,7 @@ use Rattle.std.proofs.lemmas.Option.{slice_get-get_or}
 use Rattle.ew_model.specs.Entries.{Inserted}
 use Rattle.ew_model.proofs.OperationLaws.{got}
 use Rattle.carets.specs.Sides.{caret_in, text_chars}
-use Rattle.version_laws.proofs.VersionHistories.{part_good}
+use Rattle.history_laws.proofs.VersionHistories.{part_good}
 use Rattle.caret_places.proofs.Versions.{no_caret, part_chars, text_long}
 use Rattle.caret_places.proofs.taking.carets_at.Goals as goal
 

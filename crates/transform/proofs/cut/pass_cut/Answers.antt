@@ -1,11 +1,10 @@
 use Rattle.std.proofs.Common.{◌≡◌, ◌+◌, None, sym, ap, ◌∙◌, subst, arith}
 use Rattle.event_graph.proofs.Summing.{known_ok}
 use Rattle.operation_runs.specs.Runs.{run_ops}
-use Rattle.transform.specs.Reaching.{IsReadyAt}
-use Rattle.transform.specs.Running.{TurnsTo, emitted_to, judged_to}
+use Rattle.transform.specs.Running.{GoesTo, TurnsTo, emitted_to, judged_to}
 use Rattle.transform.proofs.Lines.{fresh}
 use Rattle.transform.proofs.Loops.{latest_here}
-use Rattle.transform.proofs.RunTurns.{run_fewer, together_apart, together_some, turns_wider}
+use Rattle.transform.proofs.RunTurns.{goes_uncut, run_fewer, together_apart, together_some, turns_wider}
 use Rattle.transform.proofs.cut.pass_cut.Goals as goal
 
 pub pass_alone-requires-clause-within : goal.pass_alone-requires-clause-within
@@ -22,17 +21,12 @@ apply_run-requires-clause-run g c =
     record {
       events = run_fewer c.args.graph.now c.args.run.position c.args.run.count together.result (run_ops c.args.run.changes) c.requires.run some.0 some.1;
       fits = c.requires.fits;
-      apart = together_apart c.args.graph.now c.args.run.position alone c.args.run.count together.result together.ensures.some together.ensures.none c.count_alone-alone.ensures.none;
     }
 
 pub apply_run-requires-clause-ready : goal.apply_run-requires-clause-ready
 apply_run-requires-clause-ready g c =
-    let now = c.args.graph.now in
-    let position = c.args.run.position in
-    let state = c.begin_over.new.state in
     let all = c.requires.run.within in
-    subst (λ cut. IsReadyAt now cut position state) (sym (latest_here now position c.requires.behind.critical))
-    (fresh now position c.args.len state (omega (arith, all)) c.requires.behind c.requires.long c.in_ok-begin_over.ensures)
+    (c.args.run.position, fresh c.args.graph.now c.args.run.position c.args.len c.begin_over.new.state (omega (arith, all)) c.requires.behind c.requires.long c.in_ok-begin_over.ensures)
 
 pub apply_run-requires-clause-emitted : goal.apply_run-requires-clause-emitted
 apply_run-requires-clause-emitted g c =
@@ -56,10 +50,18 @@ pub returns-clause-turned : goal.returns-clause-turned
 returns-clause-turned g c = λ from low.
     let now = c.args.graph.now in
     let position = c.args.run.position in
+    let alone = c.count_alone-alone.result in
     let together = c.count_together in
-    let some = together_some c.count_alone-alone.result c.args.run.count together.result c.requires.run.some together.ensures.some together.ensures.none in
-    known_ok (TurnsTo now from position (position + together.result) None c.apply_run.new.state) c.apply_run.result (TurnsTo now from position (position + c.args.run.count) None c.apply_run.new.state)
-    (λ turns t. turns_wider now from position (position + together.result) (position + c.args.run.count) None c.apply_run.new.state turns (omega (arith, some.1)) t) (c.apply_run.ensures.turned from low)
+    let state = c.apply_run.new.state in
+    let some = together_some alone c.args.run.count together.result c.requires.run.some together.ensures.some together.ensures.none in
+    let apart = together_apart now position alone c.args.run.count together.result together.ensures.some together.ensures.none c.count_alone-alone.ensures.none in
+    let all = c.requires.run.within in
+    let ready = fresh now position c.args.len c.begin_over.new.state (omega (arith, all)) c.requires.behind c.requires.long c.in_ok-begin_over.ensures in
+    known_ok (GoesTo now position position (position + together.result) state) c.apply_run.result (TurnsTo now from position (position + c.args.run.count) None state)
+    (λ turns t. turns_wider now from position (position + together.result) (position + c.args.run.count) None state turns (omega (arith, some.1))
+    (goes_uncut now from position together.result state turns low apart
+    (subst (λ cut. GoesTo now cut position (position + together.result) state turns) (sym (latest_here now position c.requires.behind.critical)) t)))
+    (c.apply_run.ensures.turned position ready)
 
 pub returns-clause-steps : goal.returns-clause-steps
 returns-clause-steps g c =

@@ -1,14 +1,13 @@
-use Rattle.std.proofs.Common.{◌≡◌, ℕ, ◌+◌, ◌-◌, ◌<◌, ◌≤◌, None}
-use Rattle.ew_model.specs.Cuts.{latest_cut}
-use Rattle.transform.specs.Reaching.{IsReadyAt, WalkedTo}
+use Rattle.std.proofs.Common.{◌≡◌, ℕ, ◌+◌, ◌-◌, ◌<◌, ◌≤◌}
+use Rattle.transform.specs.Reaching.{IsReadyAt, Reached}
 use Rattle.transform.specs.Running.{emitted_to}
 use Rattle.transform.proofs.run.apply_run.Given as goal
 
 abbrev pub invariant-loop-place : goal.invariant-loop-place
 invariant-loop-place g l = record {
   high : l.place ≤ l.run.count;
-  ready : l.place < l.run.count → IsReadyAt l.graph (latest_cut l.graph (l.run.position + l.place)) (l.run.position + l.place) l.state;
-  walked : (from : ℕ) → from ≤ l.run.position → 0 < l.place → WalkedTo l.graph from (l.run.position + l.place) None l.state;
+  ready : (cut : ℕ) → IsReadyAt l.graph cut l.run.position l.fn.state → l.place < l.run.count → IsReadyAt l.graph cut (l.run.position + l.place) l.state;
+  walked : (cut : ℕ) → IsReadyAt l.graph cut l.run.position l.fn.state → 0 < l.place → Reached l.graph cut (l.run.position + l.place) l.state;
   emitted : l.ops ≡ emitted_to l.graph l.emit_from (l.run.position + l.place);
   steps : l.steps ≡ l.fn.steps + l.place;
 }

@@ -1,9 +1,8 @@
-use Rattle.std.proofs.Common.{◌≡◌, ◌+◌, ◌<◌, None, length, sym, ap, ◌∙◌, subst, arith}
-use Rattle.ew_model.specs.Cuts.{latest_cut}
-use Rattle.transform.specs.Reaching.{IsReadyAt, TurnedTo, WalkedTo}
+use Rattle.std.proofs.Common.{◌≡◌, ◌+◌, ◌<◌, length, sym, ap, ◌∙◌, subst, arith}
+use Rattle.transform.specs.Reaching.{IsReadyAt, Reached, TurnedAt}
 use Rattle.operation_runs.specs.Runs.{run_ops}
 use Rattle.transform.specs.Running.{emitted_to}
-use Rattle.transform.proofs.Loops.{emitted, goes_on, turned_between}
+use Rattle.transform.proofs.Loops.{emitted, goes_on, turned_over}
 use Rattle.transform.proofs.RunTurns.{change_at}
 use Rattle.transform.proofs.run.apply_some.Goals as goal
 
@@ -23,8 +22,9 @@ apply-requires-clause-change g c = change_at c.args.graph.now c.args.run.positio
 pub apply-requires-clause-ready : goal.apply-requires-clause-ready
 apply-requires-clause-ready g c =
     let n = c.args.run.position + c.args.place in
+    let cut = c.requires.ready.0 in
     let same = c.in_ok-deleted.ensures.same (omega (arith, c.if-deleted-gt0.false)) in
-    (latest_cut c.args.graph.now n, subst (λ s. IsReadyAt c.args.graph.now (latest_cut c.args.graph.now n) n s) (sym same) c.requires.ready)
+    (cut, subst (λ s. IsReadyAt c.args.graph.now cut n s) (sym same) c.requires.ready.1)
 
 -- the events before the next place are walked
 pub type_on-requires-clause-walked : goal.type_on-requires-clause-walked
@@ -32,54 +32,56 @@ type_on-requires-clause-walked g c =
     let now = c.args.graph.now in
     let position = c.args.run.position in
     let n = position + c.args.place in
+    let cut = c.requires.ready.0 in
     let all = c.requires.run.events.within in
     let within : n < length now = omega (arith, all, c.requires.within) in
     let same = c.in_ok-deleted.ensures.same (omega (arith, c.if-deleted-gt0.false)) in
-    let ready = subst (λ s. IsReadyAt now (latest_cut now n) n s) (sym same) c.requires.ready in
+    let ready = subst (λ s. IsReadyAt now cut n s) (sym same) c.requires.ready.1 in
     let next : n + 1 ≡ position + (c.args.place + 1) = omega arith in
-    let turned = turned_between now position n c.delete_run.new.state c.apply.new.state c.in_ok-op.field-0 within (omega arith) ready c.in_ok-op.ensures.turned in
-    subst (λ m. WalkedTo now position m None c.apply.new.state) next (goes_on now position n None c.apply.new.state c.in_ok-op.field-0 c.in-Applied.op c.in-Applied.is turned).0
+    let turned = turned_over now cut n c.delete_run.new.state c.apply.new.state c.in_ok-op.field-0 within ready c.in_ok-op.ensures.turned in
+    (cut, subst (λ m. Reached now cut m c.apply.new.state) next (goes_on now cut n c.apply.new.state c.in_ok-op.field-0 c.in-Applied.op c.in-Applied.is turned).0)
 
 pub type_on-requires-clause-emitted : goal.type_on-requires-clause-emitted
 type_on-requires-clause-emitted g c =
     let now = c.args.graph.now in
     let position = c.args.run.position in
     let n = position + c.args.place in
+    let cut = c.requires.ready.0 in
     let all = c.requires.run.events.within in
     let within : n < length now = omega (arith, all, c.requires.within) in
     let none : c.in_ok-deleted.deleted ≡ 0 = omega (arith, c.if-deleted-gt0.false) in
     let same = c.in_ok-deleted.ensures.same none in
-    let ready = subst (λ s. IsReadyAt now (latest_cut now n) n s) (sym same) c.requires.ready in
+    let ready = subst (λ s. IsReadyAt now cut n s) (sym same) c.requires.ready.1 in
     let here : n + c.in_ok-deleted.deleted ≡ n = omega (arith, none) in
     let before = c.in_ok-deleted.ensures.emitted ∙ ap (emitted_to now c.args.emit_from) here in
     let next : n + 1 ≡ position + (c.args.place + 1) = omega arith in
-    let turned = turned_between now position n c.delete_run.new.state c.apply.new.state c.in_ok-op.field-0 within (omega arith) ready c.in_ok-op.ensures.turned in
-    emitted now n c.args.emit_from c.delete_run.new.ops c.emit.new.ops c.in-Applied.op (omega (arith, within)) (goes_on now position n None c.apply.new.state c.in_ok-op.field-0 c.in-Applied.op c.in-Applied.is turned).1 before c.in_ok-emit-in-Applied.ensures
+    let turned = turned_over now cut n c.delete_run.new.state c.apply.new.state c.in_ok-op.field-0 within ready c.in_ok-op.ensures.turned in
+    emitted now n c.args.emit_from c.delete_run.new.ops c.emit.new.ops c.in-Applied.op (omega (arith, within)) (goes_on now cut n c.apply.new.state c.in_ok-op.field-0 c.in-Applied.op c.in-Applied.is turned).1 before c.in_ok-emit-in-Applied.ensures
     ∙ ap (emitted_to now c.args.emit_from) next
 
 -- deletions in one go
 pub returns-then-deleted-gt0-clause-turned : goal.returns-then-deleted-gt0-clause-turned
-returns-then-deleted-gt0-clause-turned g c = λ from start.
+returns-then-deleted-gt0-clause-turned g c = λ cut ready.
     let some = c.if-deleted-gt0.true in
     let within = c.in_ok-deleted.ensures.within in (
       omega (arith, some),
       omega (arith, within),
-      c.in_ok-deleted.ensures.walked some from start,
+      c.in_ok-deleted.ensures.walked cut ready some,
     )
 
 -- an event that is out of range
 pub returns-in-OutOfRange-clause-turned : goal.returns-in-OutOfRange-clause-turned
-returns-in-OutOfRange-clause-turned g c = λ from start.
+returns-in-OutOfRange-clause-turned g c = λ cut given.
     let now = c.args.graph.now in
     let n = c.args.run.position + c.args.place in
     let all = c.requires.run.events.within in
     let within : n < length now = omega (arith, all, c.requires.within) in
     let same = c.in_ok-deleted.ensures.same (omega (arith, c.if-deleted-gt0.false)) in
-    let ready = subst (λ s. IsReadyAt now (latest_cut now n) n s) (sym same) c.requires.ready in (
+    let ready = subst (λ s. IsReadyAt now cut n s) (sym same) given in (
       omega arith,
       omega (arith, c.requires.within),
       ready.behind.good,
-      subst (TurnedTo now from n None c.apply.new.state) c.in-OutOfRange.is (turned_between now from n c.delete_run.new.state c.apply.new.state c.in_ok-op.field-0 within (omega (arith, start)) ready c.in_ok-op.ensures.turned),
+      subst (TurnedAt now cut n c.apply.new.state) c.in-OutOfRange.is (turned_over now cut n c.delete_run.new.state c.apply.new.state c.in_ok-op.field-0 within ready c.in_ok-op.ensures.turned),
     )
 
 pub returns-in-OutOfRange-clause-emitted : goal.returns-in-OutOfRange-clause-emitted
@@ -90,17 +92,17 @@ returns-in-OutOfRange-clause-emitted g c =
 
 -- one event, the last
 pub returns-then-next-run-clause-turned : goal.returns-then-next-run-clause-turned
-returns-then-next-run-clause-turned g c = λ from start.
+returns-then-next-run-clause-turned g c = λ cut given.
     let now = c.args.graph.now in
     let n = c.args.run.position + c.args.place in
     let all = c.requires.run.events.within in
     let within : n < length now = omega (arith, all, c.requires.within) in
     let same = c.in_ok-deleted.ensures.same (omega (arith, c.if-deleted-gt0.false)) in
-    let ready = subst (λ s. IsReadyAt now (latest_cut now n) n s) (sym same) c.requires.ready in
-    let turned = turned_between now from n c.delete_run.new.state c.apply.new.state c.in_ok-op.field-0 within (omega (arith, start)) ready c.in_ok-op.ensures.turned in (
+    let ready = subst (λ s. IsReadyAt now cut n s) (sym same) given in
+    let turned = turned_over now cut n c.delete_run.new.state c.apply.new.state c.in_ok-op.field-0 within ready c.in_ok-op.ensures.turned in (
       omega arith,
       omega (arith, c.requires.within),
-      (goes_on now from n None c.apply.new.state c.in_ok-op.field-0 c.in-Applied.op c.in-Applied.is turned).0,
+      (goes_on now cut n c.apply.new.state c.in_ok-op.field-0 c.in-Applied.op c.in-Applied.is turned).0,
     )
 
 pub returns-then-next-run-clause-emitted : goal.returns-then-next-run-clause-emitted
@@ -108,25 +110,34 @@ returns-then-next-run-clause-emitted g c =
     let now = c.args.graph.now in
     let position = c.args.run.position in
     let n = position + c.args.place in
+    let cut = c.requires.ready.0 in
     let all = c.requires.run.events.within in
     let within : n < length now = omega (arith, all, c.requires.within) in
     let none : c.in_ok-deleted.deleted ≡ 0 = omega (arith, c.if-deleted-gt0.false) in
     let same = c.in_ok-deleted.ensures.same none in
-    let ready = subst (λ s. IsReadyAt now (latest_cut now n) n s) (sym same) c.requires.ready in
+    let ready = subst (λ s. IsReadyAt now cut n s) (sym same) c.requires.ready.1 in
     let here : n + c.in_ok-deleted.deleted ≡ n = omega (arith, none) in
     let before = c.in_ok-deleted.ensures.emitted ∙ ap (emitted_to now c.args.emit_from) here in
-    let turned = turned_between now position n c.delete_run.new.state c.apply.new.state c.in_ok-op.field-0 within (omega arith) ready c.in_ok-op.ensures.turned in
-    emitted now n c.args.emit_from c.delete_run.new.ops c.emit.new.ops c.in-Applied.op (omega (arith, within)) (goes_on now position n None c.apply.new.state c.in_ok-op.field-0 c.in-Applied.op c.in-Applied.is turned).1 before c.in_ok-emit-in-Applied.ensures
+    let turned = turned_over now cut n c.delete_run.new.state c.apply.new.state c.in_ok-op.field-0 within ready c.in_ok-op.ensures.turned in
+    emitted now n c.args.emit_from c.delete_run.new.ops c.emit.new.ops c.in-Applied.op (omega (arith, within)) (goes_on now cut n c.apply.new.state c.in_ok-op.field-0 c.in-Applied.op c.in-Applied.is turned).1 before c.in_ok-emit-in-Applied.ensures
 
 -- one event, and what was typed behind it
 pub returns-clause-turned : goal.returns-clause-turned
-returns-clause-turned g c = λ from start.
+returns-clause-turned g c = λ cut given.
     let now = c.args.graph.now in
+    let n = c.args.run.position + c.args.place in
+    let all = c.requires.run.events.within in
+    let within : n < length now = omega (arith, all, c.requires.within) in
+    let same = c.in_ok-deleted.ensures.same (omega (arith, c.if-deleted-gt0.false)) in
+    let ready = subst (λ s. IsReadyAt now cut n s) (sym same) given in
+    let next : n + 1 ≡ c.args.run.position + (c.args.place + 1) = omega arith in
+    let turned = turned_over now cut n c.delete_run.new.state c.apply.new.state c.in_ok-op.field-0 within ready c.in_ok-op.ensures.turned in
+    let walked = subst (λ m. Reached now cut m c.apply.new.state) next (goes_on now cut n c.apply.new.state c.in_ok-op.field-0 c.in-Applied.op c.in-Applied.is turned).0 in
     let typed = c.in_ok-typed.ensures in
     let end : c.args.run.position + (c.args.place + 1) + c.in_ok-typed.typed ≡ c.args.run.position + c.args.place + 1 + c.in_ok-typed.typed = omega arith in (
       omega arith,
       omega (arith, typed.within),
-      subst (λ m. WalkedTo now from m None c.type_on.new.state) end (omega (arith, start), typed.walked.1),
+      subst (λ m. Reached now cut m c.type_on.new.state) end (typed.walked cut walked),
     )
 
 pub returns-clause-emitted : goal.returns-clause-emitted

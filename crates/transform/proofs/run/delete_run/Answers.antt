@@ -20,7 +20,7 @@ pub delete_run-requires-clause-may : goal.delete_run-requires-clause-may
 delete_run-requires-clause-may g c =
     let a = c.in-Deletions in
     let run = subst (λ (r : OperationRun). IsRunAt c.args.graph.now c.args.run.position c.args.run.count (run_ops r)) a.is c.requires.run.events in
-    run_may_delete c.args.graph.now c.count-count.ensures.admitted c.count-count.ensures.sound c.args.run.position c.args.run.count c.args.place a.at a.count c.args.state.now run c.requires.run.apart c.requires.within c.requires.ready
+    run_may_delete c.args.graph.now c.count-count.ensures.admitted c.count-count.ensures.sound c.requires.ready.0 c.args.run.position c.args.run.count c.args.place a.at a.count c.args.state.now run c.requires.within c.requires.ready.1
 
 pub emit_run-requires-clause-within : goal.emit_run-requires-clause-within
 emit_run-requires-clause-within g c =
@@ -29,14 +29,14 @@ emit_run-requires-clause-within g c =
     omega (arith, long)
 
 pub returns-clause-walked : goal.returns-clause-walked
-returns-clause-walked g c = λ some from low.
+returns-clause-walked g c = λ cut ready some.
     let a = c.in-Deletions in
     let ds = c.in-Some.deleted in
     let run = subst (λ (r : OperationRun). IsRunAt c.args.graph.now c.args.run.position c.args.run.count (run_ops r)) a.is c.requires.run.events in
     let most = rw c.in-Some.is at c.in_ok-deleted.ensures.most in
     let each = rw c.in-Some.is at c.in_ok-deleted.ensures.deleted in
-    run_deleted c.args.graph.now c.count-count.ensures.admitted c.count-count.ensures.sound c.args.run.position c.args.run.count c.args.place a.at a.count c.args.state.now run c.requires.run.apart c.requires.within c.requires.ready (deletion_op ds.index) ds.count (omega (arith, some))
-    most c.delete_run.new.self each from low
+    run_deleted c.args.graph.now c.count-count.ensures.admitted c.count-count.ensures.sound cut c.args.run.position c.args.run.count c.args.place a.at a.count c.args.state.now run c.requires.within ready (deletion_op ds.index) ds.count (omega (arith, some))
+    most c.delete_run.new.self each
 
 pub returns-clause-emitted : goal.returns-clause-emitted
 returns-clause-emitted g c =
@@ -48,7 +48,7 @@ returns-clause-emitted g c =
     let many = rw c.in-Some.is at c.in_ok-deleted.ensures.some in
     let most = rw c.in-Some.is at c.in_ok-deleted.ensures.most in
     let each = rw c.in-Some.is at c.in_ok-deleted.ensures.deleted in
-    let whole = run_ops_deleted now c.count-count.ensures.admitted c.count-count.ensures.sound c.args.run.position c.args.run.count c.args.place a.at a.count c.args.state.now run c.requires.run.apart c.requires.within c.requires.ready (deletion_op ds.index) ds.count (omega (arith, many))
+    let whole = run_ops_deleted now c.count-count.ensures.admitted c.count-count.ensures.sound c.requires.ready.0 c.args.run.position c.args.run.count c.args.place a.at a.count c.args.state.now run c.requires.within c.requires.ready.1 (deletion_op ds.index) ds.count (omega (arith, many))
     most c.delete_run.new.self each in
     let told : List TextOp = take ds.count (run_ops c.operations_of.result) in
     let same : told ≡ replicate ds.count (deletion_op ds.index) = ap (take ds.count) c.operations_of.ensures.is ∙ take-replicate ds.count ds.count (deletion_op ds.index) (omega arith) in

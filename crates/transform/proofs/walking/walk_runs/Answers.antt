@@ -59,7 +59,7 @@ returns-in-OutOfRange-clause-stopped g c =
     let cut = c.args.from_cut in
     let inv = c.loop-next.invariant in
     let turned = subst (TurnsTo now cut c.loop-next.next (length now) c.take_turns.new.line c.take_turns.new.state) c.in-OutOfRange.is (c.in_ok-turns.ensures.turned cut inv.low inv.walked) in
-    (stops now cut c.in-OutOfRange.position c.in-OutOfRange.len c.take_turns.new.line c.take_turns.new.state turned.1 turned.2 turned.3).0
+    (stops now cut c.in-OutOfRange.position c.in-OutOfRange.len c.take_turns.new.state turned.1 turned.2 turned.3).0
 
 pub returns-in-OutOfRange-clause-state : goal.returns-in-OutOfRange-clause-state
 returns-in-OutOfRange-clause-state g c =
@@ -67,7 +67,7 @@ returns-in-OutOfRange-clause-state g c =
     let cut = c.args.from_cut in
     let inv = c.loop-next.invariant in
     let turned = subst (TurnsTo now cut c.loop-next.next (length now) c.take_turns.new.line c.take_turns.new.state) c.in-OutOfRange.is (c.in_ok-turns.ensures.turned cut inv.low inv.walked) in
-    (stops now cut c.in-OutOfRange.position c.in-OutOfRange.len c.take_turns.new.line c.take_turns.new.state turned.1 turned.2 turned.3).1
+    (stops now cut c.in-OutOfRange.position c.in-OutOfRange.len c.take_turns.new.state turned.1 turned.2 turned.3).1
 
 pub returns-in-OutOfRange-clause-ops : goal.returns-in-OutOfRange-clause-ops
 returns-in-OutOfRange-clause-ops g c = c.in_ok-turns.ensures.emitted ∙ ap (λ t. emitted_to c.args.graph.now c.args.emit_from (walked_to t)) c.in-OutOfRange.is

@@ -4,7 +4,7 @@ use Rattle.ew_model.specs.declared.event.Event.{Event}
 use Rattle.ew_model.specs.declared.id.Id.{Id}
 use Rattle.ew_model.specs.Ids.{is_among}
 use Rattle.ew_model.proofs.AgentLaws.{within_ids}
-use Rattle.tree_places.proofs.Targets.{one_for_all, pair_there}
+use Rattle.transform.proofs.DeletionTargets.{one_for_all, pair_there}
 use Rattle.undo.specs.declared.fate.Fate.{Fate}
 use Rattle.undo.specs.declared.fate.Fate.TheVariants.{Shown}
 use Rattle.undo.specs.Fates.{with_deletion}

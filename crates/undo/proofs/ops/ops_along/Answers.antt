@@ -6,7 +6,7 @@ use Rattle.ew_model.specs.declared.id.Id.{Id}
 use Rattle.ew_model.specs.Ids.{is_among}
 use Rattle.ew_model.specs.Ancestors.{ids_of}
 use Rattle.ew_model.proofs.AgentLaws.{within_ids}
-use Rattle.tree_places.proofs.Order.{char_there, order_long, few_chars}
+use Rattle.transform.proofs.TextOrder.{char_there, order_long, few_chars}
 use Rattle.undo.specs.declared.fate.Fate.{Fate}
 use Rattle.undo.specs.Fates.{fate_of, fates_of, is_deleted_by, stays_deleted}
 use Rattle.undo.specs.Undone.{undone_ids}

@@ -3,7 +3,7 @@ use Rattle.ew_model.specs.declared.event.Event.{Event}
 use Rattle.ew_model.specs.Kept.{IsKept, ReplicaState}
 use Rattle.ew_model.specs.Limits.{LimitNumbers}
 use Rattle.event_graph.proofs.Summing.{known_ok}
-use Rattle.arrival_laws.specs.Repeats.{without_held}
+use Rattle.history_laws.specs.Repeats.{without_held}
 use Rattle.peer_definitions.specs.Making.{peer_at}
 use Rattle.generator.proofs.Missing.{lacking, no_more, summary_distinct}
 use Rattle.generator.proofs.Owned.{read}

@@ -1,5 +1,0 @@
-use Rattle.arrival_laws.proofs.Accounts.{judgements_account_for_all}
-use Rattle.arrival_laws.proofs.law_accounts.Goals as goal
-
-pub returns : goal.returns
-returns c = judgements_account_for_all

@@ -1,5 +1,0 @@
-use Rattle.arrival_laws.proofs.LastAnswers.{each_has_one_last_answer}
-use Rattle.arrival_laws.proofs.law_last_answers.Goals as goal
-
-pub returns : goal.returns
-returns c = each_has_one_last_answer

@@ -1,5 +1,0 @@
-use Rattle.arrival_laws.proofs.Parts.{parts_are_the_whole}
-use Rattle.arrival_laws.proofs.law_parts.Goals as goal
-
-pub returns : goal.returns
-returns c = parts_are_the_whole

@@ -1,5 +1,0 @@
-use Rattle.arrival_laws.proofs.Answered.{held_events_are_repeats}
-use Rattle.arrival_laws.proofs.law_repeats.Goals as goal
-
-pub returns : goal.returns
-returns c = held_events_are_repeats

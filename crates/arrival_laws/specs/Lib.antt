@@ -1,3 +1,0 @@
-pub mod Accounts
-pub mod Parts
-pub mod Repeats

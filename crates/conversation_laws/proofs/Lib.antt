@@ -1,5 +1,0 @@
-mod GoodBehind
-mod Received
-mod Spoken
-mod Brought
-mod Alike

@@ -1,5 +1,0 @@
-use Rattle.conversation_laws.proofs.Brought.{conversations_bring}
-use Rattle.conversation_laws.proofs.law_conversation.Goals as goal
-
-pub returns : goal.returns
-returns c = conversations_bring

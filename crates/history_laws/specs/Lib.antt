@@ -1,0 +1,4 @@
+pub mod Accounts
+pub mod Parts
+pub mod Repeats
+pub mod Versions

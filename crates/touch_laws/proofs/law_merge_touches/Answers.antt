@@ -1,5 +1,0 @@
-use Rattle.touch_laws.proofs.MergeTouches.{merges_spare}
-use Rattle.touch_laws.proofs.law_merge_touches.Goals as goal
-
-pub returns : goal.returns
-returns c = merges_spare

@@ -1,6 +1,0 @@
-use Rattle.std.proofs.Common.{◌≡◌}
-use Rattle.tree_places.proofs.Targets.{deleted_by}
-use Rattle.tree_places.proofs.tombstones.deleted.Given as goal
-
-abbrev pub invariant-loop-pair : goal.invariant-loop-pair
-invariant-loop-pair l = l.deleted.items ≡ deleted_by l.graph l.pair-index

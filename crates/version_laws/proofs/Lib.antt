@@ -1,4 +1,0 @@
-mod VersionTexts
-pub mod VersionHistories
-mod HeldVersions
-mod SeenRows

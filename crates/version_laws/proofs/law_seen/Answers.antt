@@ -1,5 +1,0 @@
-use Rattle.version_laws.proofs.HeldVersions.{events_mean_what_was_seen}
-use Rattle.version_laws.proofs.law_seen.Goals as goal
-
-pub returns : goal.returns
-returns c = events_mean_what_was_seen

@@ -1,5 +1,0 @@
-use Rattle.version_laws.proofs.VersionTexts.{versions_keep_text}
-use Rattle.version_laws.proofs.law_version_texts.Goals as goal
-
-pub returns : goal.returns
-returns c = versions_keep_text
