@@ -145,7 +145,7 @@ fn answer_events<L: Ledger>(
 {
     let mut frames = Vec::with_capacity(alloc, 1)?;
     let _most = replica.limits().events();
-    match replica.receive(events, steps) {
+    match replica.receive_going_on(events, steps) {
         Ok(took) => {
             let (frame, end) = told(&took);
             frames.push(frame)?;

@@ -14,6 +14,7 @@ pub mod GoingOn
 pub mod HeadLaws
 pub mod Joined
 pub mod Judged
+pub mod KeptWalks
 pub mod Knowing
 pub mod LengthLaws
 pub mod LengthRunLaws

@@ -11,7 +11,7 @@ use Rattle.ew_model.specs.TextLaws.{AllFit}
 use Rattle.ew_model.specs.Verdicts.{IsGood}
 use Rattle.ew_model.proofs.FirstBadLaws.{good_has_no_bad}
 use Rattle.ew_model.proofs.ListParts.{length-filter-le}
-use Rattle.version_laws.proofs.VersionHistories.{versions_are_histories}
+use Rattle.history_laws.proofs.VersionHistories.{versions_are_histories}
 use Rattle.event_graph.specs.Subgraphs.{subgraph_of}
 use Rattle.rope.specs.Lengths.{AllStayShort}
 use Rattle.replica.proofs.FrontWalks.{AreWalked, may_write, text_made}

@@ -1,5 +1,5 @@
 -- What a round knows of the events below the cut that its walk begins at.
-use Rattle.std.proofs.Common.{◌≡◌, ℕ, ◌+◌, ◌≤◌, true, List, length, take, Option, None, sym, ap, subst, ◌∙◌, arith}
+use Rattle.std.proofs.Common.{◌≡◌, ℕ, ◌+◌, ◌≤◌, List, length, take, Option, None, sym, ap, subst, ◌∙◌, arith}
 use Rattle.std.proofs.lemmas.List.{take-append-le}
 use Rattle.ew_model.specs.declared.event.Event.{Event}
 use Rattle.ew_model.specs.Arrival.{Desk}
@@ -16,16 +16,10 @@ use Rattle.replica.specs.Counting.{Counted}
 use Rattle.replica.specs.Desks.{LeadsToEnd}
 use Rattle.replica.specs.Fronts.{IsFront}
 use Rattle.replica.specs.Lengths.{prefix_lengths}
+use Rattle.replica.specs.Walks.{BeginsAt}
 use Rattle.replica.proofs.LengthLaws.{length-prefix_lengths}
 use Rattle.replica.proofs.RoundWays.{round_is}
 use Rattle.transform.proofs.WholeWalks.{front_good}
-
--- What was held before a round, and what is held when all is judged: the round begins its walk at this cut.
-pub record BeginsAt (held graph : List Event) (cut : ℕ) : Type 0 where
-  pub critical : is_critical graph cut ≡ true
-  pub below : cut ≤ length held
-  pub good : IsGood (take cut graph)
-  pub text : take cut held ≡ take cut graph
 
 pub begins_at : (held graph : List Event) (count cut : ℕ) → IsGood held → IsFront held graph → count ≡ length held → cut ≡ latest_cut graph count → BeginsAt held graph cut
 begins_at held graph count cut good front all is =

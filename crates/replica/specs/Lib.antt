@@ -17,3 +17,4 @@ pub mod Reaching
 pub mod Receiving
 pub mod Refusing
 pub mod Sparing
+pub mod Walks

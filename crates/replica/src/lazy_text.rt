@@ -1,6 +1,6 @@
 //! A text that is made when it is asked for.
 
-ghost use Rattle.std.specs.Prelude.{◌≡◌, [], ◌++◌, drop, length, take, None, Some, IfSome, IfOk, IfErr, OnOk, OnErr, encode_utf8_all};
+ghost use Rattle.std.specs.Prelude.{◌≡◌, [], ◌++◌, true, false, drop, length, take, None, Some, IfSome, IfOk, IfErr, OnOk, OnErr, encode_utf8_all};
 ghost use Rattle.ew_model.specs.Operations.{changed_by_all};
 ghost use Rattle.ew_model.specs.TextLaws.{AllFit};
 ghost use Rattle.rope.specs.Extents.{extent, IsIndexBehind};
@@ -14,7 +14,7 @@ use std::alloc::Global;
 use std::marker::Model;
 
 /// A text. As long as nobody asks for it, it is known by the operations that make it of the empty one. Contracts see its characters,
-/// and the operations that it was told by, as long as nothing else came behind them.
+/// the operations that it was told by, as long as nothing else came behind them, and whether it is made.
 #[derive(Drop)]
 pub struct LazyText {
     form: Form,
@@ -36,11 +36,11 @@ enum Form {
 }
 
 impl Model for LazyText {
-    ghost use Rattle.replica.specs.LazyTexts.{ToldText, characters_of, told_of, IsTellable};
+    ghost use Rattle.replica.specs.LazyTexts.{ToldText, characters_of, told_of, is_made, IsTellable};
 
     ghost Value = { ToldText };
 
-    ghost view = { λ t. record { characters = characters_of t.form; told = told_of t.form } };
+    ghost view = { λ t. record { characters = characters_of t.form; told = told_of t.form; made = is_made t.form } };
 
     ghost invariant = { λ t. IsTellable t.form };
 }
@@ -48,7 +48,7 @@ impl Model for LazyText {
 impl LazyText {
     /// The empty text.
     pub fn new(alloc: Global) -> Result<LazyText, NoMem>
-        ensures { IfOk result (λ t. t ≡ record { characters = []; told = None }) }
+        ensures { IfOk result (λ t. t ≡ record { characters = []; told = None; made = true }) }
     {
         let rope = Rope::new(alloc)?;
         Ok(LazyText {
@@ -61,7 +61,7 @@ impl LazyText {
         requires fit { AllFit [] ops }
         requires short { AllStayShort [] ops }
         requires long { len ≡ length (changed_by_all ops []) }
-        ensures { result ≡ record { characters = changed_by_all ops []; told = Some ops } }
+        ensures { result ≡ record { characters = changed_by_all ops []; told = Some ops; made = false } }
     {
         LazyText {
             form: Form::Told {
@@ -73,10 +73,12 @@ impl LazyText {
         }
     }
 
-    /// Makes the text, if it isn't made yet, and keeps it. Where memory is wanting it is as before.
+    /// Makes the text, if it isn't made yet, and keeps it: then nothing is left to make. Where memory is wanting it is as before.
     pub fn make(&mut self, alloc: Global) -> Result<(), NoMem>
         ensures characters { self.new.characters ≡ self.old.characters }
         ensures told { IfSome self.new.told (λ ops. self.old.told ≡ Some ops) }
+        ensures made { OnOk result (self.new.made ≡ true) }
+        ensures err { OnErr result (self.new ≡ self.old) }
     {
         match &self.form {
             Form::Made(_) => Ok(()),
@@ -118,6 +120,7 @@ impl LazyText {
     pub fn grow(&mut self)
         ensures characters { self.new.characters ≡ self.old.characters }
         ensures told { self.new.told ≡ None }
+        ensures made { self.new.made ≡ self.old.made }
     {
         match &mut self.form {
             Form::Made(_) => {}
@@ -132,6 +135,7 @@ impl LazyText {
         requires long { after ≡ length (changed_by_all changes.now self.old.characters) }
         ensures ok { OnOk result (self.new.characters ≡ changed_by_all changes.now self.old.characters) }
         ensures told { OnOk result (self.new.told ≡ None) }
+        ensures made { self.new.made ≡ self.old.made }
         ensures err { OnErr result (self.new ≡ self.old) }
     {
         match &mut self.form {

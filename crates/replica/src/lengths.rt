@@ -1,6 +1,6 @@
 //! A text, and how long it was after each operation.
 
-ghost use Rattle.std.specs.Prelude.{◌≡◌, ℕ, ◌≤◌, [], ◌++◌, List, length, take, None, Some, IfOk, OnOk, OnErr};
+ghost use Rattle.std.specs.Prelude.{◌≡◌, ℕ, ◌≤◌, [], ◌++◌, List, length, take, None, Some, IfOk, OnOk, OnErr, false};
 ghost use Rattle.ew_model.specs.declared.event.Event.{Event};
 ghost use Rattle.ew_model.specs.Operations.{changed_by_all};
 ghost use Rattle.ew_model.specs.TextLaws.{AllFit};
@@ -21,7 +21,7 @@ use std::alloc::Global;
 pub fn written(alloc: Global, ops: OperationRuns) -> Result<(LazyText, LengthRuns), NoMem>
     requires fit { AllFit [] ops }
     requires short { AllStayShort [] ops }
-    ensures text { IfOk result (λ made. made.0 ≡ record { characters = changed_by_all ops []; told = Some ops }) }
+    ensures text { IfOk result (λ made. made.0 ≡ record { characters = changed_by_all ops []; told = Some ops; made = false }) }
     ensures lengths { IfOk result (λ made. made.1 ≡ lengths_through [] ops) }
 {
     let mut lengths = LengthRuns::new(alloc);

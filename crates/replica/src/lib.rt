@@ -27,6 +27,7 @@ mod recent;
 mod rounds;
 mod state;
 mod took;
+mod walks;
 
 pub use fault::{EditFault, LoadFault, VersionFault};
 pub use loading::Loading;

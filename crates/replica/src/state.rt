@@ -56,6 +56,7 @@ use crate::past::text_at;
 use crate::recent::Recent;
 use crate::rounds::{Intake, Rounded, round};
 use crate::took::{Stopped, Took};
+use crate::walks::Walks;
 use agreement::agrees;
 use event_graph::Graph;
 use ew_model::NoMem;
@@ -84,6 +85,8 @@ pub struct Replica {
     pool: Pool,
     /// What the events of the latest round of receiving do to the text, until the next round, or until events are made here.
     recent: Option<Recent>,
+    /// What walks of receiving know that go on.
+    walks: Walks,
 }
 
 impl Drop for Replica {
@@ -96,6 +99,7 @@ impl Drop for Replica {
             lengths: _,
             pool: _,
             recent: _,
+            walks: _,
         } = self;
     }
 }
@@ -104,12 +108,13 @@ impl Model for Replica {
     ghost use Rattle.waiting_pool.specs.Waiting.{events_of};
     ghost use Rattle.ew_model.specs.Kept.{ReplicaState};
     ghost use Rattle.replica.specs.Keeping.{AreRecent, IsToldBy, IsUpToDate};
+    ghost use Rattle.replica.specs.Walks.{AreKept};
 
     ghost Value = { ReplicaState };
 
     ghost view = { λ r. record { limits = r.limits; held = r.graph; waiting = events_of r.pool } };
 
-    ghost invariant = { λ r. IsUpToDate r.limits r.graph r.pool r.text.characters r.lengths × IsToldBy r.graph r.text.told × AreRecent r.graph r.recent };
+    ghost invariant = { λ r. IsUpToDate r.limits r.graph r.pool r.text.characters r.lengths × IsToldBy r.graph r.text.told × AreRecent r.graph r.recent × AreKept r.graph r.walks };
 }
 
 impl Replica {
@@ -165,6 +170,7 @@ impl Replica {
             lengths,
             pool,
             recent: None,
+            walks: Walks::none(),
         })
     }
 
@@ -188,17 +194,23 @@ impl Replica {
         ensures touches { IfOk result (λ took. NoneOutOfRange (arrive self.old.limits self.old.held self.old.waiting events.items).answers → steps.new ≡ steps.old + touches self.new.held took.cut) }
         ensures most { steps.new ≤ steps.old + most_touches self.old.limits self.old.held self.old.waiting events.items }
     {
-        let before = self.count();
-        let mut progress = Progress::new(self.alloc);
-        let offered = Offered::listed(&events);
-        match self.receive_all(&offered, &mut progress, steps) {
-            Ok(()) => Ok(self.took(progress, before)),
-            Err(_) => {
-                let rest = rest(events, progress.judged());
-                let took = self.took(progress, before);
-                Err(Stopped { took, rest })
-            }
-        }
+        self.receive_listed(events, false, steps)
+    }
+
+    /// Receives events as `receive` does, and answers the same. But where events come that don't know all that was held, the walk over them
+    /// is kept, and a later call goes on with it where it can. No call takes more steps than `receive` may take; how many fewer it takes
+    /// isn't promised.
+    pub fn receive_going_on<L: Ledger>(
+        &mut self,
+        events: Vec<Event>,
+        steps: &mut Steps<L>,
+    ) -> Result<Took, Stopped>
+        requires { length events.items < 2 ^ 32 }
+        ensures received { IfOk result (Receives self.old events.items self.new) }
+        ensures stopped { IfErr result (StopsBetween self.old events.items self.new) }
+        ensures most { steps.new ≤ steps.old + most_touches self.old.limits self.old.held self.old.waiting events.items }
+    {
+        self.receive_listed(events, true, steps)
     }
 
     /// Receives the events at some positions of another graph, as `receive` does, but that no list of them is made. For want of
@@ -216,18 +228,80 @@ impl Replica {
         ensures touches { IfOk result (λ took. NoneOutOfRange (arrive self.old.limits self.old.held self.old.waiting (events_at other.now positions.now)).answers → steps.new ≡ steps.old + touches self.new.held took.cut) }
         ensures most { steps.new ≤ steps.old + most_touches self.old.limits self.old.held self.old.waiting (events_at other.now positions.now) }
     {
+        self.receive_held(other, positions, false, steps)
+    }
+
+    /// Receives the events at some positions of another graph, as `receive_from` does, and keeps the walk, as `receive_going_on` does.
+    pub fn receive_from_going_on<L: Ledger>(
+        &mut self,
+        other: &Graph,
+        positions: &[u32],
+        steps: &mut Steps<L>,
+    ) -> Result<Took, NoMem>
+        requires within { All (λ p. p < length other.now) positions.now }
+        requires few { length positions.now < 2 ^ 32 }
+        ensures received { IfOk result (Receives self.old (events_at other.now positions.now) self.new) }
+        ensures stands { OnErr result (StandsBetween self.old (events_at other.now positions.now) self.new) }
+        ensures most { steps.new ≤ steps.old + most_touches self.old.limits self.old.held self.old.waiting (events_at other.now positions.now) }
+    {
+        self.receive_held(other, positions, true, steps)
+    }
+
+    /// Receives the events of a list, with walks that are kept and go on, or without.
+    fn receive_listed<L: Ledger>(
+        &mut self,
+        events: Vec<Event>,
+        keeping: bool,
+        steps: &mut Steps<L>,
+    ) -> Result<Took, Stopped>
+        requires { length events.items < 2 ^ 32 }
+        ensures received { IfOk result (Receives self.old events.items self.new) }
+        ensures stopped { IfErr result (StopsBetween self.old events.items self.new) }
+        ensures touches { IfOk result (λ took. keeping ≡ false → NoneOutOfRange (arrive self.old.limits self.old.held self.old.waiting events.items).answers → steps.new ≡ steps.old + touches self.new.held took.cut) }
+        ensures most { steps.new ≤ steps.old + most_touches self.old.limits self.old.held self.old.waiting events.items }
+    {
+        let before = self.count();
+        let mut progress = Progress::new(self.alloc);
+        let offered = Offered::listed(&events);
+        match self.receive_all(&offered, &mut progress, keeping, steps) {
+            Ok(()) => Ok(self.took(progress, before)),
+            Err(_) => {
+                let rest = rest(events, progress.judged());
+                let took = self.took(progress, before);
+                Err(Stopped { took, rest })
+            }
+        }
+    }
+
+    /// Receives the events at some positions of another graph, with walks that are kept and go on, or without.
+    fn receive_held<L: Ledger>(
+        &mut self,
+        other: &Graph,
+        positions: &[u32],
+        keeping: bool,
+        steps: &mut Steps<L>,
+    ) -> Result<Took, NoMem>
+        requires within { All (λ p. p < length other.now) positions.now }
+        requires few { length positions.now < 2 ^ 32 }
+        ensures received { IfOk result (Receives self.old (events_at other.now positions.now) self.new) }
+        ensures stands { OnErr result (StandsBetween self.old (events_at other.now positions.now) self.new) }
+        ensures touches { IfOk result (λ took. keeping ≡ false → NoneOutOfRange (arrive self.old.limits self.old.held self.old.waiting (events_at other.now positions.now)).answers → steps.new ≡ steps.old + touches self.new.held took.cut) }
+        ensures most { steps.new ≤ steps.old + most_touches self.old.limits self.old.held self.old.waiting (events_at other.now positions.now) }
+    {
         let before = self.count();
         let mut progress = Progress::new(self.alloc);
         let offered = Offered::held(other, positions);
-        self.receive_all(&offered, &mut progress, steps)?;
+        self.receive_all(&offered, &mut progress, keeping, steps)?;
         Ok(self.took(progress, before))
     }
 
-    /// Goes through rounds until nothing is left to judge. For want of memory it stops between two of them.
+    /// Goes through rounds until nothing is left to judge, with walks that are kept and go on, or without. For want of memory it stops
+    /// between two of them.
     fn receive_all<L: Ledger>(
         &mut self,
         events: &Offered,
         progress: &mut Progress,
+        keeping: bool,
         steps: &mut Steps<L>,
     ) -> Result<(), NoMem>
         requires few { length events.now < 2 ^ 32 }
@@ -236,10 +310,10 @@ impl Replica {
         ensures begun { IsBegun events.now progress.new }
         ensures reaches { Reaches self.old.limits (desk_of_replica self.old events.now progress.old) (desk_of_replica self.new events.now progress.new) progress.old progress.new }
         ensures ends { OnOk result (next_judgement self.old.limits true (desk_of_replica self.new events.now progress.new) ≡ None) }
-        ensures touches { OnOk result (after_out_of_range self.old.limits (most_judgements (desk_of_replica self.old events.now progress.old)) (desk_of_replica self.old events.now progress.old) ≡ None → steps.new ≡ steps.old + round_touches self.old.limits (desk_of_replica self.old events.now progress.old)) }
+        ensures touches { OnOk result (keeping ≡ false → after_out_of_range self.old.limits (most_judgements (desk_of_replica self.old events.now progress.old)) (desk_of_replica self.old events.now progress.old) ≡ None → steps.new ≡ steps.old + round_touches self.old.limits (desk_of_replica self.old events.now progress.old)) }
         ensures most { steps.new ≤ steps.old + rounds_touches self.old.limits (most_judgements (desk_of_replica self.old events.now progress.old)) (desk_of_replica self.old events.now progress.old) }
     {
-        while self.round(events, progress, steps)? {}
+        while self.round(events, progress, keeping, steps)? {}
         Ok(())
     }
 
@@ -248,6 +322,7 @@ impl Replica {
         &mut self,
         events: &Offered,
         progress: &mut Progress,
+        keeping: bool,
         steps: &mut Steps<L>,
     ) -> Result<bool, NoMem>
         requires few { length events.now < 2 ^ 32 }
@@ -258,7 +333,7 @@ impl Replica {
         ensures fewer { IfOk result (λ more. more ≡ true → most_judgements (desk_of_replica self.new events.now progress.new) < most_judgements (desk_of_replica self.old events.now progress.old)) }
         ensures last { IfOk result (λ more. more ≡ false → next_judgement self.old.limits true (desk_of_replica self.new events.now progress.new) ≡ None) }
         ensures next { IfOk result (λ more. more ≡ true → after_out_of_range self.old.limits (most_judgements (desk_of_replica self.old events.now progress.old)) (desk_of_replica self.old events.now progress.old) ≡ Some (desk_of_replica self.new events.now progress.new)) }
-        ensures touches { IfOk result (λ more. more ≡ false → steps.new ≡ steps.old + round_touches self.old.limits (desk_of_replica self.old events.now progress.old)) }
+        ensures touches { IfOk result (λ more. keeping ≡ false → more ≡ false → steps.new ≡ steps.old + round_touches self.old.limits (desk_of_replica self.old events.now progress.old)) }
         ensures most { steps.new ≤ steps.old + round_touches self.old.limits (desk_of_replica self.old events.now progress.old) }
         ensures same { OnErr result (self.new ≡ self.old) }
         ensures same_progress { OnErr result (progress.new ≡ progress.old) }
@@ -270,6 +345,7 @@ impl Replica {
             pool: &self.pool,
             progress,
             events,
+            keeping,
         };
         let Rounded { desk, ops, more } = round(
             self.alloc,
@@ -277,6 +353,7 @@ impl Replica {
             &mut self.graph,
             &mut self.text,
             &mut self.lengths,
+            &mut self.walks,
             steps,
         )?;
         self.pool = desk.pool;
@@ -332,6 +409,7 @@ impl Replica {
             lengths,
             pool,
             recent,
+            walks,
         } = self;
         match text.into_operations() {
             Ok(ops) => Ok(ops),
@@ -343,6 +421,7 @@ impl Replica {
                 lengths,
                 pool,
                 recent,
+                walks,
             }),
         }
     }

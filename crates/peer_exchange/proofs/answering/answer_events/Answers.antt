@@ -13,8 +13,8 @@ use Rattle.peer_frames.proofs.Bodies.{events_few}
 use Rattle.peer_exchange.proofs.Refused.{refused_few}
 use Rattle.peer_exchange.proofs.answering.answer_events.Goals as goal
 
-pub receive-requires : goal.receive-requires
-receive-requires c x = events_few x.args.events.items x.requires.body
+pub receive_going_on-requires : goal.receive_going_on-requires
+receive_going_on-requires c x = events_few x.args.events.items x.requires.body
 
 pub told-frame-requires : goal.told-frame-requires
 told-frame-requires c x =

@@ -1,5 +1,5 @@
 use Rattle.std.proofs.Common.{◌∙◌, ap, arith, encode_utf8_all}
-use Rattle.version_laws.proofs.VersionHistories.{part_good}
+use Rattle.history_laws.proofs.VersionHistories.{part_good}
 use Rattle.replica.proofs.PastTexts.{version_few, version_text}
 use Rattle.replica.proofs.past.text_at.Goals as goal
 

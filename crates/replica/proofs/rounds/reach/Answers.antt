@@ -6,6 +6,7 @@ use Rattle.replica.specs.Desks.{LeadsTo, desk_as, desk_at}
 use Rattle.replica.specs.Fronts.{IsFront}
 use Rattle.replica.specs.Reaching.{IsRound}
 use Rattle.replica.proofs.Fronts.{hold_stands}
+use Rattle.replica.proofs.KeptWalks.{kept_of_all, kept_of_held, same_walks, still_kept}
 use Rattle.replica.proofs.RoundParts.{came_back, none_by}
 use Rattle.replica.proofs.RoundWays.{last_round, last_kept, cut_round, cut_kept}
 use Rattle.replica.proofs.rounds.reach.Goals as goal
@@ -80,3 +81,25 @@ returns-clause-orderly g c =
     let again : LeadsTo limits all.walked.stopped from to a.intake.progress.now r.desk.progress b =
     subst (λ (h : List Event). LeadsTo limits all.walked.stopped (desk_at h (events_of a.intake.pool.now) a.intake.events.now a.intake.progress.now) to a.intake.progress.now r.desk.progress b) back c.in_ok-reached.ensures.leads.1 in
     cut_kept limits from first to a.intake.progress.now all.desk.progress r.desk.progress all.walked.stopped b c.requires.kept.orderly found.leads found.stopped (c.is_none.ensures ∙ ap not c.if-is_none.false) again
+
+-- the walks that are kept
+pub returns-in_err-desk-clause-walks : goal.returns-in_err-desk-clause-walks
+returns-in_err-desk-clause-walks g c = same_walks c.args.graph.now c.reach_all.new.graph c.reach_all.new.walks c.in_err-desk.ensures.same c.in_err-desk.ensures.same_walks
+
+pub returns-then-is_none-clause-walks : goal.returns-then-is_none-clause-walks
+returns-then-is_none-clause-walks g c =
+    let all = c.in_ok-desk.field-0 in
+    kept_of_all c.args.graph.now c.reach_all.new.graph all.walked.stopped c.reach_all.new.walks (none_by all.walked.stopped (c.is_none.ensures ∙ ap not c.if-is_none.true)) c.in_ok-desk.ensures.walks
+
+pub returns-in_err-reached-clause-walks : goal.returns-in_err-reached-clause-walks
+returns-in_err-reached-clause-walks g c =
+    let all = c.in_ok-desk.field-0 in
+    let back : c.drop_tail.new.self ≡ c.args.graph.now = came_back c.in_ok-desk.field-0.hold c.args.graph.now c.reach_all.new.graph c.drop_tail.new.self c.in_ok-desk.ensures.hold c.in_ok-desk.ensures.front c.drop_tail.ensures in
+    same_walks c.args.graph.now c.reach_stop.new.graph c.reach_all.new.walks (c.in_err-reached.ensures.same ∙ back) (kept_of_held c.args.graph.now c.reach_all.new.graph all.walked.stopped c.reach_all.new.walks (c.is_none.ensures ∙ ap not c.if-is_none.false) c.in_ok-desk.ensures.walks)
+
+pub returns-clause-walks : goal.returns-clause-walks
+returns-clause-walks g c =
+    let all = c.in_ok-desk.field-0 in
+    let back : c.drop_tail.new.self ≡ c.args.graph.now = came_back c.in_ok-desk.field-0.hold c.args.graph.now c.reach_all.new.graph c.drop_tail.new.self c.in_ok-desk.ensures.hold c.in_ok-desk.ensures.front c.drop_tail.ensures in
+    still_kept c.args.graph.now c.reach_stop.new.graph (subst (λ (h : List Event). IsFront h c.reach_stop.new.graph) back c.in_ok-reached.ensures.front) c.reach_all.new.walks
+    (kept_of_held c.args.graph.now c.reach_all.new.graph all.walked.stopped c.reach_all.new.walks (c.is_none.ensures ∙ ap not c.if-is_none.false) c.in_ok-desk.ensures.walks)

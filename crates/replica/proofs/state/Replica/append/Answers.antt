@@ -8,6 +8,7 @@ use Rattle.replica.specs.Lengths.{lengths_through}
 use Rattle.replica.proofs.Appends.{appended}
 use Rattle.replica.proofs.Beginnings.{none_told, same_kept, same_recent, same_told}
 use Rattle.replica.specs.LazyTexts.{ToldText}
+use Rattle.replica.proofs.KeptWalks.{same_walks, still_kept}
 use Rattle.replica.proofs.Chains.{chain_room}
 use Rattle.replica.proofs.state.Replica.append.Goals as goal
 
@@ -19,6 +20,7 @@ invariant_of-self c =
       same_kept inside.limits inside.graph _ inside.pool _ inside.text.characters _ inside.lengths _ told.same_graph refl (ap (λ (t : ToldText). t.characters) told.same_text) told.same_lengths c.self.invariant.0,
       same_told inside.graph _ inside.text _ told.same_graph told.same_text c.self.invariant.1,
       same_recent inside.graph _ inside.recent told.same_graph c.self.invariant.2,
+      same_walks inside.graph _ inside.walks told.same_graph c.self.invariant.3,
     )
 
 -- all of it was done
@@ -33,6 +35,7 @@ invariant_of-self-2 c =
           (appended inside.limits inside.graph inside.pool made changes inside.text.characters inside.lengths c.self.invariant.0 can),
       none_told _ _ told.told,
       tt,
+      still_kept inside.graph _ (made, told.graph) inside.walks c.self.invariant.3,
     )
 
 -- there is room for all

@@ -3,6 +3,7 @@ use Rattle.ew_model.specs.Kept.{ReplicaState}
 use Rattle.waiting_pool.specs.Waiting.{events_of}
 use Rattle.replica.specs.Marking.{CanMark}
 use Rattle.replica.proofs.Beginnings.{none_told, same_kept, same_recent, same_told}
+use Rattle.replica.proofs.KeptWalks.{same_walks, still_kept}
 use Rattle.replica.proofs.MarkLaws.{marked}
 use Rattle.replica.proofs.state.Replica.append_marks.Goals as goal
 
@@ -14,6 +15,7 @@ invariant_of-self c =
       same_kept inside.limits inside.graph _ inside.pool _ inside.text.characters _ inside.lengths _ told.same_graph refl refl told.same_lengths c.self.invariant.0,
       same_told inside.graph _ inside.text _ told.same_graph refl c.self.invariant.1,
       same_recent inside.graph _ inside.recent told.same_graph c.self.invariant.2,
+      same_walks inside.graph _ inside.walks told.same_graph c.self.invariant.3,
     )
 
 -- all of it was done
@@ -28,4 +30,5 @@ invariant_of-self-2 c =
           (marked inside.limits inside.graph inside.pool made inside.text.characters inside.lengths len c.self.invariant.0 can c.len-len.ensures),
       none_told _ _ c.grow.ensures.told,
       tt,
+      still_kept inside.graph _ (made, told.graph) inside.walks c.self.invariant.3,
     )

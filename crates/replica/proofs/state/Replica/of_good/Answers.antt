@@ -2,6 +2,7 @@ use Rattle.std.proofs.Common.{◌≡◌, [], refl, ap, ◌∙◌}
 use Rattle.ew_model.specs.Texts.{text_of}
 use Rattle.replica.specs.Lengths.{prefix_lengths}
 use Rattle.replica.proofs.Beginnings.{none_waits, loaded, same_kept}
+use Rattle.replica.proofs.KeptWalks.{none_kept}
 use Rattle.replica.proofs.state.Replica.of_good.Goals as goal
 
 pub invariant_of-result : goal.invariant_of-result
@@ -11,4 +12,5 @@ invariant_of-result c =
           refl pool c.requires.text c.requires.lengths (loaded c.args.limits c.args.graph c.requires.good c.requires.few),
       c.requires.told,
       tt,
+      none_kept c.args.graph c.none.result c.none.ensures.latest c.none.ensures.other,
     )

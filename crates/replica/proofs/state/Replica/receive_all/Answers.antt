@@ -39,11 +39,11 @@ returns-clause-reaches g c =
     c.args.progress.now c.loop.progress c.round.new.progress before.limits before.reaches c.in_ok-round.ensures.reaches
 
 pub returns-clause-touches : goal.returns-clause-touches
-returns-clause-touches g c none =
+returns-clause-touches g c anew none =
     let events = c.args.events.now in
     let before = c.loop.invariant in
     counted_just c.args.self.now.limits c.loop.self.limits (desk_of_replica c.args.self.now events c.args.progress.now) (desk_of_replica c.loop.self events c.loop.progress) c.args.steps.now c.loop.steps c.round.new.steps
-    before.limits before.counted (c.in_ok-round.ensures.touches c.if-branch.false) none
+    before.limits before.counted (c.in_ok-round.ensures.touches anew c.if-branch.false) none
 
 pub returns-clause-most : goal.returns-clause-most
 returns-clause-most g c =
