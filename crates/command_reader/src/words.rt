@@ -15,7 +15,7 @@ use clap::error::ErrorKind;
 use ew_model::NoMem;
 use ew_model::id::Id;
 use ew_model::name::Name;
-use script_reader::version::{VersionTextFault, read_version};
+use script_reader::version::{VersionTextFault, read_id, read_version};
 use std::alloc::Global;
 
 /// What is shown of a file.
@@ -296,26 +296,17 @@ fn read_blame<'a>(alloc: Global, values: &ArgMatches<'a>) -> Result<Option<Taken
 }
 
 /// The id that a word spells.
-fn id_in(alloc: Global, word: &str) -> Result<Option<Id>, NoMem>
-    ensures { IfOk result (λ id. id ≡ id_in word.now) }
+fn id_in(word: &str) -> Option<Id>
+    ensures { result ≡ id_in word.now }
 {
-    let Some(ids) = version_in(alloc, word)? else {
-        return Ok(None);
-    };
-    match ids.as_slice() {
-        [id] => Ok(Some(*id)),
-        _ => Ok(None),
-    }
+    read_id(word.as_bytes())
 }
 
 /// The first event that is undone.
-fn first_in(alloc: Global, values: &ArgMatches<'_>) -> Result<Option<Id>, NoMem>
-    ensures { IfOk result (λ id. id ≡ option_and_then id_in (first_of (codes "of") (rows_of (found_of values.now)))) }
+fn first_in(values: &ArgMatches<'_>) -> Option<Id>
+    ensures { result ≡ option_and_then id_in (first_of (codes "of") (rows_of (found_of values.now))) }
 {
-    match value(values, "of") {
-        Some(word) => id_in(alloc, word),
-        None => Ok(None),
-    }
+    id_in(value(values, "of")?)
 }
 
 /// How many events are undone.
@@ -325,27 +316,19 @@ fn undone_count(values: &ArgMatches<'_>) -> Option<u32>
     number_between(value(values, "count")?, 1, MOST_UNDONE)
 }
 
-fn read_undo<'a>(alloc: Global, values: &ArgMatches<'a>) -> Result<Option<Taken<'a>>, NoMem>
-    ensures { IfOk result (λ l. option_map command_view l ≡ undo_line (rows_of (found_of values.now))) }
+fn read_undo<'a>(values: &ArgMatches<'a>) -> Option<Taken<'a>>
+    ensures { option_map command_view result ≡ undo_line (rows_of (found_of values.now)) }
 {
-    let Some(file) = value(values, "file") else {
-        return Ok(None);
-    };
-    let Some(agent) = agent_in(values) else {
-        return Ok(None);
-    };
-    let Some(first) = first_in(alloc, values)? else {
-        return Ok(None);
-    };
-    let Some(count) = undone_count(values) else {
-        return Ok(None);
-    };
-    Ok(Some(Taken::Undo {
+    let file = value(values, "file")?;
+    let agent = agent_in(values)?;
+    let first = first_in(values)?;
+    let count = undone_count(values)?;
+    Some(Taken::Undo {
         file,
         agent,
         first,
         count,
-    }))
+    })
 }
 
 fn read_command<'a>(
@@ -369,7 +352,7 @@ fn read_command<'a>(
         "net" => Ok(Some(Taken::Net)),
         "marks" => Ok(read_show(Listing::Marks, values)),
         "upgrade" => Ok(read_upgrade(values)),
-        "undo" => read_undo(alloc, values),
+        "undo" => Ok(read_undo(values)),
         "caret" => read_caret(alloc, values),
         "blame" => read_blame(alloc, values),
         _ => Ok(None),

@@ -17,7 +17,7 @@ use trial_rows::fault::Fault;
 use trial_rows::report::Report;
 use trial_rows::show;
 use trial_rows::words::{event, first_word, history, id, ids, number, two_numbers, typed};
-use undo::{UndoFault, Undone, undo};
+use undo::{UndoFault, undo};
 
 /// The limits of the program, or so many events and so many that wait.
 fn limits(words: &str) -> Result<Limits, Fault> {
@@ -202,15 +202,12 @@ fn undo_from<L: Ledger>(
     let agent = Name::read(word.as_bytes())?;
     let (word, count) = first_word(rest);
     let first = id(word)?;
-    let undone = Undone {
-        agent: first.agent,
-        first: first.seq,
-        count: number(count)?,
-    };
+    let count = number(count)?;
     if replica.awaits(&agent) {
         return Err(Fault::Unreadable);
     }
-    undone_by(alloc, undo(alloc, replica, agent, &undone, steps))
+    let undone = undo(alloc, replica, agent, first.agent, first.seq, count, steps);
+    undone_by(alloc, undone)
 }
 
 /// The number of an undo's events, or why it is refused.

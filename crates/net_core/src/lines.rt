@@ -22,7 +22,10 @@ pub struct MadeLine {
 }
 
 impl MadeLine {
-    pub fn new(alloc: Global) -> Result<MadeLine, NoMem> {
+    /// No bytes yet.
+    pub fn new(alloc: Global) -> Result<MadeLine, NoMem>
+        ensures { IfOk result (λ line. line.room.items ≡ []) }
+    {
         let room = Vec::with_capacity(alloc, MADE_BYTES)?;
         Ok(MadeLine { room })
     }

@@ -134,7 +134,15 @@ impl Peer {
         ensures name { self.new.name ≡ self.old.name }
         ensures caret { self.new.caret ≡ self.old.caret }
     {
-        undo(alloc, &mut self.replica, self.name, undone, steps)
+        undo(
+            alloc,
+            &mut self.replica,
+            self.name,
+            undone.agent,
+            undone.first,
+            undone.count,
+            steps,
+        )
     }
 
     /// Sets the caret at an index of its text.

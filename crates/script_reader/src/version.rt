@@ -81,8 +81,8 @@ fn push_id(ids: &mut Vec<Id>, word: &[u8]) -> Result<(), VersionTextFault>
     Ok(())
 }
 
-/// The id that the word spells: a name, a colon, a number.
-fn read_id(word: &[u8]) -> Option<Id>
+/// The id that the word spells: a name, a colon, a number. It takes no memory.
+pub fn read_id(word: &[u8]) -> Option<Id>
     ensures id { IfSome result (λ x. IsSoundId x × (id_text x ≡ word.now)) }
     ensures none { IfNone result ((x : Id) → IsSoundId x → id_text x ≢ word.now) }
 {
