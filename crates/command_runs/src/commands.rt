@@ -17,7 +17,7 @@ ghost use Rattle.command_reader.specs.Words.{listing_view};
 ghost use Rattle.command_runs.specs.Listings.{Lists, Shows, caret_fault};
 
 use blame::blame_text;
-use caret_places::{CaretFault, caret_at, index_in_text};
+use caret_places::{CaretFault, caret_in_version, index_in_text};
 use command_reader::words::Listing;
 use command_texts::refusal::Refusal;
 use command_texts::texts::index_text;
@@ -89,7 +89,7 @@ fn located<L: Ledger>(
     ensures most { steps.new ≤ steps.old + listing_touches (caret version.now index) replica.now.held }
 {
     let graph = replica.graph();
-    let caret = match caret_at(alloc, graph, version, index, steps) {
+    let caret = match caret_in_version(alloc, graph, version, index, steps) {
         Ok(caret) => caret,
         Err(fault) => return Err(caret_fault(index, fault)),
     };

@@ -12,11 +12,19 @@ use Rattle.carets.specs.declared.caret.Caret.TheVariants.{Root, Behind}
 use Rattle.carets.specs.Sides.{all_chars, char_of}
 use Rattle.caret_places.specs.Faults.{fault_by, fault_of}
 use Rattle.caret_places.specs.declared.fault.IndexFault.TheVariants as standing
+use Rattle.document.specs.Documents as document
+use Rattle.document.specs.declared.fault.RangeFault.{RangeFault}
+use Rattle.document.specs.declared.fault.RangeFault.TheVariants as range
 use Rattle.history_definitions.specs.Versions.{IsVersion}
 use Rattle.egw_c.specs.declared.fault.ReadingFault.{ReadingFault}
 use Rattle.egw_c.specs.declared.fault.ReadingFault.TheVariants as reading
-use Rattle.egw_c.specs.Reading.{RefusesIds, WritesBlame, unheld_place}
+use Rattle.egw_c.specs.Reading.{RefusesAbove, RefusesIds, WritesBlame, of_range, unheld_place}
 use Rattle.egw_c.proofs.Places.{place_past, place_within}
+
+-- a place that there isn't, as it is told
+pub above_told : (count from : ℕ) (fault : RangeFault) → document.RefusesAbove count from fault → RefusesAbove count from (of_range fault)
+above_told count from (range.OutOfRange len) h = h
+above_told count from range.OutOfMemory h = h
 
 -- the first id that isn't held stands at this place
 pub unknown_refused : (history : List Event) (ids : List Id) (x : Id) (place : ℕ) → first_unknown history ids ≡ Some x → place ≡ unheld_place history ids → RefusesIds history ids (reading.Unknown place)

@@ -15,7 +15,8 @@ use Rattle.egw_c.specs.declared.fault.ReadingFault.{ReadingFault}
 use Rattle.egw_c.specs.declared.fault.ReadingFault.TheVariants as reading
 use Rattle.egw_c.specs.declared.fault.UndoingFault.{UndoingFault}
 use Rattle.egw_c.specs.declared.answer.Answer.{Answer}
-use Rattle.egw_c.specs.Documents.{Shown, MayEdit, MayMark, Refuses, RefusesMark, RefusesUndo, UndoesFrom, later_bytes}
+use Rattle.document.specs.Documents.{later_bytes}
+use Rattle.egw_c.specs.Documents.{Shown, MayEdit, MayMark, Refuses, RefusesMark, RefusesUndo, UndoesFrom}
 use Rattle.egw_c.specs.Reading.{RefusesAbove}
 use Rattle.egw_c.specs.Exports.{EndsEdit, EndsMark, EndsUndo, TellsBytes, TellsChanges, TellsEdit, TellsMark, TellsUndo}
 use Rattle.egw_c.specs.Statuses.{edited, found, marked, undone}

@@ -15,15 +15,17 @@ use Rattle.undo_definitions.specs.Wanted.{ids_from}
 use Rattle.egw_c.specs.declared.answer.Answer.{Answer}
 use Rattle.egw_c.specs.declared.fault.EditingFault.{EditingFault}
 use Rattle.egw_c.specs.declared.fault.MarkingFault.{MarkingFault}
-use Rattle.egw_c.specs.declared.fault.OpeningFault.{OpeningFault}
+use Rattle.document.specs.declared.fault.OpeningFault.{OpeningFault}
 use Rattle.egw_c.specs.declared.fault.ReadingFault.{ReadingFault}
 use Rattle.egw_c.specs.declared.fault.ReadingFault.TheVariants as reading
-use Rattle.egw_c.specs.declared.fault.TalkingFault.{TalkingFault}
+use Rattle.document.specs.declared.fault.TalkingFault.{TalkingFault}
 use Rattle.egw_c.specs.declared.fault.UndoingFault.{UndoingFault}
-use Rattle.egw_c.specs.Documents.{Shown, MayEdit, MayMark, MayUndo, Opens, Refuses, RefusesFile, RefusesMark, RefusesUndo}
-use Rattle.egw_c.specs.Reading.{RefusesAbove, RefusesIndex, StandsAt, StandsBefore}
+use Rattle.egw_c.specs.Documents.{Shown, MayEdit, MayMark, MayUndo, Opens, Refuses, RefusesMark, RefusesUndo}
+use Rattle.document.specs.Documents.{RefusesFile}
+use Rattle.document.specs.Reading.{StandsBefore}
+use Rattle.document.specs.Talks.{Receives}
+use Rattle.egw_c.specs.Reading.{RefusesAbove, RefusesIndex, StandsAt}
 use Rattle.egw_c.specs.Statuses.{done, no_memory, edited, found, indexed, marked, not_opened, talked, undone}
-use Rattle.egw_c.specs.Talks.{Receives}
 
 -- this number, but for want of memory
 abbrev pub IsCount : ℕ → Answer → Type 0

@@ -3,5 +3,4 @@ pub mod Documents
 pub mod Exports
 pub mod Reading
 pub mod Statuses
-pub mod Talks
 pub mod Words

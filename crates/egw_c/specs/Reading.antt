@@ -1,5 +1,5 @@
 -- What is read out of a document, and why nothing is.
-use Rattle.std.specs.Prelude.{◌≡◌, ◌⊎◌, ⊤, ℕ, ◌+◌, ◌<◌, ◌≤◌, not, List, [], Option, Some, None, drop, length, take, encode_utf8_all}
+use Rattle.std.specs.Prelude.{◌≡◌, ◌⊎◌, ⊤, ℕ, ◌<◌, ◌≤◌, not, List, [], Option, Some, None, length, encode_utf8_all}
 use Rattle.std.specs.List.{position_or_len}
 use Rattle.ew_model.specs.declared.id.Id.{Id}
 use Rattle.ew_model.specs.declared.event.Event.{Event}
@@ -11,9 +11,9 @@ use Rattle.caret_places.specs.Faults.{fault_of}
 use Rattle.caret_places.specs.declared.fault.IndexFault.TheVariants as standing
 use Rattle.carets.specs.declared.caret.Caret.{Caret}
 use Rattle.carets.specs.Sides.{caret_in, side, text_chars}
+use Rattle.document.specs.declared.fault.RangeFault.{RangeFault}
+use Rattle.document.specs.declared.fault.RangeFault.TheVariants as range
 use Rattle.history_definitions.specs.Versions.{IsVersion}
-use Rattle.rope.specs.declared.extents.Measure.{Measure}
-use Rattle.rope.specs.Extents.{extent}
 use Rattle.egw_c.specs.declared.fault.ReadingFault.{ReadingFault}
 use Rattle.egw_c.specs.declared.fault.ReadingFault.TheVariants as reading
 use Rattle.egw_c.specs.Words.{IsCaret, RefusesCaretWords, RefusesWords, caret_ids}
@@ -40,6 +40,11 @@ abbrev pub RefusesVersion : List Event → List ℕ → ReadingFault → Type 0
 RefusesVersion history words (reading.Unknown place) = (ids : List Id) × IsVersion words ids × RefusesIds history ids (reading.Unknown place)
 RefusesVersion history words fault = RefusesWords words fault
 
+-- a place that the text or the history doesn't have
+abbrev pub of_range : RangeFault → ReadingFault
+of_range (range.OutOfRange len) = reading.OutOfRange len
+of_range range.OutOfMemory = reading.OutOfMemory
+
 -- why nothing is found at a number, where there are so many: it is above them; or, where it isn't, memory was wanting
 abbrev pub RefusesAbove : ℕ → ℕ → ReadingFault → Type 0
 RefusesAbove count from (reading.OutOfRange len) = (count < from) × (len ≡ count)
@@ -48,14 +53,6 @@ RefusesAbove count from reading.NoVersion = ⊥
 RefusesAbove count from (reading.Unknown place) = ⊥
 RefusesAbove count from reading.NoCaret = ⊥
 RefusesAbove count from reading.NoCharacter = ⊥
-
--- so many characters of a text stand from an index on, and the bytes are their UTF-8
-abbrev pub IsRange : List ℕ → ℕ → ℕ → List ℕ → Type 0
-IsRange text from count bytes = (from + count ≤ length text) × (bytes ≡ encode_utf8_all (take count (drop from text)))
-
--- the index is one of a text, and so much of a measure stands before it
-abbrev pub StandsBefore : Measure → List ℕ → ℕ → ℕ → Type 0
-StandsBefore measure text at much = (at ≤ length text) × (much ≡ extent measure (take at text))
 
 -- the words are the caret at an index of the text
 abbrev pub WritesCaret : List Event → ℕ → List ℕ → Type 0

@@ -1,6 +1,14 @@
 -- What C is answered. `include/egw.h` names the numbers.
 use Rattle.std.specs.Prelude.{ℕ, Option, None, Some, Result, Ok, Err}
 use Rattle.std.specs.declared.alloc.AllocError.{AllocError}
+use Rattle.document.specs.declared.fault.EditingFault.{EditingFault as DocumentEditing}
+use Rattle.document.specs.declared.fault.EditingFault.TheVariants as document_editing
+use Rattle.document.specs.declared.fault.OpeningFault.{OpeningFault}
+use Rattle.document.specs.declared.fault.OpeningFault.TheVariants as opening
+use Rattle.document.specs.declared.fault.TalkingFault.{TalkingFault}
+use Rattle.document.specs.declared.fault.TalkingFault.TheVariants as talking
+use Rattle.document.specs.declared.fault.UndoingFault.{UndoingFault as DocumentUndoing}
+use Rattle.document.specs.declared.fault.UndoingFault.TheVariants as document_undoing
 use Rattle.event_file.specs.declared.fault.FileFault.{FileFault}
 use Rattle.event_file.specs.declared.fault.FileFault.TheVariants as file
 use Rattle.ew_model.specs.declared.name.NameFault.{NameFault}
@@ -18,12 +26,8 @@ use Rattle.egw_c.specs.declared.fault.EditingFault.{EditingFault}
 use Rattle.egw_c.specs.declared.fault.EditingFault.TheVariants as editing
 use Rattle.egw_c.specs.declared.fault.MarkingFault.{MarkingFault}
 use Rattle.egw_c.specs.declared.fault.MarkingFault.TheVariants as marking
-use Rattle.egw_c.specs.declared.fault.OpeningFault.{OpeningFault}
-use Rattle.egw_c.specs.declared.fault.OpeningFault.TheVariants as opening
 use Rattle.egw_c.specs.declared.fault.ReadingFault.{ReadingFault}
 use Rattle.egw_c.specs.declared.fault.ReadingFault.TheVariants as reading
-use Rattle.egw_c.specs.declared.fault.TalkingFault.{TalkingFault}
-use Rattle.egw_c.specs.declared.fault.TalkingFault.TheVariants as talking
 use Rattle.egw_c.specs.declared.fault.UndoingFault.{UndoingFault}
 use Rattle.egw_c.specs.declared.fault.UndoingFault.TheVariants as undoing
 use Rattle.undo.specs.declared.fault.UndoFault.{UndoFault}
@@ -59,13 +63,17 @@ edit_answer (edit.TooManyHeads heads) = answer 3 heads
 edit_answer (edit.Full count) = answer 4 count
 edit_answer edit.OutOfMemory = no_memory
 
+-- why a document refuses an edit
+abbrev pub refused_edit : DocumentEditing → Answer
+refused_edit document_editing.Awaited = answer 5 0
+refused_edit (document_editing.Edit fault) = edit_answer fault
+
 -- how an edit ended: how many events were made, or why none was
 abbrev pub edited : Result ℕ EditingFault → Answer
 edited (Ok n) = done n
 edited (Err (editing.Name fault)) = name_answer fault
 edited (Err (editing.Text good)) = answer 9 good
-edited (Err editing.Awaited) = answer 5 0
-edited (Err (editing.Edit fault)) = edit_answer fault
+edited (Err (editing.Edit fault)) = refused_edit fault
 
 -- what is wrong with a label
 abbrev pub label_answer : NameFault → Answer
@@ -78,8 +86,7 @@ abbrev pub marked : Result ℕ MarkingFault → Answer
 marked (Ok n) = done n
 marked (Err (marking.Name fault)) = name_answer fault
 marked (Err (marking.Label fault)) = label_answer fault
-marked (Err marking.Awaited) = answer 5 0
-marked (Err (marking.Edit fault)) = edit_answer fault
+marked (Err (marking.Edit fault)) = refused_edit fault
 
 -- why an undo is refused; of an event that isn't held, its number
 abbrev pub undo_answer : UndoFault → Answer
@@ -88,13 +95,18 @@ undo_answer (undo.TooManyHeads heads) = answer 3 heads
 undo_answer (undo.Full count) = answer 4 count
 undo_answer undo.OutOfMemory = no_memory
 
+-- why a document refuses an undo
+abbrev pub refused_undo : DocumentUndoing → Answer
+refused_undo document_undoing.Awaited = answer 5 0
+refused_undo (document_undoing.Undo fault) = undo_answer fault
+
 -- how an undo ended: how many events were made, or why none was
 abbrev pub undone : Result ℕ UndoingFault → Answer
 undone (Ok n) = done n
 undone (Err (undoing.Name fault)) = name_answer fault
 undone (Err undoing.NoId) = answer 24 0
-undone (Err undoing.Awaited) = answer 5 0
-undone (Err (undoing.Undo fault)) = undo_answer fault
+undone (Err undoing.OutOfMemory) = no_memory
+undone (Err (undoing.Undo fault)) = refused_undo fault
 
 -- why bytes are no event file
 abbrev pub file_answer : FileFault → Answer

@@ -4,7 +4,6 @@ use Rattle.ew_model.specs.declared.id.Id.{Id}
 use Rattle.carets.specs.declared.caret.Caret.{Caret}
 use Rattle.carets.specs.declared.caret.Caret.TheVariants.{Root, Behind}
 use Rattle.history_definitions.specs.Versions.{IsVersion}
-use Rattle.undo.specs.declared.fault.UndoFault.TheVariants as undo
 use Rattle.egw_c.specs.declared.fault.ReadingFault.{ReadingFault}
 use Rattle.egw_c.specs.declared.fault.ReadingFault.TheVariants as reading
 use Rattle.egw_c.specs.declared.fault.UndoingFault.{UndoingFault}
@@ -44,5 +43,6 @@ RefusesCaretWords words fault = RefusesWords words fault
 -- why they are read as no id
 abbrev pub RefusesIdWords : List ℕ → UndoingFault → Type 0
 RefusesIdWords words undoing.NoId = IsNoId words
-RefusesIdWords words (undoing.Undo undo.OutOfMemory) = ⊤
-RefusesIdWords words fault = ⊥
+RefusesIdWords words undoing.OutOfMemory = ⊤
+RefusesIdWords words (undoing.Name fault) = ⊥
+RefusesIdWords words (undoing.Undo fault) = ⊥

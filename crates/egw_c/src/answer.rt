@@ -3,16 +3,11 @@
 ghost use Rattle.std.specs.Prelude.{◌≡◌, Err};
 ghost use Rattle.egw_c.specs.Statuses as model;
 
-use crate::fault::{
-    EditingFault, MarkingFault, OpeningFault, ReadingFault, TalkingFault, UndoingFault,
+use crate::fault::{EditingFault, MarkingFault, ReadingFault, UndoingFault};
+use document::{
+    EditFault, End, FileFault, FrameFault, LoadFault, NameFault, NoMem, OpeningFault, TalkingFault,
+    UndoFault,
 };
-use event_file::FileFault;
-use ew_model::NoMem;
-use ew_model::name::NameFault;
-use peer_exchange::End;
-use peer_frames::FrameFault;
-use replica::{EditFault, LoadFault};
-use undo::UndoFault;
 
 /// How a call ended, with a number that belongs to it.
 #[repr(C)]
@@ -117,8 +112,16 @@ pub fn edited(ended: Result<u32, EditingFault>) -> Answer
         Ok(count) => done(u64::from(count)),
         Err(EditingFault::Name(fault)) => name_answer(fault),
         Err(EditingFault::Text { good }) => told(BAD_TEXT, good as u64),
-        Err(EditingFault::Awaited) => told(AWAITED, 0),
-        Err(EditingFault::Edit(fault)) => edit_answer(fault),
+        Err(EditingFault::Edit(fault)) => refused_edit(fault),
+    }
+}
+
+fn refused_edit(fault: document::EditingFault) -> Answer
+    ensures { result ≡ model.refused_edit fault }
+{
+    match fault {
+        document::EditingFault::Awaited => told(AWAITED, 0),
+        document::EditingFault::Edit(fault) => edit_answer(fault),
     }
 }
 
@@ -151,8 +154,7 @@ pub fn marked(ended: Result<u32, MarkingFault>) -> Answer
         Ok(count) => done(u64::from(count)),
         Err(MarkingFault::Name(fault)) => name_answer(fault),
         Err(MarkingFault::Label(fault)) => label_answer(fault),
-        Err(MarkingFault::Awaited) => told(AWAITED, 0),
-        Err(MarkingFault::Edit(fault)) => edit_answer(fault),
+        Err(MarkingFault::Edit(fault)) => refused_edit(fault),
     }
 }
 
@@ -174,8 +176,17 @@ pub fn undone(ended: Result<u32, UndoingFault>) -> Answer
         Ok(count) => done(u64::from(count)),
         Err(UndoingFault::Name(fault)) => name_answer(fault),
         Err(UndoingFault::NoId) => told(NO_ID, 0),
-        Err(UndoingFault::Awaited) => told(AWAITED, 0),
-        Err(UndoingFault::Undo(fault)) => undo_answer(fault),
+        Err(UndoingFault::OutOfMemory) => no_memory(),
+        Err(UndoingFault::Undo(fault)) => refused_undo(fault),
+    }
+}
+
+fn refused_undo(fault: document::UndoingFault) -> Answer
+    ensures { result ≡ model.refused_undo fault }
+{
+    match fault {
+        document::UndoingFault::Awaited => told(AWAITED, 0),
+        document::UndoingFault::Undo(fault) => undo_answer(fault),
     }
 }
 

@@ -1,20 +1,14 @@
-//! Why a call of a document does nothing.
+//! Why a call of a document from C does nothing.
 
 ghost use Rattle.std.specs.Prelude.{◌≡◌};
 ghost use Rattle.egw_c.specs.declared.fault.EditingFault.TheVariants as editing;
 ghost use Rattle.egw_c.specs.declared.fault.MarkingFault.TheVariants as marking;
-ghost use Rattle.egw_c.specs.declared.fault.OpeningFault.TheVariants as opening;
 ghost use Rattle.egw_c.specs.declared.fault.ReadingFault.TheVariants as reading;
-ghost use Rattle.egw_c.specs.declared.fault.TalkingFault.TheVariants as talking;
 ghost use Rattle.egw_c.specs.declared.fault.UndoingFault.TheVariants as undoing;
 
-use event_file::FileFault;
+use document::RangeFault;
 use ew_model::NoMem;
 use ew_model::name::NameFault;
-use peer_exchange::End;
-use peer_frames::FrameFault;
-use replica::{EditFault, LoadFault};
-use undo::UndoFault;
 
 /// Why an edit changes nothing. The first reason in this order is told.
 #[derive(Clone, Copy, Debug, PartialEq, Eq)]
@@ -23,9 +17,8 @@ pub enum EditingFault {
     Name(NameFault),
     /// So many bytes in front are UTF-8, and no more of them.
     Text { good: usize },
-    /// An event of the agent is awaited, so that the number of its next one isn't known.
-    Awaited,
-    Edit(EditFault),
+    /// The document refuses it.
+    Edit(document::EditingFault),
 }
 
 impl From<NameFault> for EditingFault {
@@ -36,10 +29,10 @@ impl From<NameFault> for EditingFault {
     }
 }
 
-impl From<EditFault> for EditingFault {
+impl From<document::EditingFault> for EditingFault {
     ghost from_gives = { λ fault e. e ≡ editing.Edit fault };
 
-    fn from(fault: EditFault) -> EditingFault {
+    fn from(fault: document::EditingFault) -> EditingFault {
         EditingFault::Edit(fault)
     }
 }
@@ -51,14 +44,14 @@ pub enum MarkingFault {
     Name(NameFault),
     /// The label isn't one.
     Label(NameFault),
-    Awaited,
-    Edit(EditFault),
+    /// The document refuses it.
+    Edit(document::EditingFault),
 }
 
-impl From<EditFault> for MarkingFault {
+impl From<document::EditingFault> for MarkingFault {
     ghost from_gives = { λ fault e. e ≡ marking.Edit fault };
 
-    fn from(fault: EditFault) -> MarkingFault {
+    fn from(fault: document::EditingFault) -> MarkingFault {
         MarkingFault::Edit(fault)
     }
 }
@@ -70,38 +63,17 @@ pub enum UndoingFault {
     Name(NameFault),
     /// The words aren't the id of an event.
     NoId,
-    Awaited,
-    Undo(UndoFault),
+    /// Memory was wanting where the id was read.
+    OutOfMemory,
+    /// The document refuses it.
+    Undo(document::UndoingFault),
 }
 
-impl From<UndoFault> for UndoingFault {
+impl From<document::UndoingFault> for UndoingFault {
     ghost from_gives = { λ fault e. e ≡ undoing.Undo fault };
 
-    fn from(fault: UndoFault) -> UndoingFault {
+    fn from(fault: document::UndoingFault) -> UndoingFault {
         UndoingFault::Undo(fault)
-    }
-}
-
-/// Why bytes make no document.
-#[derive(Debug, Drop)]
-pub enum OpeningFault {
-    File(FileFault),
-    Load(LoadFault),
-}
-
-impl From<FileFault> for OpeningFault {
-    ghost from_gives = { λ fault e. e ≡ opening.File fault };
-
-    fn from(fault: FileFault) -> OpeningFault {
-        OpeningFault::File(fault)
-    }
-}
-
-impl From<LoadFault> for OpeningFault {
-    ghost from_gives = { λ fault e. e ≡ opening.Load fault };
-
-    fn from(fault: LoadFault) -> OpeningFault {
-        OpeningFault::Load(fault)
     }
 }
 
@@ -129,27 +101,15 @@ impl From<NoMem> for ReadingFault {
     }
 }
 
-/// Why nothing more is taken of what a peer sends.
-#[derive(Clone, Copy, Debug, PartialEq, Eq)]
-pub enum TalkingFault {
-    Frame(FrameFault),
-    /// The session ends. What is to be sent says so too.
-    Ended(End),
-    OutOfMemory,
-}
+impl From<RangeFault> for ReadingFault {
+    ghost use Rattle.egw_c.specs.Reading.{of_range};
 
-impl From<NoMem> for TalkingFault {
-    ghost from_gives = { λ _ e. e ≡ talking.OutOfMemory };
+    ghost from_gives = { λ fault e. e ≡ of_range fault };
 
-    fn from(_: NoMem) -> TalkingFault {
-        TalkingFault::OutOfMemory
-    }
-}
-
-impl From<FrameFault> for TalkingFault {
-    ghost from_gives = { λ fault e. e ≡ talking.Frame fault };
-
-    fn from(fault: FrameFault) -> TalkingFault {
-        TalkingFault::Frame(fault)
+    fn from(fault: RangeFault) -> ReadingFault {
+        match fault {
+            RangeFault::OutOfRange { len } => ReadingFault::OutOfRange { len },
+            RangeFault::OutOfMemory => ReadingFault::OutOfMemory,
+        }
     }
 }

@@ -19,17 +19,19 @@ ghost use Rattle.history_definitions.specs.Listings.{marks_text};
 ghost use Rattle.peer_frames.specs.Calls.{Kept};
 ghost use Rattle.peer_frames.specs.contracts.reader.FrameReader.{the_row as peer_row};
 ghost use Rattle.egw_c.specs.Changes.{change_of};
-ghost use Rattle.egw_c.specs.Documents.{Shown, heads_words, later_bytes, question_bytes};
+ghost use Rattle.document.specs.Documents.{later_bytes, question_bytes};
+ghost use Rattle.document.specs.Reading.{IsRange};
+ghost use Rattle.egw_c.specs.Documents.{Shown, heads_words};
 ghost use Rattle.egw_c.specs.Exports.{IsCount, TellsBytes, TellsChanges, TellsEdit, TellsExtent, TellsIndex, TellsMark, TellsOpen, TellsPlace, TellsTalk, TellsUndo};
-ghost use Rattle.egw_c.specs.Reading.{IsRange, ReadsVersion, RefusesAbove, RefusesCaret, RefusesVersion, WritesBlame, WritesCaret};
+ghost use Rattle.egw_c.specs.Reading.{ReadsVersion, RefusesAbove, RefusesCaret, RefusesVersion, WritesBlame, WritesCaret};
 ghost use Rattle.egw_c.specs.Statuses as statuses;
-ghost use Rattle.egw_c.specs.contracts.document.Document.{the_row as document_row};
+ghost use Rattle.egw_c.specs.contracts.kept.KeptDocument.{the_row as document_row};
 
 mod answer;
 mod change;
-mod counted;
-mod document;
 mod fault;
+mod kept;
+mod reading;
 mod words;
 
 use crate::answer::{
@@ -37,10 +39,8 @@ use crate::answer::{
     undone,
 };
 use crate::change::Change;
-use crate::document::Document;
-use ew_model::limits::Limits;
-use peer_frames::FrameReader;
-use replica::Measure;
+use crate::kept::KeptDocument;
+use document::{FrameReader, Measure, new_peer};
 use std::alloc::Global;
 use std::marker::Model;
 
@@ -68,11 +68,11 @@ impl Model for PeerHandle {
     ghost also_owns = { λ h. box_owns (ghosts.dealloc_token h.heap) (param 0 (arg (raw (layout peer_row)) no peer_row)) h.at h.kept };
 }
 
-fn into_document(alloc: Global, handle: DocumentHandle) -> Box<Document>
+fn into_document(alloc: Global, handle: DocumentHandle) -> Box<KeptDocument>
     ensures { result.value ≡ handle.shown }
 {
     let DocumentHandle { at } = handle;
-    unsafe { Box::from_raw(alloc, at as *mut Document) }
+    unsafe { Box::from_raw(alloc, at as *mut KeptDocument) }
 }
 
 fn into_peer(alloc: Global, handle: PeerHandle) -> Box<FrameReader>
@@ -88,7 +88,7 @@ pub extern "C" fn egw_raw_new(alloc: Global, out: &mut *mut u8) -> Answer
     ensures made { IsCount 0 result }
     ensures untouched { (result ≡ statuses.done 0 → ⊥) → out.new ≡ out.old }
 {
-    match Document::new(alloc) {
+    match KeptDocument::new(alloc) {
         Ok(document) => keep(alloc, document, out),
         Err(_) => no_memory(),
     }
@@ -100,13 +100,13 @@ pub extern "C" fn egw_raw_open(alloc: Global, out: &mut *mut u8, file: &[u8]) ->
     ensures opens { TellsOpen file.now result }
     ensures untouched { (result ≡ statuses.done 0 → ⊥) → out.new ≡ out.old }
 {
-    match Document::open(alloc, file) {
+    match KeptDocument::open(alloc, file) {
         Ok(document) => keep(alloc, document, out),
         Err(fault) => not_opened(fault),
     }
 }
 
-fn keep(alloc: Global, document: Document, out: &mut *mut u8) -> Answer
+fn keep(alloc: Global, document: KeptDocument, out: &mut *mut u8) -> Answer
     ensures made { IsCount 0 result }
     ensures untouched { (result ≡ statuses.done 0 → ⊥) → out.new ≡ out.old }
 {
@@ -511,10 +511,17 @@ pub extern "C" fn egw_raw_peer_new(alloc: Global, out: &mut *mut u8) -> Answer
     ensures made { IsCount 0 result }
     ensures untouched { (result ≡ statuses.done 0 → ⊥) → out.new ≡ out.old }
 {
-    let Ok(reader) = FrameReader::new(alloc, Limits::program()) else {
-        return no_memory();
-    };
-    match Box::new(alloc, reader) {
+    match new_peer(alloc) {
+        Ok(peer) => keep_peer(alloc, peer, out),
+        Err(_) => no_memory(),
+    }
+}
+
+fn keep_peer(alloc: Global, peer: FrameReader, out: &mut *mut u8) -> Answer
+    ensures made { IsCount 0 result }
+    ensures untouched { (result ≡ statuses.done 0 → ⊥) → out.new ≡ out.old }
+{
+    match Box::new(alloc, peer) {
         Ok(boxed) => {
             *out = Box::into_raw(boxed) as *mut u8;
             done(0)

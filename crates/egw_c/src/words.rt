@@ -8,14 +8,12 @@ ghost use Rattle.history_definitions.specs.Versions.{IsVersion};
 ghost use Rattle.egw_c.specs.Words.{IsCaret, RefusesCaretWords, RefusesIdWords, RefusesWords, caret_ids};
 
 use crate::fault::{ReadingFault, UndoingFault};
-use carets::Caret;
-use event_graph::Graph;
+use document::{Caret, Document};
 use ew_model::NoMem;
 use ew_model::id::Id;
 use script_reader::print::print_version;
 use script_reader::version::{VersionTextFault, read_version};
 use std::alloc::Global;
-use undo::UndoFault;
 
 /// The ids of a version.
 pub fn ids_in(alloc: Global, words: &[u8]) -> Result<Vec<Id>, ReadingFault>
@@ -43,7 +41,7 @@ pub fn id_in(alloc: Global, words: &[u8]) -> Result<Id, UndoingFault>
             }
         }
         Err(VersionTextFault::Unreadable) => Err(UndoingFault::NoId),
-        Err(VersionTextFault::OutOfMemory) => Err(UndoingFault::Undo(UndoFault::OutOfMemory)),
+        Err(VersionTextFault::OutOfMemory) => Err(UndoingFault::OutOfMemory),
     }
 }
 
@@ -71,20 +69,14 @@ pub fn caret_words(alloc: Global, caret: Caret) -> Result<Vec<u8>, NoMem>
 }
 
 /// The place of the first id that isn't held; their number, where all are.
-pub fn unheld_place(graph: &Graph, ids: &[Id]) -> usize
-    ensures { result ≡ position_or_len (λ x. not (is_held graph.now x)) ids.now }
+pub fn unheld_place(document: &Document, ids: &[Id]) -> usize
+    ensures { result ≡ position_or_len (λ x. not (is_held document.now.held x)) ids.now }
 {
-    first_unheld(graph, ids).unwrap_or(ids.len())
+    first_unheld(document, ids).unwrap_or(ids.len())
 }
 
-fn first_unheld(graph: &Graph, ids: &[Id]) -> Option<usize>
-    ensures { result ≡ position (λ x. not (is_held graph.now x)) ids.now }
+fn first_unheld(document: &Document, ids: &[Id]) -> Option<usize>
+    ensures { result ≡ position (λ x. not (is_held document.now.held x)) ids.now }
 {
-    ids.iter().position(|id| !is_held(graph, id))
-}
-
-fn is_held(graph: &Graph, id: &Id) -> bool
-    ensures { result ≡ is_held graph.now id.now }
-{
-    graph.find(id).is_some()
+    ids.iter().position(|id| !document.holds(id))
 }

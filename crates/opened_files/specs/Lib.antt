@@ -1,7 +1,5 @@
 -- What a file is opened as, and what a plan stands for.
 pub mod Faults
-pub mod Giving
-pub mod IdRuns
 pub mod Loading
 pub mod Reads
 pub mod Touches

@@ -6,7 +6,7 @@ use Rattle.command_table.specs.Loads.{File, whole}
 use Rattle.command_table.specs.Table.{Text, opened_as, read_as, refused}
 use Rattle.command_table.specs.Refusals.{refusal_status}
 use Rattle.command_texts.specs.Reasons.{refusal_view}
-use Rattle.opened_files.specs.Giving.{HoldsFile}
+use Rattle.stored_histories.specs.Giving.{HoldsFile}
 use Rattle.opened_files.specs.Views.{IsFileStatus, IsRefusal}
 use Rattle.opened_files.specs.declared.open.FileEvents.{FileEvents}
 use Rattle.opened_files.specs.declared.open.Found.{Found}

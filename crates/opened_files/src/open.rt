@@ -18,7 +18,6 @@ ghost use Rattle.opened_files.specs.Views.{IsFileStatus, IsFresh, IsJudged, IsOf
 ghost use Rattle.opened_files.specs.Touches.{TouchesAtMost, file_touches};
 ghost use Rattle.ew_outside.specs.Counts.{Asks, next};
 
-use crate::give::give_events;
 use crate::load::{Loaded, load_whole};
 use command_texts::refusal::Refusal;
 use event_file::{FileFault, version_of};
@@ -30,6 +29,7 @@ use ew_outside::{Fault, Shelf};
 use replica::{LoadFault, Loading, Replica};
 use std::alloc::Global;
 use std::sync::ledger::Ledger;
+use stored_histories::give::give_events;
 
 /// A file as it was found: open, with what was made of its events, or refused.
 #[derive(Drop)]

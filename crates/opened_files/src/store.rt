@@ -5,18 +5,10 @@ ghost use Rattle.command_table.specs.Table.{stores};
 ghost use Rattle.opened_files.specs.Views.{IsTakenReply, reply_status, reply_view};
 
 use crate::reply::Reply;
-use crate::written::written;
 use ew_model::NoMem;
 use replica::Replica;
 use std::alloc::Global;
-
-/// The file of a replica's events.
-fn file_bytes(alloc: Global, replica: &Replica) -> Result<Vec<u8>, NoMem>
-    ensures { IfOk result (λ bytes. bytes.items ≡ file2_of replica.now.held) }
-{
-    let _count = replica.count();
-    written(alloc, replica.graph())
-}
+use stored_histories::written::file_of;
 
 /// Stores a replica's events and prints a text.
 pub fn store_reply(
@@ -29,7 +21,7 @@ pub fn store_reply(
     ensures plan { IfOk result IsTakenReply }
     ensures found { IfOk result (λ p. reply_status p ≢ 3) }
 {
-    let bytes = file_bytes(alloc, replica)?;
+    let bytes = file_of(alloc, replica)?;
     let name = String::from_str(alloc, name)?;
     Ok(Reply::Stores { out, name, bytes })
 }

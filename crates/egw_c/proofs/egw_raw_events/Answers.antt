@@ -1,5 +1,6 @@
 use Rattle.std.proofs.Common.{◌≡◌, ◌≤◌, ℕ, List, length, subst, ◌∙◌}
-use Rattle.egw_c.specs.Documents.{Shown, later_bytes}
+use Rattle.document.specs.Documents.{later_bytes}
+use Rattle.egw_c.specs.Documents.{Shown}
 use Rattle.egw_c.specs.Exports.{TellsBytes}
 use Rattle.egw_c.specs.Reading.{RefusesAbove}
 use Rattle.egw_c.proofs.Told.{bytes_told, later_found}

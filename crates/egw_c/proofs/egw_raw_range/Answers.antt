@@ -2,7 +2,8 @@ use Rattle.std.proofs.Common.{◌+◌, length, subst, ◌∙◌}
 use Rattle.ew_model.specs.Texts.{text_of}
 use Rattle.egw_c.specs.Documents.{Shown}
 use Rattle.egw_c.specs.Exports.{TellsBytes}
-use Rattle.egw_c.specs.Reading.{IsRange, RefusesAbove}
+use Rattle.document.specs.Reading.{IsRange}
+use Rattle.egw_c.specs.Reading.{RefusesAbove}
 use Rattle.egw_c.proofs.Told.{bytes_told}
 use Rattle.egw_c.proofs.egw_raw_range.Goals as goal
 

@@ -41,8 +41,8 @@ use Rattle.std.specs.contracts.alloc.Global as global
 use Rattle.std.proofs.alloc.Global.TheLaws as global_laws
 use Rattle.std.specs.contracts.impls.GlobalAllocator.TheImpl as heap
 use Rattle.std.proofs.impls.GlobalAllocator.TheImpl.Met as heap_met
-use Rattle.egw_c.specs.contracts.document.Document as state
-use Rattle.egw_c.proofs.document.Document.TheLaws as state_laws
+use Rattle.egw_c.specs.contracts.kept.KeptDocument as state
+use Rattle.egw_c.proofs.kept.KeptDocument.TheLaws as state_laws
 use Rattle.egw_c.specs.contracts.DocumentHandle as handle
 use Rattle.egw_c.specs.contracts.into_document.{ended, clauses}
 use Rattle.egw_c.specs.contracts.into_document.Key.{name as #self}

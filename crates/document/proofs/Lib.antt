@@ -1,0 +1,5 @@
+pub mod Answered
+pub mod Later
+pub mod LaterTexts
+pub mod Opened
+pub mod Refused

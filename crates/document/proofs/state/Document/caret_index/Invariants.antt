@@ -1,0 +1,4 @@
+use Rattle.document.proofs.state.Document.caret_index.Given as goal
+
+abbrev pub ghosts-index_by : goal.ghosts-index_by
+ghosts-index_by a = record { name = a.blank.name; parts = a.blank.parts }

@@ -1,4 +1,0 @@
-use Rattle.egw_c.proofs.document.Document.caret_index.Given as goal
-
-abbrev pub ghosts-index_by : goal.ghosts-index_by
-ghosts-index_by a = record { name = a.blank.name; parts = a.blank.parts }

@@ -1,4 +1,0 @@
-use Rattle.egw_c.proofs.document.Document.insert.Given as goal
-
-abbrev pub ghosts-insert_by : goal.ghosts-insert_by
-ghosts-insert_by a = record { name = a.blank.name; parts = a.blank.parts }

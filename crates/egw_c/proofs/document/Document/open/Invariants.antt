@@ -1,4 +1,0 @@
-use Rattle.egw_c.proofs.document.Document.open.Given as goal
-
-abbrev pub ghosts-loaded_by : goal.ghosts-loaded_by
-ghosts-loaded_by a = record { name = a.blank.name; parts = a.blank.parts }

@@ -1,4 +1,0 @@
-use Rattle.egw_c.proofs.document.Document.receive.Given as goal
-
-abbrev pub ghosts-answer_all_by : goal.ghosts-answer_all_by
-ghosts-answer_all_by a = record { name = a.blank.name; parts = a.blank.parts }

@@ -1,4 +1,0 @@
-use Rattle.egw_c.proofs.document.Document.undo.Given as goal
-
-abbrev pub ghosts-undo_by : goal.ghosts-undo_by
-ghosts-undo_by a = record { name = a.blank.name; parts = a.blank.parts }

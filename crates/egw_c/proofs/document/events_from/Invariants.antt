@@ -1,5 +1,0 @@
-use Rattle.std.proofs.Common.{◌≡◌, drop, take}
-use Rattle.egw_c.proofs.document.events_from.Given as goal
-
-abbrev pub invariant-loop-position : goal.invariant-loop-position
-invariant-loop-position l = l.events.items ≡ drop l.fn.from (take l.position l.graph)

@@ -1,5 +1,0 @@
-use Rattle.event_file.specs.RunWriting.{ArePut}
-use Rattle.opened_files.proofs.written.put_piece.Given as goal
-
-abbrev pub invariant-loop-next : goal.invariant-loop-next
-invariant-loop-next l = ArePut l.graph l.next l.writer

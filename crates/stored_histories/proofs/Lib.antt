@@ -1,0 +1,4 @@
+pub mod Giving
+pub mod GraphRecords
+pub mod IdRuns
+pub mod Runs
