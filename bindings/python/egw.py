@@ -6,13 +6,15 @@
     print(tea.text())
 
 Indices count characters, as Python's strings do. It needs the shared library of egw, and nothing else: it is looked for under the name
-that EGW_LIBRARY has, beside this file, where `make install` puts it, and where the system keeps libraries. A document is used by one
-thread at a time.
+that EGW_LIBRARY has, beside this file, where `make install` puts it, in the release of this repository, and where the system keeps
+libraries. A document is used by one thread at a time.
 """
 
 import ctypes
 import ctypes.util
+import glob
 import os
+import platform
 
 __all__ = ["Change", "Document", "Peer", "Refused", "SessionEnded"]
 
@@ -87,7 +89,8 @@ class _Change(ctypes.Structure):
 def _load():
     here = os.path.dirname(os.path.abspath(__file__))
     beside, installed = os.path.join(here, "libegw.so"), os.path.join(here, "..", "..", "..", "lib", "libegw.so")
-    for name in (os.environ.get("EGW_LIBRARY"), beside, installed, ctypes.util.find_library("egw")):
+    released = glob.glob(os.path.join(here, "..", "..", "release", platform.machine() + "-linux", "libegw.so.*"))
+    for name in (os.environ.get("EGW_LIBRARY"), beside, installed, *released, ctypes.util.find_library("egw")):
         if name and (os.sep not in name or os.path.exists(name)):
             # No other thread of Python runs during a call: two calls on one document at once would spoil its memory.
             return _with_types(ctypes.PyDLL(name))

@@ -1,0 +1,3 @@
+module egw
+
+go 1.19

@@ -1,0 +1,6 @@
+/* What include/egw.h takes of C's headers: the module is compiled without a C library. */
+typedef __UINT8_TYPE__ uint8_t;
+typedef __UINT32_TYPE__ uint32_t;
+typedef __UINT64_TYPE__ uint64_t;
+typedef __UINTPTR_TYPE__ uintptr_t;
+#define UINT32_MAX 0xFFFFFFFFu
