@@ -9,7 +9,7 @@ import sys
 import traceback
 from collections import Counter
 
-ROOT, PROGRAM, FOLDER = map(pathlib.Path, sys.argv[1:])
+ROOT, PROGRAM, FOLDER = map(pathlib.Path, sys.argv[1:4])
 READER_FILE = ROOT / "tools" / "second_reader.py"
 READER_COMMAND = [sys.executable, "-I", "-S", str(READER_FILE)]
 

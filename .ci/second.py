@@ -1,4 +1,5 @@
-"""What .ci/second runs: the program and the second reader side by side. Words: the repository, the program, an empty folder."""
+"""What .ci/second runs: the program and the second reader side by side. Words: the repository, the program, an empty
+folder, and 'whole' for three times as much."""
 
 import hashlib
 import itertools
@@ -14,6 +15,12 @@ from egw_bytes import DELETE, FALLING, INSERT, MARK, batch, content, content_2, 
 from histories import MOST_EVENTS, MOST_FILE, MOST_INPUT, USAGE, Draws, Event, History, Id, Op, file_of, parts_of  # noqa: E402
 
 SEED = 2718281828
+WHOLE = "whole" in sys.argv[4:]
+
+
+def share(count):
+    """How many of so many are made."""
+    return count if WHOLE else count // 3
 
 
 # The examples
@@ -648,7 +655,7 @@ def draw_frame(draws, events):
 def sessions(beside, draws):
     """Peers who send frames of all kinds, some of them damaged, to one who holds a part of the events."""
     beside.part = "sessions"
-    count = 400
+    count = share(400)
     for _ in range(count):
         events = draw_graph(draws, 2 + draws.below(12))
         beside.file("F", file_of(events[: draws.below(len(events) + 1)], draw_version(draws)))
@@ -1185,7 +1192,7 @@ def main():
     draws = Draws(SEED)
     files = examples(beside, draws)
     beside.fork_reader()
-    for part, make, count in (("people", people, 20), ("graphs", graphs, 40), ("damaged files", damaged, 160)):
+    for part, make, count in (("people", people, share(20)), ("graphs", graphs, share(40)), ("damaged files", damaged, share(160))):
         beside.part = part
         files += sum(make(beside, draws) for _ in range(count))
     files += by_hand(beside, draws)
